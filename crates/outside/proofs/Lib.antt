@@ -1,0 +1,4 @@
+mod Fronts
+mod Outcomes
+mod Places
+mod Sinks
