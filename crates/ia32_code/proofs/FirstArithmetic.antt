@@ -1,0 +1,279 @@
+-- The operations on two operands, TEST, IMUL and the shifts: none of their spellings precedes the canonical one.
+use Rattle.std.proofs.Common.{◌≡◌, ℕ, ◌%◌, ◌^◌, ◌<◌, true, eqb, Option, refl, sym, ap, ◌∙◌, arith, lit<, inl, inr}
+use Rattle.std.proofs.lemmas.Bool.{eqb-true, cases_Bool}
+use Rattle.std.proofs.lemmas.List.{length-append}
+use Rattle.ia32_code.specs.declared.instruction.Reg.{Reg}
+use Rattle.ia32_code.specs.declared.instruction.Reg.TheVariants.{Eax}
+use Rattle.ia32_code.specs.declared.instruction.Alu.{Alu}
+use Rattle.ia32_code.specs.declared.instruction.Alu.TheVariants as alu
+use Rattle.ia32_code.specs.declared.instruction.Shift.{Shift}
+use Rattle.ia32_code.specs.declared.instruction.Shift.TheVariants.{Shl, Shr, Sar}
+use Rattle.ia32_code.specs.declared.instruction.Count.TheVariants.{By, Cl}
+use Rattle.ia32_code.specs.declared.instruction.Operand.{Operand}
+use Rattle.ia32_code.specs.declared.instruction.Operand.TheVariants.{R, I}
+use Rattle.ia32_code.specs.declared.instruction.Inst.TheVariants as inst
+use Rattle.ia32_code.specs.declared.row.Row.TheVariants as row
+use Rattle.ia32_code.specs.declared.operand_form.OperandForm.{OperandForm}
+use Rattle.ia32_code.specs.declared.operand_form.OperandForm.TheVariants.{Direct, Based, Absolute, Indexed, Unbased}
+use Rattle.ia32_code.specs.declared.spelling.Spelling.{Spelling}
+use Rattle.ia32_code.specs.OperandForms.{number, reg, sign_extended, operand, FormFits}
+use Rattle.ia32_code.specs.Table.{alu_number, shift_number}
+use Rattle.ia32_code.specs.Spells.{Filled, meaning}
+use Rattle.ia32_code.specs.Canonical.{fits_byte, is_eax, shortest_form, fill, with_form, without_modrm, alu_imm, test_imm, imul_imm, canonical_row}
+use Rattle.ia32_code.specs.Order.{Precedes, IsFirst}
+use Rattle.ia32_code.proofs.OperandForms.{number-reg}
+use Rattle.ia32_code.proofs.ShortestForm.{extended_fits, Better, best_form}
+use Rattle.ia32_code.proofs.First.{number_zero, no_longer, by_better, by_form, at_digit, precedes_at}
+
+-- the number of an operation is a digit
+pub alu_below : (op : Alu) → alu_number op < 8
+alu_below alu.Add = lit< tt
+alu_below alu.Or = lit< tt
+alu_below alu.And = lit< tt
+alu_below alu.Sub = lit< tt
+alu_below alu.Xor = lit< tt
+alu_below alu.Cmp = lit< tt
+
+-- and so is that of a shift
+pub shift_back : (op : Shift) → number (reg (shift_number op)) ≡ shift_number op
+shift_back Shl = refl
+shift_back Shr = refl
+shift_back Sar = refl
+
+-- the test for EAX finds EAX
+pub eax_form : (f : OperandForm) → is_eax f ≡ true → f ≡ Direct Eax
+eax_form (Direct r) h = ap (λ (x : Reg). Direct x) (number_zero r (eqb-true (number r) 0 h))
+eax_form (Based b d) h = absurd cc
+eax_form (Absolute n) h = absurd cc
+eax_form (Indexed s i b d) h = absurd cc
+eax_form (Unbased s i n) h = absurd cc
+
+-- ---- an operation with an immediate
+
+-- what is said of the chosen row of an operation with an immediate
+pub record ImmOf (op : Alu) (n : ℕ) (f : OperandForm) (s : Spelling) : Type 0 where
+  pub fits : Filled s
+  pub same : meaning s ≡ inst.Alu op (operand f) (I n)
+  pub first : (r : Reg) (g : OperandForm) → number r ≡ alu_number op → Better f g → Precedes s (fill (row.AluWord op) r g n)
+
+-- that row is filled, means it, and precedes the row with a word
+pub imm_of : (op : Alu) (n : ℕ) (f : OperandForm) → FormFits f → n < 2 ^ 32 → ImmOf op n f (alu_imm op n f)
+imm_of op n f h lt =
+    let digit = number-reg (alu_number op) (alu_below op) in
+    elim (cases_Bool (fits_byte n)) [
+      | inl near ↦ rw near (record {
+        fits = record { row = refl; modrm = (h, digit); trailing = omega arith };
+        same = ap (λ (x : ℕ). inst.Alu op (operand f) (I x)) (eqb-true (sign_extended (n % 256)) n near);
+        first = λ r g d b. inl (let l = no_longer f g b in simp length-append (omega arith));
+      })
+      | inr far ↦ elim (cases_Bool (is_eax f)) [
+        | inl z ↦ rw (far, eax_form f z) (record {
+          fits = record { row = refl; modrm = (refl, refl); trailing = lt };
+          same = refl;
+          first = λ r g d b. inl (simp length-append (omega arith));
+        })
+        | inr z ↦ rw (far, z) (record {
+          fits = record { row = refl; modrm = (h, digit); trailing = lt };
+          same = refl;
+          first = λ r g d b. precedes_at (row.AluWord op) (row.AluWord op) (alu_number op) r (reg (alu_number op)) g f n n d (by_better (row.AluWord op) (reg (alu_number op)) n 6 f g (λ y. simp length-append (omega arith)) b);
+        })
+      ]
+    ]
+
+-- `81`
+pub alu_word : (op : Alu) (r : Reg) (f : OperandForm) (n : ℕ) → FormFits f → number r ≡ alu_number op → n < 2 ^ 32 → IsFirst (fill (row.AluWord op) r f n)
+alu_word op r f n h d lt =
+    let b = best_form f h in
+    let k = imm_of op n b.best b.fits lt in
+    record {
+      first = alu_imm op n b.best;
+      canonical = ap (λ (x : Option OperandForm). with_form x (alu_imm op n)) b.chosen;
+      filled = k.fits;
+      same = k.same ∙ ap (λ (x : Operand). inst.Alu op x (I n)) b.same;
+      precedes = inr (k.first r f d b.better);
+    }
+
+-- `83`
+pub alu_byte : (op : Alu) (r : Reg) (f : OperandForm) (n : ℕ) → FormFits f → number r ≡ alu_number op → n < 256 → IsFirst (fill (row.AluByte op) r f n)
+alu_byte op r f n h d lt =
+    let b = best_form f h in
+    let e = extended_fits n lt in
+    at_digit (row.AluByte op) (alu_number op) r f n n d refl (record {
+      first = fill (row.AluByte op) (reg (alu_number op)) b.best n;
+      canonical = ap (λ (x : Option OperandForm). with_form x (alu_imm op (sign_extended n))) b.chosen ∙ rw (e.0, e.1) refl;
+      filled = record { row = refl; modrm = (b.fits, number-reg (alu_number op) (alu_below op)); trailing = lt };
+      same = ap (λ (x : Operand). inst.Alu op x (I (sign_extended n))) b.same;
+      precedes = inr (by_better (row.AluByte op) (reg (alu_number op)) n 3 b.best f (λ y. simp length-append (omega arith)) b.better);
+    })
+
+-- `05` to `3D`
+pub alu_eax : (op : Alu) (n : ℕ) → n < 2 ^ 32 → IsFirst (without_modrm (row.AluEax op) n)
+alu_eax op n lt =
+    elim (cases_Bool (fits_byte n)) [
+      | inl near ↦
+          let k = imm_of op n (Direct Eax) tt lt in
+          record {
+            first = alu_imm op n (Direct Eax);
+            canonical = refl;
+            filled = k.fits;
+            same = k.same;
+            precedes = inr (rw near (inl (lit< tt)));
+          }
+      | inr far ↦ record {
+        first = without_modrm (row.AluEax op) n;
+        canonical = rw far refl;
+        filled = record { row = refl; modrm = (refl, refl); trailing = lt };
+        same = refl;
+        precedes = inr (inr (refl, inr refl));
+      }
+    ]
+
+-- ---- an operation between a register and an operand
+
+-- `01` to `39`
+pub alu_store : (op : Alu) (r : Reg) (f : OperandForm) → FormFits f → IsFirst (fill (row.AluStore op) r f 0)
+alu_store op r f h = by_form (row.AluStore op) r 0 2 (λ o. inst.Alu op o (R r)) f refl (λ y. refl) (λ y fits e. record { row = refl; modrm = fits; trailing = refl }) (λ y. simp length-append (omega arith)) h
+
+-- `03` to `3B` with an operand in memory
+alu_load_memory : (op : Alu) (r : Reg) (f : OperandForm) → canonical_row (inst.Alu op (R r) (operand f)) ≡ with_form (shortest_form (operand f)) (λ y. fill (row.AluLoad op) r y 0) → FormFits f → IsFirst (fill (row.AluLoad op) r f 0)
+alu_load_memory op r f canon h = by_form (row.AluLoad op) r 0 2 (λ o. inst.Alu op (R r) o) f canon (λ y. refl) (λ y fits e. record { row = refl; modrm = fits; trailing = refl }) (λ y. simp length-append (omega arith)) h
+
+-- `03` to `3B`
+pub alu_load : (op : Alu) (r : Reg) (f : OperandForm) → FormFits f → IsFirst (fill (row.AluLoad op) r f 0)
+alu_load op r (Direct k) h = record {
+  first = fill (row.AluStore op) k (Direct r) 0;
+  canonical = refl;
+  filled = record { row = refl; modrm = tt; trailing = refl };
+  same = refl;
+  precedes = inr (inr (refl, inl (lit< tt)));
+}
+alu_load op r (Based b d) h = alu_load_memory op r (Based b d) refl h
+alu_load op r (Absolute n) h = alu_load_memory op r (Absolute n) refl h
+alu_load op r (Indexed s i b d) h = alu_load_memory op r (Indexed s i b d) refl h
+alu_load op r (Unbased s i n) h = alu_load_memory op r (Unbased s i n) refl h
+
+-- ---- TEST
+
+-- what is said of the chosen row of TEST with an immediate
+pub record TestOf (n : ℕ) (f : OperandForm) (s : Spelling) : Type 0 where
+  pub fits : Filled s
+  pub same : meaning s ≡ inst.Test (operand f) (I n)
+  pub first : (g : OperandForm) → Better f g → Precedes s (fill row.TestWord Eax g n)
+
+-- that row is filled, means it, and precedes the row with a ModRM byte
+pub test_of_imm : (n : ℕ) (f : OperandForm) → FormFits f → n < 2 ^ 32 → TestOf n f (test_imm n f)
+test_of_imm n f h lt =
+    elim (cases_Bool (is_eax f)) [
+      | inl z ↦ rw (eax_form f z) (record {
+        fits = record { row = refl; modrm = (refl, refl); trailing = lt };
+        same = refl;
+        first = λ g b. inl (simp length-append (omega arith));
+      })
+      | inr z ↦ rw z (record {
+        fits = record { row = refl; modrm = (h, refl); trailing = lt };
+        same = refl;
+        first = λ g b. by_better row.TestWord Eax n 6 f g (λ y. simp length-append (omega arith)) b;
+      })
+    ]
+
+-- `F7` /0
+pub test_word : (r : Reg) (f : OperandForm) (n : ℕ) → FormFits f → number r ≡ 0 → n < 2 ^ 32 → IsFirst (fill row.TestWord r f n)
+test_word r f n h d lt =
+    let b = best_form f h in
+    let k = test_of_imm n b.best b.fits lt in
+    at_digit row.TestWord 0 r f n n d refl (record {
+      first = test_imm n b.best;
+      canonical = ap (λ (x : Option OperandForm). with_form x (test_imm n)) b.chosen;
+      filled = k.fits;
+      same = k.same ∙ ap (λ (x : Operand). inst.Test x (I n)) b.same;
+      precedes = inr (k.first f b.better);
+    })
+
+-- `85`
+pub test_store : (r : Reg) (f : OperandForm) → FormFits f → IsFirst (fill row.TestStore r f 0)
+test_store r f h = by_form row.TestStore r 0 2 (λ o. inst.Test o (R r)) f refl (λ y. refl) (λ y fits e. record { row = refl; modrm = fits; trailing = refl }) (λ y. simp length-append (omega arith)) h
+
+-- ---- IMUL
+
+-- `0F AF`
+pub imul2 : (r : Reg) (f : OperandForm) → FormFits f → IsFirst (fill row.Imul2 r f 0)
+imul2 r f h = by_form row.Imul2 r 0 3 (λ o. inst.Imul2 (R r) o) f refl (λ y. refl) (λ y fits e. record { row = refl; modrm = fits; trailing = refl }) (λ y. simp length-append (omega arith)) h
+
+-- what is said of the chosen row of IMUL with an immediate
+pub record ImulOf (n : ℕ) (d : Reg) (f : OperandForm) (s : Spelling) : Type 0 where
+  pub fits : Filled s
+  pub same : meaning s ≡ inst.Imul3 (R d) (operand f) n
+  pub first : (g : OperandForm) → Better f g → Precedes s (fill row.Imul3Word d g n)
+
+-- that row is filled, means it, and precedes the row with a word
+pub imul_of_imm : (n : ℕ) (d : Reg) (f : OperandForm) → FormFits f → n < 2 ^ 32 → ImulOf n d f (imul_imm n d f)
+imul_of_imm n d f h lt =
+    elim (cases_Bool (fits_byte n)) [
+      | inl near ↦ rw near (record {
+        fits = record { row = refl; modrm = h; trailing = omega arith };
+        same = ap (λ (x : ℕ). inst.Imul3 (R d) (operand f) x) (eqb-true (sign_extended (n % 256)) n near);
+        first = λ g b. inl (let l = no_longer f g b in simp length-append (omega arith));
+      })
+      | inr far ↦ rw far (record {
+        fits = record { row = refl; modrm = h; trailing = lt };
+        same = refl;
+        first = λ g b. by_better row.Imul3Word d n 6 f g (λ y. simp length-append (omega arith)) b;
+      })
+    ]
+
+-- `69`
+pub imul_word : (d : Reg) (f : OperandForm) (n : ℕ) → FormFits f → n < 2 ^ 32 → IsFirst (fill row.Imul3Word d f n)
+imul_word d f n h lt =
+    let b = best_form f h in
+    let k = imul_of_imm n d b.best b.fits lt in
+    record {
+      first = imul_imm n d b.best;
+      canonical = ap (λ (x : Option OperandForm). with_form x (imul_imm n d)) b.chosen;
+      filled = k.fits;
+      same = k.same ∙ ap (λ (x : Operand). inst.Imul3 (R d) x n) b.same;
+      precedes = inr (k.first f b.better);
+    }
+
+-- `6B`
+pub imul_byte : (d : Reg) (f : OperandForm) (n : ℕ) → FormFits f → n < 256 → IsFirst (fill row.Imul3Byte d f n)
+imul_byte d f n h lt =
+    let b = best_form f h in
+    let e = extended_fits n lt in
+    record {
+      first = fill row.Imul3Byte d b.best n;
+      canonical = ap (λ (x : Option OperandForm). with_form x (imul_imm (sign_extended n) d)) b.chosen ∙ rw (e.0, e.1) refl;
+      filled = record { row = refl; modrm = b.fits; trailing = lt };
+      same = ap (λ (x : Operand). inst.Imul3 (R d) x (sign_extended n)) b.same;
+      precedes = inr (by_better row.Imul3Byte d n 3 b.best f (λ y. simp length-append (omega arith)) b.better);
+    }
+
+-- ---- shifts
+
+-- `D1`
+pub shift_one : (op : Shift) (f : OperandForm) → FormFits f → IsFirst (fill (row.ShiftOne op) (reg (shift_number op)) f 0)
+shift_one op f h = by_form (row.ShiftOne op) (reg (shift_number op)) 0 2 (λ o. inst.Shift op o (By 1)) f refl (λ y. refl) (λ y fits e. record { row = refl; modrm = (fits, shift_back op); trailing = refl }) (λ y. simp length-append (omega arith)) h
+
+-- `D3`
+pub shift_cl : (op : Shift) (f : OperandForm) → FormFits f → IsFirst (fill (row.ShiftCl op) (reg (shift_number op)) f 0)
+shift_cl op f h = by_form (row.ShiftCl op) (reg (shift_number op)) 0 2 (λ o. inst.Shift op o Cl) f refl (λ y. refl) (λ y fits e. record { row = refl; modrm = (fits, shift_back op); trailing = refl }) (λ y. simp length-append (omega arith)) h
+
+-- `C1`, where the count 1 has a shorter row
+pub shift_by : (op : Shift) (f : OperandForm) (n : ℕ) → FormFits f → n < 256 → IsFirst (fill (row.ShiftBy op) (reg (shift_number op)) f n)
+shift_by op f n h lt =
+    let b = best_form f h in
+    elim (cases_Bool (eqb n 1)) [
+      | inl one ↦ record {
+        first = fill (row.ShiftOne op) (reg (shift_number op)) b.best 0;
+        canonical = rw (one, b.chosen) refl;
+        filled = record { row = refl; modrm = (b.fits, shift_back op); trailing = refl };
+        same = ap (λ (x : Operand). inst.Shift op x (By 1)) b.same ∙ ap (λ (x : ℕ). inst.Shift op (operand f) (By x)) (sym (eqb-true n 1 one));
+        precedes = inr (inl (let l = no_longer b.best f b.better in simp length-append (omega arith)));
+      }
+      | inr other ↦ record {
+        first = fill (row.ShiftBy op) (reg (shift_number op)) b.best n;
+        canonical = rw (other, b.chosen) refl;
+        filled = record { row = refl; modrm = (b.fits, shift_back op); trailing = lt };
+        same = ap (λ (x : Operand). inst.Shift op x (By n)) b.same;
+        precedes = inr (by_better (row.ShiftBy op) (reg (shift_number op)) n 3 b.best f (λ y. simp length-append (omega arith)) b.better);
+      }
+    ]

@@ -1,0 +1,15 @@
+pub mod TakesFront
+pub mod Readers
+pub mod OperandForms
+pub mod Openings
+pub mod ReadIsSpelled
+pub mod Lengths
+pub mod Answered
+pub mod ShortestForm
+pub mod First
+pub mod FirstArithmetic
+pub mod FirstMoves
+pub mod CanonicalIsFirst
+pub mod CanonicalSpells
+pub mod Encoded
+pub mod FrontLemmas

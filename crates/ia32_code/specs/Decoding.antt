@@ -1,0 +1,41 @@
+-- What decoding answers, and the prefix law by which there is one answer.
+use Rattle.std.specs.Prelude.{◌≡◌, ◌≢◌, ℕ, ◌-◌, ◌<◌, ◌≤◌, List, [], ◌++◌, length, take, slice_index, Result, Ok, Err}
+use Rattle.ia32_code.specs.declared.instruction.Inst.{Inst}
+use Rattle.ia32_code.specs.declared.decoding.Decoded.{Decoded}
+use Rattle.ia32_code.specs.declared.decoding.Decoded.TheVariants.{One, Short, Unknown}
+use Rattle.ia32_code.specs.Spells.{Spells}
+use Rattle.ia32_code.specs.declared.reading.Stop.{Stop}
+use Rattle.ia32_code.specs.declared.reading.Stop.TheVariants as stop
+use Rattle.ia32_code.specs.Reading.{instruction_at}
+
+-- a prefix of the bytes spells an instruction
+abbrev pub HasFront : List ℕ → Type 0
+HasFront bytes = (i : Inst) × (len : ℕ) × Spells (take len bytes) i
+
+-- the bytes are a proper prefix of a spelling
+abbrev pub IsCut : List ℕ → Type 0
+IsCut bytes = (i : Inst) × (more : List ℕ) × (more ≢ []) × Spells (bytes ++ more) i
+
+-- what each answer says of the bytes
+abbrev pub Answers : List ℕ → Decoded → Type 0
+Answers bytes (One i len) = (0 < len) × (len ≤ length bytes) × Spells (take len bytes) i
+Answers bytes Short = IsCut bytes × (HasFront bytes → ⊥)
+Answers bytes Unknown = (HasFront bytes → ⊥) × (IsCut bytes → ⊥)
+
+-- no spelling is a proper prefix of another, and none is of two instructions
+abbrev pub PrefixLaw : Type 0
+PrefixLaw = (s t more : List ℕ) (i j : Inst) → Spells s i → Spells t j → s ++ more ≡ t → (more ≡ []) × (i ≡ j)
+
+-- what was read of so many bytes, as an answer
+abbrev pub answer_of : ℕ → Result (Inst × List ℕ) Stop → Decoded
+answer_of n (Ok x) = One x.0 (n - length x.1)
+answer_of n (Err stop.Short) = Short
+answer_of n (Err stop.Unknown) = Unknown
+
+-- the answer to the bytes: it is one, and `Answers` says what it tells
+unfoldable pub decoded : List ℕ → Decoded
+decoded bytes = answer_of (length bytes) (instruction_at bytes)
+
+-- The answer to bytes tells what they begin with.
+abbrev pub DecodedLaw : Type 0
+DecodedLaw = (bytes : List ℕ) → ((k : ℕ) → slice_index bytes k < 256) → Answers bytes (decoded bytes)

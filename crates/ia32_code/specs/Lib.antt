@@ -1,0 +1,10 @@
+pub mod OperandForms
+pub mod Table
+pub mod Spells
+pub mod Canonical
+pub mod Order
+pub mod Ranges
+pub mod Decoding
+pub mod Encoding
+pub mod Reading
+pub mod Front

@@ -1,0 +1,43 @@
+ghost use Rattle.std.specs.Prelude.{◌≡◌, ◌≤◌, ◌<◌, ◌++◌, List, ℕ, Some, length, take};
+ghost use Rattle.ia32_code.specs.declared.instruction.Inst.{Inst};
+ghost use Rattle.ia32_code.specs.Spells.{Spells};
+ghost use Rattle.ia32_code.specs.Canonical.{Canonical};
+ghost use Rattle.ia32_code.specs.Ranges.{InstInRange};
+ghost use Rattle.ia32_code.specs.Decoding.{IsCut, Answers, decoded};
+ghost use Rattle.ia32_code.specs.declared.decoding.Decoded.{Decoded};
+ghost use Rattle.ia32_code.specs.Front.{front_of, answered};
+
+use crate::instruction::Inst;
+use crate::reading::{Stop, instruction_of};
+
+/// What bytes begin with.
+#[derive(Clone, Copy, Debug, PartialEq, Eq, Drop)]
+pub enum Decoded {
+    /// The first `len` bytes spell `inst`.
+    One { inst: Inst, len: u8 },
+    /// The bytes are a proper prefix of a spelling.
+    Short,
+    /// No spelling begins with the bytes, and no prefix of them is one.
+    Unknown,
+}
+
+/// The instruction at the front of the bytes. No byte after it is read.
+pub fn decode(bytes: &[u8]) -> Decoded
+    ensures answers { Answers bytes.now result }
+    ensures spelled { (text more : List ℕ) (inst : Inst) → Spells text inst → bytes.now ≡ text ++ more
+        → result ≡ Decoded.One inst (length text) }
+    ensures canonical { (inst : Inst) (text more : List ℕ) → InstInRange inst → Canonical inst ≡ Some text
+        → bytes.now ≡ text ++ more → result ≡ Decoded.One inst (length text) }
+    ensures cut { IsCut bytes.now → result ≡ Decoded.Short }
+    ensures front { front_of bytes.now ≡ answered result }
+    ensures one { result ≡ decoded bytes.now }
+{
+    match instruction_of(bytes) {
+        Ok((inst, rest)) => Decoded::One {
+            inst,
+            len: (bytes.len() - rest.len()) as u8,
+        },
+        Err(Stop::Short) => Decoded::Short,
+        Err(Stop::Unknown) => Decoded::Unknown,
+    }
+}

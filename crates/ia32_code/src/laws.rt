@@ -1,0 +1,52 @@
+// What holds of the definitions alone. Each law is a function with nothing to do, whose clause is the law.
+ghost use Rattle.std.specs.Prelude.{◌≡◌, ◌≤◌, ◌<◌, List, ℕ, None, length, IfSome};
+ghost use Rattle.ia32_code.specs.declared.instruction.Inst.{Inst};
+ghost use Rattle.ia32_code.specs.declared.spelling.Spelling.{Spelling};
+ghost use Rattle.ia32_code.specs.Spells.{Spells, Filled};
+ghost use Rattle.ia32_code.specs.Decoding.{PrefixLaw, DecodedLaw};
+ghost use Rattle.ia32_code.specs.Front.{FrontLaw};
+ghost use Rattle.ia32_code.specs.Canonical.{Canonical};
+ghost use Rattle.ia32_code.specs.Ranges.{InstInRange};
+ghost use Rattle.ia32_code.specs.Order.{IsNotShorter, IsFirst};
+ghost use Rattle.ia32_code.specs.Encoding.{HasNone};
+
+/// The prefix law: no spelling is a proper prefix of another, and no bytes spell two instructions.
+pub fn prefix_law()
+    ensures { PrefixLaw }
+{}
+
+/// The instruction at the front: it is read exactly where a prefix of the bytes spells it.
+pub fn front_law()
+    ensures { FrontLaw }
+{}
+
+/// The answer to bytes, as `decode` gives it, tells what they begin with.
+pub fn decoded_law()
+    ensures { DecodedLaw }
+{}
+
+/// A spelling has one to eleven bytes.
+pub fn spelling_length()
+    ensures { (text : List ℕ) (inst : Inst) → Spells text inst → (0 < length text) × (length text ≤ 11) }
+{}
+
+/// The canonical spelling of an instruction is one of its spellings.
+pub fn canonical_spells()
+    ensures { (inst : Inst) → InstInRange inst → IfSome (Canonical inst) (λ text. Spells text inst) }
+{}
+
+/// An instruction without a canonical spelling has no spelling.
+pub fn canonical_is_none()
+    ensures { (inst : Inst) → Canonical inst ≡ None → HasNone inst }
+{}
+
+/// An instruction that is spelled has a canonical spelling, and no spelling is shorter, but for the short forms of branches.
+pub fn canonical_is_shortest()
+    ensures { (text : List ℕ) (inst : Inst) → Spells text inst → IsNotShorter text inst }
+{}
+
+/// Among spellings that are equally long the canonical one is the first in the table, with scale bits 0 where there is no
+/// index. This law contains the one before.
+pub fn canonical_is_first()
+    ensures { (spelling : Spelling) → Filled spelling → IsFirst spelling }
+{}
