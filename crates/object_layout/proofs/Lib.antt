@@ -1,0 +1,10 @@
+pub mod Lineages
+pub mod Sound
+pub mod Fronts
+pub mod Tables
+pub mod ClassLaws
+pub mod LookUps
+pub mod TableWords
+pub mod Inheriting
+pub mod RowFaults
+pub mod LaidRows
