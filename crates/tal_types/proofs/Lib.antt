@@ -1,0 +1,4 @@
+pub mod Orders
+pub mod Registers
+pub mod Meanings
+pub mod Changes

@@ -1,0 +1,94 @@
+use Rattle.std.proofs.Common.{◌≡◌, ◌≢◌, ℕ, zero, suc, ◌+◌, ◌<◌, ◌≤◌, false, List, [], ◌∷◌, length, ◌++◌, get_or, set, take, replicate, append_assoc, refl, ap, sym, ◌∙◌, arith, if◌then◌else◌}
+use Rattle.std.proofs.lemmas.Bool.Decides.{nat_tests}
+use Rattle.std.proofs.lemmas.List.{get_or_default, get_or-set_other, take_all, take_more, take_more_set, append-nil}
+use Rattle.std.proofs.lemmas.Nat.Bits.{bit_at-zero}
+use Rattle.ia32_code.specs.declared.instruction.Reg.{Reg}
+use Rattle.ia32_code.specs.declared.instruction.Reg.TheVariants.{Eax, Ecx, Edx, Ebx, Esp, Ebp, Esi, Edi}
+use Rattle.tal_types.specs.declared.types.Ty.{Ty}
+use Rattle.tal_types.specs.declared.types.Ty.TheVariants.{Num, Junk}
+use Rattle.tal_types.specs.declared.types.FlagKind.TheVariants.{Lost}
+use Rattle.tal_types.specs.declared.contexts.Context.{Context}
+use Rattle.tal_types.specs.Contexts.{LiveContext, Dead, Live, register_type, plain}
+use Rattle.tal_types.specs.Kept.{type_at, pair_in, live_of, context_of}
+
+-- What a context that is kept means.
+
+-- what stands at each place of copies of one value
+pub get_or-replicate_same : {X : Type 0} (n k : ℕ) (x : X) → get_or (replicate n x) k x ≡ x
+get_or-replicate_same zero k x = refl
+get_or-replicate_same (suc n) zero x = refl
+get_or-replicate_same (suc n) (suc k) x = get_or-replicate_same n k x
+
+-- two live contexts that read alike are equal
+pub same_live : (a b : LiveContext) → ((r : Reg) → a.regs r ≡ b.regs r) → a.slots ≡ b.slots → a.kind ≡ b.kind → ((i r : Reg) → a.pairs i r ≡ b.pairs i r) → ((t r : Reg) → a.heads t r ≡ b.heads t r) → a ≡ b
+same_live a b f g h k l = λ i. record { regs = λ r. f r i; slots = g i; kind = h i; pairs = λ x y. k x y i; heads = λ x y. l x y i }
+
+-- the eight types of seven registers, with Junk for ESP
+abbrev pub eight : List Ty → List Ty
+eight types = get_or types 0 Num ∷ get_or types 1 Num ∷ get_or types 2 Num ∷ get_or types 3 Num ∷ Junk ∷ get_or types 4 Num ∷ get_or types 5 Num ∷ get_or types 6 Num ∷ []
+
+-- the type of a register among the eight is that among the seven
+type_at-eight : (types : List Ty) → length types ≡ 7 → (r : Reg) → type_at (eight types) r ≡ register_type types r
+unfolding type_at register_type
+type_at-eight types l Eax = get_or_default types 0 Num Junk (omega arith)
+type_at-eight types l Ecx = get_or_default types 1 Num Junk (omega arith)
+type_at-eight types l Edx = get_or_default types 2 Num Junk (omega arith)
+type_at-eight types l Ebx = get_or_default types 3 Num Junk (omega arith)
+type_at-eight types l Esp = refl
+type_at-eight types l Ebp = get_or_default types 4 Num Junk (omega arith)
+type_at-eight types l Esi = get_or_default types 5 Num Junk (omega arith)
+type_at-eight types l Edi = get_or_default types 6 Num Junk (omega arith)
+
+-- the number 0 has no pair
+pub pair_in-zero : (r q : Reg) → pair_in 0 r q ≡ false
+unfolding pair_in
+pair_in-zero r q = grind (arith, nat_tests, bit_at-zero)
+
+-- types alone
+pub context_of-plain : (c : Context) (types slots : List Ty) → c.dead ≡ false → length types ≡ 7 → c.regs ≡ eight types → take c.depth c.slots ≡ slots → c.kind ≡ Lost → c.pairs ≡ 0 → c.heads ≡ 0 → context_of c ≡ plain types slots
+unfolding context_of live_of plain
+context_of-plain c types slots alive seven regs slots_are kind pairs heads =
+    ap (λ b. if b then Dead else Live (live_of c)) alive
+    ∙ ap Live (same_live _ _
+    (λ r. ap (λ xs. type_at xs r) regs ∙ type_at-eight types seven r)
+    slots_are
+    kind
+    (λ i r. ap (λ n. pair_in n i r) pairs ∙ pair_in-zero i r)
+    (λ t r. ap (λ n. pair_in n t r) heads ∙ pair_in-zero t r))
+
+-- one more slot is filled in
+pub filled-more : (all slots : List Ty) (i : ℕ) → length all ≡ 64 → i < 64 → i < length slots → take i all ≡ take i slots → take (i + 1) (set all i (get_or slots i Num)) ≡ take (i + 1) slots
+filled-more all slots i long l m same =
+    take_more_set all i (get_or slots i Num) (omega arith)
+    ∙ ap (λ xs. xs ++ get_or slots i Num ∷ []) same
+    ∙ sym (take_more slots i Num m)
+
+-- a slot that is filled in leaves those behind it
+pub filled-rest : (all : List Ty) (i : ℕ) (t : Ty) → ((k : ℕ) → i ≤ k → get_or all k Junk ≡ Junk) → (k : ℕ) → i + 1 ≤ k → get_or (set all i t) k Junk ≡ Junk
+filled-rest all i t rest k l = let apart : k ≢ i = omega arith in get_or-set_other all i k t Junk apart ∙ rest k (omega arith)
+
+-- one more slot of the second list is placed
+pub placed-more : (all first second : List Ty) (j : ℕ) → length all ≡ 64 → length first + j < 64 → j < length second → take (length first + j) all ≡ first ++ take j second → take (length first + (j + 1)) (set all (length first + j) (get_or second j Num)) ≡ first ++ take (j + 1) second
+placed-more all first second j long l m same =
+    let i = length first + j in
+    let next : length first + (j + 1) ≡ i + 1 = omega arith in
+    ap (λ n. take n (set all i (get_or second j Num))) next
+    ∙ take_more_set all i (get_or second j Num) (omega arith)
+    ∙ ap (λ xs. xs ++ get_or second j Num ∷ []) same
+    ∙ append_assoc first (take j second) (get_or second j Num ∷ [])
+    ∙ ap (λ xs. first ++ xs) (sym (take_more second j Num m))
+
+-- behind the first list none of the second is placed yet
+pub placed-none : (all first : List Ty) (i : ℕ) → i ≡ length first → take i all ≡ take i first → take (length first + 0) all ≡ first ++ []
+placed-none all first i end same =
+    let here : length first + 0 ≡ i = omega arith in
+    ap (λ n. take n all) here ∙ same ∙ take_all i first (omega arith) ∙ sym (append-nil first)
+
+-- behind both lists all is placed
+pub placed-all : (all first second : List Ty) (j : ℕ) → j ≡ length second → take (length first + j) all ≡ first ++ take j second → take (length first + length second) all ≡ first ++ second
+placed-all all first second j end same =
+    ap (λ n. take (length first + n) all) (sym end) ∙ same ∙ ap (λ xs. first ++ xs) (take_all j second (omega arith))
+
+-- a slot of the second list leaves those behind it
+pub placed-rest : (all first : List Ty) (j : ℕ) (t : Ty) → ((k : ℕ) → length first + j ≤ k → get_or all k Junk ≡ Junk) → (k : ℕ) → length first + (j + 1) ≤ k → get_or (set all (length first + j) t) k Junk ≡ Junk
+placed-rest all first j t rest k l = filled-rest all (length first + j) t rest k (omega arith)

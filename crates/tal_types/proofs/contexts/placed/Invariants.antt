@@ -1,0 +1,17 @@
+use Rattle.std.proofs.Common.{◌≡◌, ℕ, ◌+◌, ◌≤◌, ◌++◌, length, take, get_or}
+use Rattle.tal_types.specs.declared.types.Ty.TheVariants.{Junk}
+use Rattle.tal_types.proofs.contexts.placed.Given as goal
+
+abbrev pub invariant-loop-i : goal.invariant-loop-i
+invariant-loop-i l = record {
+  long : length l.all ≡ 64;
+  slots : take l.i l.all ≡ take l.i l.first;
+  rest : (k : ℕ) → l.i ≤ k → get_or l.all k Junk ≡ Junk;
+}
+
+abbrev pub invariant-loop-j : goal.invariant-loop-j
+invariant-loop-j l = record {
+  long : length l.all ≡ 64;
+  slots : take (length l.first + l.j) l.all ≡ l.first ++ take l.j l.second;
+  rest : (k : ℕ) → length l.first + l.j ≤ k → get_or l.all k Junk ≡ Junk;
+}

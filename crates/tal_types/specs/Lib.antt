@@ -1,0 +1,5 @@
+pub mod Types
+pub mod Contexts
+pub mod Kept
+pub mod Shown
+pub mod Writes

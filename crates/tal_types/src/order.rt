@@ -1,0 +1,113 @@
+ghost use Rattle.std.specs.Prelude.{◌≡◌};
+ghost use Rattle.tal_types.specs.Contexts.{same, kind_below, all_sub, every, has_all, context_below};
+ghost use Rattle.tal_types.specs.Kept.{type_at, pair_in, context_of};
+ghost use Rattle.tal_types.specs.Types.{sub, within};
+
+use crate::contexts::Context;
+use crate::types::{FlagKind, Ty};
+use ia32_code::Reg;
+use object_layout::Shapes;
+
+/// Whether type `t` is below type `u`: whatever has the first has the second, too.
+#[tactic(auto, unfolding(crate::specs::Types::sub))]
+pub fn sub(shapes: &Shapes, t: Ty, u: Ty) -> bool
+    ensures { result ≡ sub shapes.now t u }
+{
+    match (t, u) {
+        (_, Ty::Junk) | (Ty::Num, Ty::Num) => true,
+        (Ty::Obj(c), Ty::Obj(d) | Ty::Ref(d))
+        | (Ty::Ref(c), Ty::Ref(d))
+        | (Ty::Tab(c), Ty::Tab(d)) => within(shapes, c, d),
+        (Ty::Arr(k), Ty::Arr(l) | Ty::ArrRef(l))
+        | (Ty::ArrRef(k), Ty::ArrRef(l))
+        | (Ty::Desc(k), Ty::Desc(l)) => k == l,
+        (Ty::Code(g), Ty::Code(h) | Ty::Fun(h)) | (Ty::Fun(g), Ty::Fun(h)) => g == h,
+        _ => false,
+    }
+}
+
+/// Whether class `c` is `d`, or has `d` as an ancestor.
+#[tactic(auto, unfolding(crate::specs::Types::within))]
+fn within(shapes: &Shapes, c: u32, d: u32) -> bool
+    ensures { result ≡ within shapes.now c d }
+{
+    c == d || shapes.below(c, d)
+}
+
+/// Whether two lists of types are equally long, and each type is below the other's.
+fn all_sub(shapes: &Shapes, ts: &[Ty], us: &[Ty]) -> bool
+    ensures { result ≡ all_sub shapes.now ts.now us.now }
+{
+    if ts.len() != us.len() {
+        return false;
+    }
+    for i in 0..ts.len() {
+        if !sub(shapes, ts[i], us[i]) {
+            return false;
+        }
+    }
+    true
+}
+
+/// Whether two registers are one.
+#[tactic(auto, unfolding(crate::specs::Contexts::same))]
+fn same(r: Reg, q: Reg) -> bool
+    ensures { result ≡ same r q }
+{
+    r == q
+}
+
+/// Whether what the first kind tells lets each condition of the second be used.
+#[tactic(auto, unfolding(crate::specs::Contexts::kind_below))]
+fn kind_below(kind: FlagKind, other: FlagKind) -> bool
+    ensures { result ≡ kind_below kind other }
+{
+    match (kind, other) {
+        (_, FlagKind::Lost) => true,
+        (
+            FlagKind::Eq
+            | FlagKind::Num
+            | FlagKind::NullTest(_)
+            | FlagKind::Bound(_, _)
+            | FlagKind::IsA(_, _),
+            FlagKind::Eq,
+        ) => true,
+        (FlagKind::Num | FlagKind::Bound(_, _), FlagKind::Num) => true,
+        (FlagKind::NullTest(r), FlagKind::NullTest(q)) => same(r, q),
+        (FlagKind::Bound(i, a), FlagKind::Bound(j, b)) => same(i, j) && same(a, b),
+        (FlagKind::IsA(r, c), FlagKind::IsA(q, d)) => same(r, q) && c == d,
+        _ => false,
+    }
+}
+
+/// Whether the types of the first registers are below those of the second.
+fn registers_below(shapes: &Shapes, a: &[Ty; 8], b: &[Ty; 8]) -> bool
+    ensures { result ≡ every (λ r. sub shapes.now (type_at a.now r) (type_at b.now r)) }
+{
+    all_sub(shapes, a, b)
+}
+
+/// Whether the first set of pairs of registers has all of the second.
+fn has_all(bits: u64, others: u64) -> bool
+    ensures { result ≡ has_all (pair_in bits) (pair_in others) }
+{
+    bits & others == others
+}
+
+/// Whether context `a` is below context `b`: what is known in the second is known in the first, too.
+#[tactic(auto, unfolding(crate::specs::Contexts::context_below, crate::specs::Contexts::live_below, crate::specs::Kept::context_of, crate::specs::Kept::live_of))]
+pub fn context_below(shapes: &Shapes, a: &Context, b: &Context) -> bool
+    ensures { result ≡ context_below shapes.now (context_of a.now) (context_of b.now) }
+{
+    if a.dead {
+        return true;
+    }
+    if b.dead {
+        return false;
+    }
+    registers_below(shapes, &a.regs, &b.regs)
+        && all_sub(shapes, a.slots(), b.slots())
+        && kind_below(a.kind, b.kind)
+        && has_all(a.pairs, b.pairs)
+        && has_all(a.heads, b.heads)
+}
