@@ -1,0 +1,11 @@
+pub mod PlacesBelow
+pub mod RowsBelow
+pub mod CallsBelow
+pub mod RulesBelow
+pub mod AfterwardsBelow
+pub mod Monotone
+pub mod Heads
+pub mod StrongestContexts
+pub mod Fields
+pub mod SlotRoom
+pub mod EdgeRules

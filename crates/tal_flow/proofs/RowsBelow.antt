@@ -1,0 +1,157 @@
+use Rattle.std.proofs.Common.{◌≡◌, ℕ, Bool, true, false, Option, Some, None, arith, refl}
+use Rattle.std.proofs.lemmas.Bool.Decides.{nat_tests}
+use Rattle.ia32_code.specs.declared.instruction.Reg.{Reg}
+use Rattle.ia32_code.specs.declared.instruction.Operand.{Operand}
+use Rattle.ia32_code.specs.declared.instruction.Operand.TheVariants.{R, M, I}
+use Rattle.object_layout.specs.Classes.{ShapesView}
+use Rattle.object_layout.specs.Laws.{ClassLaws}
+use Rattle.tal_types.specs.declared.types.Ty.{Ty}
+use Rattle.tal_types.specs.declared.types.FlagKind.{FlagKind}
+use Rattle.tal_types.specs.Types.{sub}
+use Rattle.tal_types.specs.Contexts.{LiveContext, LiveBelow, kind_below}
+use Rattle.tal_types.specs.Shown.{ShownImage}
+use Rattle.tal_types.proofs.Orders.{same-refl}
+use Rattle.tal_flow.specs.declared.places.Place.{Place}
+use Rattle.tal_flow.specs.declared.places.Place.TheVariants.{Display}
+use Rattle.tal_flow.specs.declared.rows.Family.{Family}
+use Rattle.tal_flow.specs.declared.rows.Family.TheVariants.{Numbers, Others}
+use Rattle.tal_flow.specs.Places.{place_type, operand_place, immediate_type, type_of}
+use Rattle.tal_flow.specs.Rows.{family, has_null, unmarked_zero, marked_class, base_of_length, length_base, first_head, class_test, display_row, bound_kind, compare_row, compare_kind, test_row, test_kind}
+use Rattle.tal_flow.specs.Strongest.{OneHead}
+use Rattle.tal_flow.proofs.PlacesBelow.{FoundBelow, place-below, operand_place-below, type_of-below}
+
+-- The kinds that CMP and TEST give in two contexts, one below the other.
+
+-- the kind of the lower context is there where the higher one's is, and is below it
+abbrev pub KindBelow : Option FlagKind → Option FlagKind → Type 0
+KindBelow j None = Unit {0}
+KindBelow (Some j) (Some k) = kind_below j k ≡ true
+KindBelow None (Some k) = ⊥
+
+first_head-some : (c : LiveContext) (t r : Reg) → first_head c t ≡ Some r → c.heads t r ≡ true
+unfolding first_head
+first_head-some c t r e = grind arith
+
+first_head-none : (c : LiveContext) (t r : Reg) → first_head c t ≡ None → c.heads t r ≡ true → ⊥
+unfolding first_head
+first_head-none c t r e h = grind arith
+
+-- the head of the higher context is the lower one's, which has no other
+first_head-below : (s : ShapesView) (a b : LiveContext) (t r : Reg) → LiveBelow s a b → OneHead a → first_head b t ≡ Some r → first_head a t ≡ Some r
+first_head-below s a b t r h one e = go (first_head a t) refl
+  where
+    here : a.heads t r ≡ true
+    here = h.heads t r (first_head-some b t r e)
+
+    go : (o : Option Reg) → first_head a t ≡ o → o ≡ Some r
+    go None f = absurd (first_head-none a t r f here)
+    go (Some q) f = let k = one t q r (first_head-some a t q f) here in cc
+
+class_test-below : (s : ShapesView) (a b : LiveContext) (t : Reg) (d : ℕ) → LiveBelow s a b → OneHead a → kind_below (class_test a t d) (class_test b t d) ≡ true
+unfolding class_test kind_below
+class_test-below s a b t d h one = go (first_head b t) refl
+  where
+    go : (o : Option Reg) → first_head b t ≡ o → kind_below (class_test a t d) (class_test b t d) ≡ true
+    go None f = grind arith
+    go (Some r) f = let g = first_head-below s a b t r h one f in grind (arith, nat_tests, same-refl)
+
+display-below : (s : ShapesView) (a b : LiveContext) (t : Reg) (k : ℕ) (m : Option ℕ) → LiveBelow s a b → OneHead a → KindBelow (display_row s a (Some (Display t k)) m) (display_row s b (Some (Display t k)) m)
+unfolding display_row
+display-below s a b t k None h one = tt
+display-below s a b t k (Some d) h one = grind (arith, class_test-below s a b t d h one)
+
+display-same : (s : ShapesView) (p : Option Place) (t : Reg) (k : ℕ) → FoundBelow s p (Some (Display t k)) → p ≡ Some (Display t k)
+display-same s p t k e = grind arith
+
+-- the row of displays gives a lower kind
+pub display_row-below : (s : ShapesView) (a b : LiveContext) (p q : Option Place) (m : Option ℕ) → LiveBelow s a b → OneHead a → FoundBelow s p q → KindBelow (display_row s a p m) (display_row s b q m)
+unfolding display_row
+display_row-below s a b p (Some (Display t k)) m h one e = rw (display-same s p t k e) (display-below s a b t k m h one)
+display_row-below s a b p q m h one e = tt
+
+-- a type of the families of numbers and references has no other family below it
+abbrev pub FamilyBelow : Family → Family → Type 0
+FamilyBelow f Others = Unit {0}
+FamilyBelow f g = f ≡ g
+
+-- a lower type is of the same family
+pub family-below : (s : ShapesView) (t u : Ty) → sub s t u ≡ true → FamilyBelow (family t) (family u)
+unfolding family sub
+family-below s t u e = grind arith
+
+-- the place is a display
+abbrev pub is_display : Option Place → Bool
+is_display (Some (Display t k)) = true
+is_display _ = false
+
+display_row-none : (s : ShapesView) (c : LiveContext) (p : Option Place) (m : Option ℕ) → is_display p ≡ false → display_row s c p m ≡ None
+unfolding display_row
+display_row-none s c p m e = grind arith
+
+display-above : (s : ShapesView) (p q : Option Place) → FoundBelow s p q → is_display q ≡ true → is_display p ≡ true
+display-above s p q h e = grind arith
+
+-- the array of a length is known in the lower context, where it is known in the higher one
+abbrev pub ArrayBelow : Option Reg → Option Reg → Type 0
+ArrayBelow x None = Unit {0}
+ArrayBelow x (Some a) = x ≡ Some a
+
+bound-below : (d : Operand) (x y : Option Reg) → ArrayBelow x y → kind_below (bound_kind d x) (bound_kind d y) ≡ true
+unfolding kind_below
+bound-below d x y h = grind (arith, same-refl)
+
+readable_row-below : (s : ShapesView) (a b : LiveContext) (d : Operand) (f f' g g' : Family) (p p' : Option Place) (x x' : Option Reg) (z : Bool) (m : Option ℕ) → (z ≡ true → g ≡ Numbers) → FamilyBelow f f' → FamilyBelow g g' → ArrayBelow x x' → display_row s b p' m ≡ None → KindBelow (compare_row s a d f g p x z m) (compare_row s b d f' g' p' x' z m)
+unfolding compare_row kind_below has_null
+readable_row-below s a b d f f' g g' p p' x x' z m w e i y n = let k = bound-below d x x' y in grind (arith, same-refl)
+
+unreadable_row-below : (s : ShapesView) (a b : LiveContext) (d : Operand) (f f' g g' : Family) (p p' : Option Place) (x x' : Option Reg) (z : Bool) (m : Option ℕ) → f ≡ Others → FamilyBelow f f' → KindBelow (display_row s a p m) (display_row s b p' m) → KindBelow (compare_row s a d f g p x z m) (compare_row s b d f' g' p' x' z m)
+unfolding compare_row kind_below has_null
+unreadable_row-below s a b d f f' g g' p p' x x' z m n e dm = grind arith
+
+compare_row-below : (s : ShapesView) (a b : LiveContext) (d : Operand) (f f' g g' : Family) (p p' : Option Place) (x x' : Option Reg) (z : Bool) (m : Option ℕ) → LiveBelow s a b → OneHead a → (is_display p ≡ true → f ≡ Others) → (z ≡ true → g ≡ Numbers) → FamilyBelow f f' → FamilyBelow g g' → FoundBelow s p p' → ArrayBelow x x' → KindBelow (compare_row s a d f g p x z m) (compare_row s b d f' g' p' x' z m)
+compare_row-below s a b d f f' g g' p p' x x' z m h one j w e i k y = go (is_display p') refl
+  where
+    go : (t : Bool) → is_display p' ≡ t → KindBelow (compare_row s a d f g p x z m) (compare_row s b d f' g' p' x' z m)
+    go false q = readable_row-below s a b d f f' g g' p p' x x' z m w e i y (display_row-none s b p' m q)
+    go true q = unreadable_row-below s a b d f f' g g' p p' x x' z m (j (display-above s p p' k q)) e (display_row-below s a b p p' m h one k)
+
+-- a display has no family
+display-other : (v : ShownImage) (a : LiveContext) (pc : ℕ) (x : Operand) → is_display (operand_place v a x) ≡ true → family (type_of v a pc x) ≡ Others
+unfolding operand_place type_of place_type family
+display-other v a pc (R r) e = absurd (grind arith)
+display-other v a pc (M m) e = grind arith
+display-other v a pc (I n) e = absurd (grind arith)
+
+zero-number : (v : ShownImage) (a : LiveContext) (pc : ℕ) (x : Operand) → unmarked_zero v pc x ≡ true → family (type_of v a pc x) ≡ Numbers
+unfolding type_of unmarked_zero immediate_type family
+zero-number v a pc x e = grind arith
+
+length-below : (s : ShapesView) (p q : Option Place) (base : Option Reg) → FoundBelow s p q → ArrayBelow (base_of_length p base) (base_of_length q base)
+length-below s p q base h = grind arith
+
+length_base-below : (v : ShownImage) → ClassLaws v.shapes → (a b : LiveContext) (x : Operand) → LiveBelow v.shapes a b → ArrayBelow (length_base v a x) (length_base v b x)
+unfolding length_base
+length_base-below v l a b (M m) h = length-below v.shapes _ _ m.base (place-below v.shapes l v.statics a b m h)
+length_base-below v l a b (R r) h = tt
+length_base-below v l a b (I n) h = tt
+
+-- CMP gives a lower kind
+pub compare_kind-below : (v : ShownImage) → ClassLaws v.shapes → (a b : LiveContext) (pc : ℕ) (d x : Operand) → LiveBelow v.shapes a b → OneHead a → KindBelow (compare_kind v a pc d x) (compare_kind v b pc d x)
+unfolding compare_kind
+compare_kind-below v l a b pc d x h one =
+    compare_row-below v.shapes a b d _ _ _ _ _ _ _ _ (unmarked_zero v pc x) (marked_class v pc x) h one
+    (display-other v a pc d)
+    (zero-number v a pc x)
+    (family-below v.shapes _ _ (type_of-below v l a b pc d h))
+    (family-below v.shapes _ _ (type_of-below v l a b pc x h))
+    (operand_place-below v l a b d h)
+    (length_base-below v l a b x h)
+
+test_row-below : (d : Operand) (f f' g g' : Family) (z : Bool) → FamilyBelow f f' → FamilyBelow g g' → KindBelow (test_row d f g z) (test_row d f' g' z)
+unfolding test_row kind_below has_null
+test_row-below d f f' g g' z e i = grind (arith, same-refl)
+
+-- TEST gives a lower kind
+pub test_kind-below : (v : ShownImage) → ClassLaws v.shapes → (a b : LiveContext) (pc : ℕ) (d x : Operand) → LiveBelow v.shapes a b → KindBelow (test_kind v a pc d x) (test_kind v b pc d x)
+unfolding test_kind
+test_kind-below v l a b pc d x h = test_row-below d _ _ _ _ _ (family-below v.shapes _ _ (type_of-below v l a b pc d h)) (family-below v.shapes _ _ (type_of-below v l a b pc x h))

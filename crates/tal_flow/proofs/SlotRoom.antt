@@ -1,0 +1,66 @@
+use Rattle.std.proofs.Common.{◌≡◌, ◌≢◌, ℕ, zero, suc, ◌<◌, Bool, true, false, if◌then◌else◌, Option, Some, None, List, [], ◌∷◌, length, slice_get, is_some, sym, ◌∙◌, arith}
+use Rattle.std.specs.Option.{option_map, option_and_then}
+use Rattle.ia32_code.specs.declared.instruction.Reg.{Reg}
+use Rattle.ia32_code.specs.declared.instruction.Reg.TheVariants.{Esp}
+use Rattle.ia32_code.specs.declared.instruction.Operand.{Operand}
+use Rattle.ia32_code.specs.declared.instruction.Operand.TheVariants.{R, M, I}
+use Rattle.object_layout.specs.declared.rows.FieldTy.{FieldTy}
+use Rattle.object_layout.specs.Classes.{ShapesView, word_index}
+use Rattle.tal_types.specs.declared.types.Ty.{Ty}
+use Rattle.tal_types.specs.Contexts.{LiveContext, same}
+use Rattle.tal_types.specs.Shown.{ShownImage}
+use Rattle.tal_flow.specs.declared.places.Place.{Place}
+use Rattle.tal_flow.specs.declared.places.Place.TheVariants.{Slot, Method}
+use Rattle.tal_flow.specs.Places.{whole, static_place, slot_place, object_place, array_place, element_place, display_place, table_place, based, stack_place, located, place_in, operand_place}
+
+-- A slot that is a place is one of the frame's.
+
+there-within : (xs : List Ty) (i : ℕ) → is_some (slice_get xs i) ≡ true → i < length xs
+there-within [] i e = absurd (grind arith)
+there-within (x ∷ xs) zero e = omega arith
+there-within (x ∷ xs) (suc i) e = let h = there-within xs i e in omega arith
+
+slot_place-room : (c : LiveContext) (n i : ℕ) → slot_place c n ≡ Some (Slot i) → i < length c.slots
+unfolding slot_place
+slot_place-room c n i e = go (word_index 0 n) e
+  where
+    go : (o : Option ℕ) → option_and_then (λ i. if is_some (slice_get c.slots i) then Some (Slot i) else None) o ≡ Some (Slot i) → i < length c.slots
+    go None f = absurd (grind arith)
+    go (Some j) f = there-within c.slots i (grind arith)
+
+whole-no_slot : (f : Option FieldTy) (i : ℕ) → whole f ≢ Some (Slot i)
+whole-no_slot None i e = absurd (grind arith)
+whole-no_slot (Some t) i e = absurd (grind arith)
+
+method-no_slot : (g : Option ℕ) (i : ℕ) → option_map Method g ≢ Some (Slot i)
+method-no_slot None i e = absurd (grind arith)
+method-no_slot (Some g) i e = absurd (grind arith)
+
+display-no_slot : (r : Reg) (n i : ℕ) → display_place r n ≢ Some (Slot i)
+unfolding display_place
+display-no_slot r n i e = grind arith
+
+based-no_slot : (s : ShapesView) (c : LiveContext) (r : Reg) (t : Ty) (x : Option Reg) (k n i : ℕ) → based s c r t x k n ≢ Some (Slot i)
+unfolding based object_place array_place element_place table_place
+based-no_slot s c r t x k n i e = grind (arith, whole-no_slot, method-no_slot, display-no_slot)
+
+located-room : (s : ShapesView) (statics : List FieldTy) (c : LiveContext) (r x : Option Reg) (k n i : ℕ) → located s statics c r x k n ≡ Some (Slot i) → i < length c.slots
+unfolding static_place
+located-room s statics c None None k n i e = absurd (whole-no_slot _ i e)
+located-room s statics c None (Some x) k n i e = absurd (grind arith)
+located-room s statics c (Some r) x k n i e = go (same r Esp) x e
+  where
+    go : (b : Bool) (x : Option Reg) → (if b then stack_place c x n else based s c r (c.regs r) x k n) ≡ Some (Slot i) → i < length c.slots
+    go true None f = slot_place-room c n i f
+    go true (Some y) f = absurd (grind arith)
+    go false x f = absurd (based-no_slot s c r (c.regs r) x k n i f)
+
+place-room : (v : ShownImage) (c : LiveContext) (x : Operand) (i : ℕ) → operand_place v c x ≡ Some (Slot i) → i < length c.slots
+unfolding operand_place place_in
+place-room v c (R r) i e = absurd (grind arith)
+place-room v c (M m) i e = located-room v.shapes v.statics c m.base m.index m.scale m.disp i e
+place-room v c (I n) i e = absurd (grind arith)
+
+-- the same of a place that a call gave
+pub slot_room : (v : ShownImage) (c : LiveContext) (x : Operand) (i : ℕ) (p : Option Place) → p ≡ operand_place v c x → p ≡ Some (Slot i) → i < length c.slots
+slot_room v c x i p f e = place-room v c x i (sym f ∙ e)

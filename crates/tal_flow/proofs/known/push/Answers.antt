@@ -1,0 +1,27 @@
+use Rattle.std.proofs.Common.{refl, arith}
+use Rattle.tal_types.specs.Kept.{live_of}
+use Rattle.tal_types.proofs.Meanings.{same_live}
+use Rattle.tal_flow.proofs.Fields.{take-pushed, junk-pushed, depth-of}
+use Rattle.tal_flow.proofs.known.push.Goals as goal
+
+pub overflow_add-context : goal.overflow_add-context
+overflow_add-context c = let s = c.args.context.now.shallow in omega arith
+
+pub invariant_of-context-clause-shallow : goal.invariant_of-context-clause-shallow
+invariant_of-context-clause-shallow c =
+    let d = depth-of c.args.context.now c.pushed-context.ensures.given in
+    omega (arith, c.requires)
+
+pub invariant_of-context-clause-no_more_slots : goal.invariant_of-context-clause-no_more_slots
+invariant_of-context-clause-no_more_slots c = λ k l.
+    let made = c.pushed-context.ensures in
+    junk-pushed c.pushed-context.result c.args.context.now.slots c.args.context.now.depth k made.long made.given made.rest c.args.context.now.no_more_slots l
+
+pub returns-clause-known : goal.returns-clause-known
+unfolding live_of
+returns-clause-known c =
+    let made = c.pushed-context.ensures in
+    let d = depth-of c.args.context.now made.given in
+    same_live _ _ (λ r. refl)
+    (take-pushed c.pushed-context.result c.args.context.now.slots c.args.context.now.depth c.args.t made.long made.given (omega (arith, c.requires)) made.first made.rest)
+    refl (λ i a. refl) (λ t r. refl)

@@ -1,0 +1,11 @@
+use Rattle.tal_flow.proofs.StrongestContexts.{serve-exactly, at-row, at-next}
+use Rattle.tal_flow.proofs.laws.strongest_contexts.Goals as goal
+
+pub returns-clause-exactly : goal.returns-clause-exactly
+returns-clause-exactly c = serve-exactly
+
+pub returns-clause-rows : goal.returns-clause-rows
+returns-clause-rows c = at-row
+
+pub returns-clause-next : goal.returns-clause-next
+returns-clause-next c = at-next

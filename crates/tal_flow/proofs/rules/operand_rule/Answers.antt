@@ -1,0 +1,13 @@
+use Rattle.tal_flow.proofs.rules.operand_rule.Goals as goal
+
+pub returns-in-Compute : goal.returns-in-Compute
+returns-in-Compute g c = rw c.in-Compute.is (c.compute_rule.ensures c.in-Compute.wide c.in-Compute.kind)
+
+pub returns-in-Address : goal.returns-in-Address
+returns-in-Address g c = rw c.in-Address.is (c.address_rule.ensures _ c.args.pc)
+
+pub returns-in-PopTo : goal.returns-in-PopTo
+returns-in-PopTo g c = rw c.in-PopTo.is (c.pop_rule.ensures _ c.args.pc)
+
+pub returns-in-DropSlots : goal.returns-in-DropSlots
+returns-in-DropSlots g c = rw c.in-DropSlots.is (c.drop_rule.ensures _ c.args.pc)

@@ -1,0 +1,9 @@
+pub mod Forms
+pub mod Places
+pub mod Rows
+pub mod Calls
+pub mod Afterwards
+pub mod Edges
+pub mod Rules
+pub mod Flows
+pub mod Strongest

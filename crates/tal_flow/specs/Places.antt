@@ -1,0 +1,171 @@
+-- What operands are: the places of memory operands and the types of operands.
+use Rattle.std.specs.Prelude.{ℕ, ◌==◌, Bool, true, false, not, ◌&&◌, ◌||◌, nat_le, List, Option, Some, None, slice_get, slice_index_or, is_some, if◌then◌else◌}
+use Rattle.std.specs.Option.{option_map, option_and_then, option_map_or}
+use Rattle.ia32_code.specs.declared.instruction.Reg.{Reg}
+use Rattle.ia32_code.specs.declared.instruction.Reg.TheVariants.{Esp}
+use Rattle.ia32_code.specs.declared.instruction.Mem.{Mem}
+use Rattle.ia32_code.specs.declared.instruction.Operand.{Operand}
+use Rattle.ia32_code.specs.declared.instruction.Operand.TheVariants.{R, M, I}
+use Rattle.object_layout.specs.declared.rows.FieldTy.{FieldTy}
+use Rattle.object_layout.specs.Classes.{ShapesView, word_index, field_at, slot_at, element}
+use Rattle.tal_types.specs.declared.types.Ty.{Ty}
+use Rattle.tal_types.specs.declared.types.Ty.TheVariants.{Num, Ref, Obj, ArrRef, Arr, Fun, Code, Tab, Desc, Junk}
+use Rattle.tal_types.specs.declared.views.Mark.{Mark}
+use Rattle.tal_types.specs.Types.{of_field, sub}
+use Rattle.tal_types.specs.Contexts.{LiveContext, ContextView, Dead, Live, same}
+use Rattle.tal_types.specs.Shown.{ShownImage}
+use Rattle.tal_flow.specs.declared.places.Place.{Place}
+use Rattle.tal_flow.specs.declared.places.Place.TheVariants.{Whole, Slot, Length, Head, Method, Display}
+
+-- ---- places, by base and index
+
+abbrev pub whole : Option FieldTy → Option Place
+whole field = option_map (λ t. Whole (of_field t)) field
+
+-- static: no base, no index, the word of a static; static j stands at 0x300000 + 4j
+unfoldable pub static_place : List FieldTy → ℕ → Option Place
+static_place statics disp = whole (option_and_then (slice_get statics) (word_index 0x300000 disp))
+
+-- slot: base ESP, no index, the word of a slot; slot i stands at ESP + 4i
+unfoldable pub slot_place : LiveContext → ℕ → Option Place
+slot_place c disp = option_and_then (λ i. if is_some (slice_get c.slots i) then Some (Slot i) else None) (word_index 0 disp)
+
+-- head: base Obj c, no index, displacement 0. Field: the displacement of a field
+unfoldable pub object_place : ShapesView → Reg → ℕ → ℕ → Option Place
+object_place s r c disp = if disp == 0 then Some (Head r c) else whole (field_at s c disp)
+
+-- length: base Arr k, no index, displacement 4
+unfoldable pub array_place : ℕ → Option Place
+array_place disp = if disp == 4 then Some Length else None
+
+-- element: base a of Arr k, index i times 4, displacement 8, the pair (i, a)
+unfoldable pub element_place : ShapesView → LiveContext → Reg → ℕ → Reg → ℕ → ℕ → Option Place
+element_place s c a k i scale disp = if c.pairs i a && ((scale == 2) && (disp == 8)) then whole (element s k) else None
+
+-- display: base Tab c, no index, displacement 12 + 4d, d 0 to 7
+unfoldable pub display_place : Reg → ℕ → Option Place
+display_place t disp = option_and_then (λ d. if nat_le d 7 then Some (Display t d) else None) (word_index 12 disp)
+
+-- method: base Tab c, no index, the displacement of a method, from 44 on
+unfoldable pub table_place : ShapesView → Reg → ℕ → ℕ → Option Place
+table_place s t c disp = if nat_le 44 disp then option_map Method (slot_at s c disp) else display_place t disp
+
+-- the place at a base other than ESP, by the base's type and the index
+unfoldable pub based : ShapesView → LiveContext → Reg → Ty → Option Reg → ℕ → ℕ → Option Place
+based s c r (Obj k) None scale disp = object_place s r k disp
+based s c r (Arr k) None scale disp = array_place disp
+based s c r (Arr k) (Some i) scale disp = element_place s c r k i scale disp
+based s c r (Tab k) None scale disp = table_place s r k disp
+based s c r _ _ scale disp = None
+
+abbrev pub stack_place : LiveContext → Option Reg → ℕ → Option Place
+stack_place c None disp = slot_place c disp
+stack_place c (Some i) disp = None
+
+abbrev pub located : ShapesView → List FieldTy → LiveContext → Option Reg → Option Reg → ℕ → ℕ → Option Place
+located s statics c None None scale disp = static_place statics disp
+located s statics c None (Some i) scale disp = None
+located s statics c (Some r) x scale disp = if same r Esp then stack_place c x disp else based s c r (c.regs r) x scale disp
+
+-- the place of a memory operand, where there is one, in a live context
+unfoldable pub place_in : ShapesView → List FieldTy → LiveContext → Mem → Option Place
+place_in s statics c m = located s statics c m.base m.index m.scale m.disp
+
+-- the place of a memory operand. A dead context tells nothing of registers and slots: it has statics alone
+unfoldable pub PlaceType : ShapesView → List FieldTy → ContextView → Mem → Option Place
+PlaceType s statics (Live c) m = place_in s statics c m
+PlaceType s statics Dead m = if is_some m.base || is_some m.index then None else static_place statics m.disp
+
+-- ---- what stands at a place
+
+-- the type of what is read there; a display has none
+unfoldable pub place_type : LiveContext → Place → Ty
+place_type c (Whole t) = t
+place_type c (Slot i) = slice_index_or c.slots i Junk
+place_type c Length = Num
+place_type c (Head r k) = Tab k
+place_type c (Method g) = Code g
+place_type c (Display t d) = Junk
+
+-- displays are for CMP alone
+unfoldable pub is_readable : Place → Bool
+is_readable (Display t d) = false
+is_readable _ = true
+
+-- lengths, heads, methods and displays are never written
+unfoldable pub is_writable : Place → Bool
+is_writable (Whole t) = true
+is_writable (Slot i) = true
+is_writable _ = false
+
+-- what a place takes; a slot takes every type
+unfoldable pub takes : ShapesView → Ty → Place → Bool
+takes s t (Whole u) = sub s t u
+takes s t _ = true
+
+-- ---- operands
+
+-- the place of an operand, where it is memory and has one
+unfoldable pub operand_place : ShownImage → LiveContext → Operand → Option Place
+operand_place v c (M m) = place_in v.shapes v.statics c m
+operand_place v c (R r) = None
+operand_place v c (I n) = None
+
+-- the type of a marked immediate: a null of a class, an array kind or a signature; a function, whose
+-- address it is; a class's table; a kind's descriptor; a data array
+unfoldable pub mark_type : ShownImage → ℕ → Mark → Ty
+mark_type v n mark =
+    if mark.tag == 1 then Ref mark.index
+    else if mark.tag == 3 then ArrRef mark.index
+    else if mark.tag == 5 then Fun mark.index
+    else if mark.tag == 6 then option_map_or Code (v.function_at n) Junk
+    else if mark.tag == 7 then Tab mark.index
+    else if mark.tag == 8 then Desc mark.index
+    else if mark.tag == 10 then option_map_or Arr (v.data_kind mark.index) Junk
+    else Junk
+
+-- the type of an immediate of the instruction at pc: a number where it has no mark
+unfoldable pub immediate_type : ShownImage → ℕ → ℕ → Ty
+immediate_type v pc n = option_map_or (mark_type v n) (v.mark_at pc) Num
+
+-- the type of an operand of the instruction at pc
+unfoldable pub type_of : ShownImage → LiveContext → ℕ → Operand → Ty
+type_of v c pc (R r) = c.regs r
+type_of v c pc (M m) = option_map_or (place_type c) (place_in v.shapes v.statics c m) Junk
+type_of v c pc (I n) = immediate_type v pc n
+
+-- ---- what rules ask of one operand
+
+abbrev pub is_esp : Option Reg → Bool
+is_esp r = option_map_or (λ q. same q Esp) r false
+
+-- rule 2: ESP is named as the base of a memory operand without an index alone
+unfoldable pub spares_esp : Operand → Bool
+spares_esp (R r) = not (same r Esp)
+spares_esp (M m) = not (is_esp m.index) && not (is_esp m.base && is_some m.index)
+spares_esp (I n) = true
+
+-- rule 3: a memory operand is a place
+unfoldable pub found : ShownImage → LiveContext → Operand → Bool
+found v c (M m) = is_some (place_in v.shapes v.statics c m)
+found v c (R r) = true
+found v c (I n) = true
+
+-- rule 4, of what is read
+unfoldable pub readable : ShownImage → LiveContext → Operand → Bool
+readable v c x = option_map_or is_readable (operand_place v c x) true
+
+-- rule 4, of what is written; an immediate is not
+unfoldable pub writable : ShownImage → LiveContext → Operand → Bool
+writable v c (M m) = option_map_or is_writable (place_in v.shapes v.statics c m) false
+writable v c (R r) = true
+writable v c (I n) = false
+
+-- rule 5
+unfoldable pub is_num : Ty → Bool
+is_num Num = true
+is_num _ = false
+
+-- rule 6: a value of the type may be stored there
+unfoldable pub storable : ShownImage → LiveContext → Ty → Operand → Bool
+storable v c t x = option_map_or (takes v.shapes t) (operand_place v c x) true

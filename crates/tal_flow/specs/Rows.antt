@@ -1,0 +1,117 @@
+-- The rows of CMP and TEST: the flag kind that they give, by their operands.
+use Rattle.std.specs.Prelude.{ℕ, ◌==◌, Bool, true, false, not, ◌&&◌, nat_lt, length, Option, Some, None, is_some, if◌then◌else◌}
+use Rattle.std.specs.Option.{option_map_or}
+use Rattle.ia32_code.specs.declared.instruction.Reg.{Reg}
+use Rattle.ia32_code.specs.declared.instruction.Reg.TheVariants.{Eax, Ecx, Edx, Ebx, Esp, Ebp, Esi, Edi}
+use Rattle.ia32_code.specs.declared.instruction.Operand.{Operand}
+use Rattle.ia32_code.specs.declared.instruction.Operand.TheVariants.{R, M, I}
+use Rattle.object_layout.specs.Classes.{ShapesView, depth}
+use Rattle.tal_types.specs.declared.types.Ty.{Ty}
+use Rattle.tal_types.specs.declared.types.Ty.TheVariants as ty
+use Rattle.tal_types.specs.declared.types.FlagKind.{FlagKind}
+use Rattle.tal_types.specs.declared.types.FlagKind.TheVariants as kind
+use Rattle.tal_types.specs.Contexts.{LiveContext, same}
+use Rattle.tal_types.specs.Shown.{ShownImage}
+use Rattle.tal_flow.specs.declared.places.Place.{Place}
+use Rattle.tal_flow.specs.declared.places.Place.TheVariants.{Length, Display}
+use Rattle.tal_flow.specs.declared.rows.Family.{Family}
+use Rattle.tal_flow.specs.declared.rows.Family.TheVariants.{Numbers, Objects, Arrays, Routines, Others}
+use Rattle.tal_flow.specs.Places.{place_in, operand_place, type_of, immediate_type}
+
+-- what CMP and TEST ask of a type
+unfoldable pub family : Ty → Family
+family ty.Num = Numbers
+family (ty.Ref c) = Objects
+family (ty.Obj c) = Objects
+family (ty.ArrRef k) = Arrays
+family (ty.Arr k) = Arrays
+family (ty.Fun g) = Routines
+family (ty.Code g) = Routines
+family _ = Others
+
+-- null is a value of some types of the family
+unfoldable pub has_null : Family → Bool
+has_null Objects = true
+has_null Arrays = true
+has_null Routines = true
+has_null _ = false
+
+-- the operand is the number 0
+unfoldable pub unmarked_zero : ShownImage → ℕ → Operand → Bool
+unmarked_zero v pc (I n) = (n == 0) && not (is_some (v.mark_at pc))
+unmarked_zero v pc _ = false
+
+abbrev pub class_of : Ty → Option ℕ
+class_of (ty.Tab c) = Some c
+class_of _ = None
+
+-- the class that an immediate is marked with
+unfoldable pub marked_class : ShownImage → ℕ → Operand → Option ℕ
+marked_class v pc (I n) = class_of (immediate_type v pc n)
+marked_class v pc _ = None
+
+abbrev pub base_of_length : Option Place → Option Reg → Option Reg
+base_of_length (Some Length) base = base
+base_of_length _ base = None
+
+-- the register of the array whose length the operand is
+unfoldable pub length_base : ShownImage → LiveContext → Operand → Option Reg
+length_base v c (M m) = base_of_length (place_in v.shapes v.statics c m) m.base
+length_base v c _ = None
+
+-- there is class c, and its depth is k
+unfoldable pub has_depth : ShapesView → ℕ → ℕ → Bool
+has_depth s c k = nat_lt c (length s.classes) && (depth s c == k)
+
+-- the register of lowest number whose object's table is in t
+unfoldable pub first_head : LiveContext → Reg → Option Reg
+first_head c t =
+    if c.heads t Eax then Some Eax
+    else if c.heads t Ecx then Some Ecx
+    else if c.heads t Edx then Some Edx
+    else if c.heads t Ebx then Some Ebx
+    else if c.heads t Esp then Some Esp
+    else if c.heads t Ebp then Some Ebp
+    else if c.heads t Esi then Some Esi
+    else if c.heads t Edi then Some Edi
+    else None
+
+unfoldable pub class_test : LiveContext → Reg → ℕ → FlagKind
+class_test c t d = option_map_or (λ r. kind.IsA r d) (first_head c t) kind.Eq
+
+-- the row of displays: the display at depth k of the table in t, with a class of that depth
+unfoldable pub display_row : ShapesView → LiveContext → Option Place → Option ℕ → Option FlagKind
+display_row s c (Some (Display t k)) (Some d) = if has_depth s d k then Some (class_test c t d) else None
+display_row s c _ _ = None
+
+abbrev pub bound_kind : Operand → Option Reg → FlagKind
+bound_kind (R i) (Some a) = kind.Bound i a
+bound_kind _ _ = kind.Num
+
+abbrev pub null_kind : Operand → FlagKind
+null_kind (R r) = kind.NullTest r
+null_kind _ = kind.Eq
+
+-- CMP d,x: the families f and g of their types, d's place, the array whose length x is, whether x is the
+-- number 0, and the class that x is marked with. There is no row where there is no kind
+unfoldable pub compare_row : ShapesView → LiveContext → Operand → Family → Family → Option Place → Option Reg → Bool → Option ℕ → Option FlagKind
+compare_row s c d Numbers Numbers place array zero class = Some (bound_kind d array)
+compare_row s c d Objects Objects place array zero class = Some kind.Eq
+compare_row s c d Arrays Arrays place array zero class = Some kind.Eq
+compare_row s c d f g place array zero class = if has_null f && zero then Some (null_kind d) else display_row s c place class
+
+unfoldable pub compare_kind : ShownImage → LiveContext → ℕ → Operand → Operand → Option FlagKind
+compare_kind v c pc d x =
+    compare_row v.shapes c d (family (type_of v c pc d)) (family (type_of v c pc x)) (operand_place v c d) (length_base v c x) (unmarked_zero v pc x) (marked_class v pc x)
+
+abbrev pub same_register : Operand → Operand → Bool
+same_register (R r) (R q) = same r q
+same_register _ _ = false
+
+-- TEST d,x: two numbers, or one register that may hold null
+unfoldable pub test_row : Operand → Family → Family → Bool → Option FlagKind
+test_row d Numbers Numbers alike = Some kind.Num
+test_row d f g alike = if alike && has_null f then Some (null_kind d) else None
+
+unfoldable pub test_kind : ShownImage → LiveContext → ℕ → Operand → Operand → Option FlagKind
+test_kind v c pc d x = test_row d (family (type_of v c pc d)) (family (type_of v c pc x)) (same_register d x)

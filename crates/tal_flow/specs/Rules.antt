@@ -1,0 +1,152 @@
+-- The rules of typing, 1 to 17, by the form of an instruction.
+use Rattle.std.specs.Prelude.{◌≡◌, ℕ, ◌+◌, ◌%◌, ◌^◌, ◌==◌, Bool, true, false, not, ◌&&◌, ◌||◌, nat_le, nat_lt, length, Option, Some, None, is_some}
+use Rattle.std.specs.List.{list_all}
+use Rattle.std.specs.Option.{option_and_then, option_map_or, option_or}
+use Rattle.ia32_code.specs.declared.instruction.Reg.{Reg}
+use Rattle.ia32_code.specs.declared.instruction.Reg.TheVariants.{Eax, Esp}
+use Rattle.ia32_code.specs.declared.instruction.Mem.{Mem}
+use Rattle.ia32_code.specs.declared.instruction.Inst.{Inst}
+use Rattle.object_layout.specs.Classes.{ShapesView}
+use Rattle.tal_types.specs.declared.types.Ty.{Ty}
+use Rattle.tal_types.specs.declared.types.Ty.TheVariants.{Num}
+use Rattle.tal_types.specs.declared.signatures.Sig.{Sig}
+use Rattle.tal_types.specs.declared.views.Span.{Span}
+use Rattle.tal_types.specs.Types.{sub}
+use Rattle.tal_types.specs.Contexts.{LiveContext, ContextView, Dead, Live, same, context_below}
+use Rattle.tal_types.specs.Shown.{ShownImage}
+use Rattle.tal_flow.specs.declared.forms.Form.{Form}
+use Rattle.tal_flow.specs.declared.forms.Form.TheVariants.{Refused, Compute, Move, Address, Compare, TestBits, PushOf, PopTo, DropSlots, CallTo, CallBy, Return, Jump, Branch, Nothing}
+use Rattle.tal_flow.specs.Forms.{form_of}
+use Rattle.tal_flow.specs.Places.{spares_esp, is_esp, found, readable, writable, is_num, storable, type_of}
+use Rattle.tal_flow.specs.Rows.{compare_kind, test_kind}
+use Rattle.tal_flow.specs.Calls.{call_to, call_by, is_callable, is_fit}
+use Rattle.tal_flow.specs.Afterwards.{slots_in}
+use Rattle.tal_flow.specs.Edges.{allows, falling, branching, target_of, falls_to, branches_to}
+
+-- rule n, where its test fails, and else the rules that follow
+abbrev pub demand : ℕ → Bool → Option ℕ → Option ℕ
+demand n true rest = rest
+demand n false rest = Some n
+
+-- the address lies in the function that has the byte at pc
+unfoldable pub in_function : ShownImage → ℕ → ℕ → Bool
+in_function v pc address = option_map_or (λ (span : Span). nat_le span.start address && nat_lt address span.end) (v.function_of pc) false
+
+-- rule 13: the type is below the result of the function that has the byte at pc
+unfoldable pub fits_result : ShownImage → ℕ → Ty → Bool
+fits_result v pc t = option_map_or (λ (sig : Sig). sub v.shapes t sig.result) (option_and_then (λ (span : Span). v.sig span.sig) (v.function_of pc)) false
+
+-- rule 14: a block of the same function begins there
+unfoldable pub is_target : ShownImage → ℕ → ℕ → Bool
+is_target v pc address = is_some (v.block_at address) && in_function v pc address
+
+-- rule 2, of LEA, whose operand names no ESP
+unfoldable pub address_spares_esp : Reg → Mem → Bool
+address_spares_esp r m = not (same r Esp) && (not (is_esp m.base) && not (is_esp m.index))
+
+-- rule 5, of LEA: base and index
+unfoldable pub address_is_num : LiveContext → Mem → Bool
+address_is_num c m = option_map_or (λ q. is_num (c.regs q)) m.base true && option_map_or (λ q. is_num (c.regs q)) m.index true
+
+-- rule 8, of ADD ESP: so many slots are there
+unfoldable pub may_drop : LiveContext → ℕ → Bool
+may_drop c bytes = option_map_or (λ n. nat_le n (length c.slots)) (slots_in bytes) false
+
+-- the least of the rules 1 to 15 that fails, by the instruction's form
+unfoldable pub operand_rule : ShownImage → LiveContext → ℕ → Form → Option ℕ
+operand_rule v c pc Refused = Some 1
+operand_rule v c pc (Compute sources d wide kind) =
+    demand 2 (list_all spares_esp sources && spares_esp d) (
+    demand 3 (list_all (found v c) sources && found v c d) (
+    demand 4 (list_all (readable v c) sources && writable v c d) (
+    demand 5 (list_all (λ x. is_num (type_of v c pc x)) sources && storable v c Num d) None)))
+operand_rule v c pc (Move d x) =
+    demand 2 (spares_esp d && spares_esp x) (
+    demand 3 (found v c d && found v c x) (
+    demand 4 (writable v c d && readable v c x) (
+    demand 6 (storable v c (type_of v c pc x) d) None)))
+operand_rule v c pc (Address r m) =
+    demand 2 (address_spares_esp r m) (
+    demand 5 (address_is_num c m) None)
+operand_rule v c pc (Compare d x) =
+    demand 2 (spares_esp d && spares_esp x) (
+    demand 3 (found v c d && found v c x) (
+    demand 9 (is_some (compare_kind v c pc d x)) None))
+operand_rule v c pc (TestBits d x) =
+    demand 2 (spares_esp d && spares_esp x) (
+    demand 3 (found v c d && found v c x) (
+    demand 4 (readable v c d && readable v c x) (
+    demand 9 (is_some (test_kind v c pc d x)) None)))
+operand_rule v c pc (PushOf x) =
+    demand 2 (spares_esp x) (
+    demand 3 (found v c x) (
+    demand 4 (readable v c x) (
+    demand 7 (nat_lt (length c.slots) 64) None)))
+operand_rule v c pc (PopTo r) =
+    demand 2 (not (same r Esp)) (
+    demand 8 (nat_le 1 (length c.slots)) None)
+operand_rule v c pc (DropSlots bytes) =
+    demand 8 (may_drop c bytes) None
+operand_rule v c pc (CallTo address) =
+    demand 10 (is_callable (call_to v c address)) (
+    demand 11 (is_fit (call_to v c address)) None)
+operand_rule v c pc (CallBy x) =
+    demand 2 (spares_esp x) (
+    demand 3 (found v c x) (
+    demand 4 (readable v c x) (
+    demand 10 (is_callable (call_by v c (type_of v c pc x))) (
+    demand 11 (is_fit (call_by v c (type_of v c pc x))) None))))
+operand_rule v c pc Return =
+    demand 12 (length c.slots == 0) (
+    demand 13 (fits_result v pc (c.regs Eax)) None)
+operand_rule v c pc (Jump address) =
+    demand 14 (is_target v pc address) None
+operand_rule v c pc (Branch condition address) =
+    demand 14 (is_target v pc address) (
+    demand 15 (allows c.kind condition) None)
+operand_rule v c pc Nothing = None
+
+-- rule 16: what is known on an edge is below the block's annotation, where the edge comes to a block
+unfoldable pub edge_fits : ShapesView → ContextView → Option ContextView → Bool
+edge_fits s c block = option_map_or (context_below s c) block true
+
+unfoldable pub is_dead : ContextView → Bool
+is_dead Dead = true
+is_dead (Live c) = false
+
+-- the rules 16 and 17, on both edges
+unfoldable pub edge_rule : ShownImage → LiveContext → ℕ → ℕ → Form → Option ℕ
+edge_rule v c pc next form =
+    demand 16 (edge_fits v.shapes (branching v c form) (option_and_then v.block_at (target_of form)) && edge_fits v.shapes (falling v c pc form) (v.block_at next)) (
+    demand 17 (is_dead (falling v c pc form) || in_function v pc next) None)
+
+-- the least rule that fails at the instruction at pc of this form, with the next one at `next`, or none.
+-- In the dead context each rule but 1 holds
+unfoldable pub rule_of_form : ShownImage → ContextView → ℕ → ℕ → Form → Option ℕ
+rule_of_form v Dead pc next Refused = Some 1
+rule_of_form v Dead pc next form = None
+rule_of_form v (Live c) pc next form = option_or (operand_rule v c pc form) (edge_rule v c pc next form)
+
+-- the address behind an instruction, modulo 2^32
+unfoldable pub next_of : ℕ → ℕ → ℕ
+next_of pc len = (pc + len) % 2 ^ 32
+
+-- the least rule that fails at an instruction, or none
+unfoldable pub rule_of : ShownImage → ContextView → ℕ → Inst → ℕ → Option ℕ
+rule_of v c pc inst len = rule_of_form v c pc (next_of pc len) (form_of (next_of pc len) inst)
+
+-- rule n is the least that fails at the instruction
+abbrev pub RuleFails : ShownImage → ContextView → ℕ → Inst → ℕ → ℕ → Type 0
+RuleFails v c pc inst len n = rule_of v c pc inst len ≡ Some n
+
+-- what falls through an instruction
+unfoldable pub Falls : ShownImage → ContextView → ℕ → Inst → ℕ → ContextView
+Falls v c pc inst len = falls_to v c pc (form_of (next_of pc len) inst)
+
+-- what its jump or branch takes along
+unfoldable pub Branches : ShownImage → ContextView → ℕ → Inst → ℕ → ContextView
+Branches v c pc inst len = branches_to v c (form_of (next_of pc len) inst)
+
+-- where its jump or branch goes
+unfoldable pub Target : ℕ → Inst → ℕ → Option ℕ
+Target pc inst len = target_of (form_of (next_of pc len) inst)

@@ -1,0 +1,82 @@
+-- The strongest context at each instruction.
+use Rattle.std.specs.Prelude.{◌≡◌, ℕ, ◌<◌, ◌==◌, true, List, [], ◌∷◌, Option, Some, None, if◌then◌else◌}
+use Rattle.std.specs.Option.{option_map, option_and_then, option_or}
+use Rattle.ia32_code.specs.declared.instruction.Reg.{Reg}
+use Rattle.ia32_code.specs.declared.instruction.Inst.{Inst}
+use Rattle.tal_types.specs.Contexts.{LiveContext, ContextView, Dead, Live, ContextBelow, entry}
+use Rattle.tal_types.specs.Shown.{ShownImage}
+use Rattle.tal_flow.specs.Rules.{rule_of, next_of, Falls}
+
+-- an instruction of the code, with its address and the length of its spelling
+pub record Placed : Type 0 where
+  pub pc : ℕ
+  pub inst : Inst
+  pub len : ℕ
+
+-- the least rule that fails at it
+abbrev pub rule_at : ShownImage → ContextView → Placed → Option ℕ
+rule_at v c x = rule_of v c x.pc x.inst x.len
+
+-- what falls through it
+abbrev pub falls_from : ShownImage → ContextView → Placed → ContextView
+falls_from v c x = Falls v c x.pc x.inst x.len
+
+-- what an address has by itself: at a function's first instruction the context of its signature, and at a
+-- block the annotation
+unfoldable pub known_at : ShownImage → ℕ → Option ContextView
+known_at v pc = option_or (option_map entry (option_and_then v.sig (v.function_at pc))) (v.block_at pc)
+
+abbrev pub carried : ContextView → Option ContextView → ContextView
+carried c None = c
+carried c (Some d) = d
+
+-- the context at an address: its own, or else what falls to it
+unfoldable pub start : ShownImage → ℕ → ContextView → ContextView
+start v pc c = carried c (known_at v pc)
+
+-- the contexts of instructions that lie one after another, where c falls to the first
+abbrev pub contexts : ShownImage → List Placed → ContextView → List ContextView
+contexts v [] c = []
+contexts v (x ∷ xs) c = start v x.pc c ∷ contexts v xs (falls_from v (start v x.pc c) x)
+
+unfoldable pub at_in : ShownImage → List Placed → ContextView → ℕ → ContextView
+at_in v [] c pc = Dead
+at_in v (x ∷ xs) c pc = if x.pc == pc then start v x.pc c else at_in v xs (falls_from v (start v x.pc c) x) pc
+
+-- the strongest context at the instruction at pc, dead where nothing falls to it
+unfoldable pub At : ShownImage → List Placed → ℕ → ContextView
+At v xs pc = at_in v xs Dead pc
+
+-- no rule fails at any instruction, in the context that stands for it in the list
+abbrev pub NoneFails : ShownImage → List Placed → List ContextView → Type 0
+NoneFails v [] cs = Unit {0}
+NoneFails v (x ∷ xs) [] = ⊥
+NoneFails v (x ∷ xs) (c ∷ cs) = (rule_at v c x ≡ None) × NoneFails v xs cs
+
+-- each context is above what its address has by itself, or else above what falls to it
+abbrev pub Joined : ShownImage → List Placed → List ContextView → ContextView → Type 0
+Joined v [] cs falls = Unit {0}
+Joined v (x ∷ xs) [] falls = ⊥
+Joined v (x ∷ xs) (c ∷ cs) falls = ContextBelow v.shapes (start v x.pc falls) c × Joined v xs cs (falls_from v c x)
+
+-- the instruction at an address
+unfoldable pub placed_at : List Placed → ℕ → Option Placed
+placed_at [] pc = None
+placed_at (x ∷ xs) pc = if x.pc == pc then Some x else placed_at xs pc
+
+-- each instruction begins where the one before ends, from n on, and addresses rise
+abbrev pub Chained : ℕ → List Placed → Type 0
+Chained n [] = Unit {0}
+Chained n (x ∷ xs) = (x.pc ≡ n) × (n < next_of x.pc x.len) × Chained (next_of x.pc x.len) xs
+
+-- no table register has two heads
+abbrev pub OneHead : LiveContext → Type 0
+OneHead c = (t r q : Reg) → c.heads t r ≡ true → c.heads t q ≡ true → r ≡ q
+
+abbrev pub HasOneHead : ContextView → Type 0
+HasOneHead Dead = Unit {0}
+HasOneHead (Live c) = OneHead c
+
+-- no block's annotation gives a table register two heads; those of an image have no heads at all
+abbrev pub BlocksHaveOneHead : ShownImage → Type 0
+BlocksHaveOneHead v = (pc : ℕ) (c : ContextView) → v.block_at pc ≡ Some c → HasOneHead c

@@ -1,0 +1,28 @@
+// What each instruction of typed assembly asks of what is known before it, and what it leaves.
+//
+// `place_of` says what a memory operand means, and `flow` tries the rules of typing at an instruction: it
+// answers the least rule that fails, or where runs go from there (`Edges`), and turns the context into
+// what is known where the instruction falls through. Neither allocates. The definitions stand in
+// `specs/`: `Forms` (instructions by what typing says of them), `Places`, `Rows` (CMP and TEST), `Calls`,
+// `Afterwards`, `Edges`, `Rules` and `Strongest` (the context at each instruction, `At`); what holds of
+// them in the module `laws`.
+#![tactic(auto)]
+
+mod afterwards;
+mod calls;
+mod edges;
+mod flowing;
+mod forms;
+mod known;
+pub mod laws;
+mod operands;
+mod places;
+mod rows;
+mod rules;
+
+pub use edges::{Edges, Rule};
+pub use flowing::flow;
+pub use places::{Place, place_of};
+
+#[cfg(test)]
+mod tests;

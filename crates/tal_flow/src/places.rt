@@ -1,0 +1,168 @@
+ghost use Rattle.std.specs.Prelude.{◌≡◌, Option, Some, None};
+ghost use Rattle.object_layout.specs.Classes.{word_index};
+ghost use Rattle.tal_types.specs.Kept.{live_of, context_of};
+ghost use Rattle.tal_flow.specs.Places.{whole, static_place, slot_place, object_place, array_place, element_place, display_place, table_place, based, place_in, PlaceType};
+
+use crate::known::{has_pair, register};
+use ia32_code::{Mem, Reg};
+use object_layout::{FieldTy, Shapes};
+use tal_types::{Context, Ty};
+
+/// What a memory operand means.
+#[derive(Clone, Copy, Debug, PartialEq, Eq)]
+pub enum Place {
+    /// a static, a field or an element, with its type
+    Whole(Ty),
+    /// a slot of the frame, by its number
+    Slot(u32),
+    /// the length of the array in the base register
+    Length,
+    /// the table of the object in the register, of a class
+    Head(Reg, u32),
+    /// a method in a class's table, by the number of its signature
+    Method(u32),
+    /// the ancestor at a depth, 0 to 7, in the table in the register
+    Display(Reg, u32),
+}
+
+/// Which word of those from byte `first` on stands at a byte.
+#[tactic(auto, unfolding(object_layout::specs::Classes::word_index))]
+pub(crate) fn word_index(first: u32, byte: u32) -> Option<u32>
+    ensures { result ≡ word_index first byte }
+{
+    if byte < first || (byte - first) % 4 != 0 {
+        return None;
+    }
+    Some((byte - first) / 4)
+}
+
+/// A place that holds values of a field's type.
+fn whole(field: Option<FieldTy>) -> Option<Place>
+    ensures { result ≡ whole field }
+{
+    Some(Place::Whole(Ty::from(field?)))
+}
+
+#[tactic(auto, unfolding(crate::specs::Places::static_place))]
+fn static_place(statics: &[FieldTy], disp: u32) -> Option<Place>
+    ensures { result ≡ static_place statics.now disp }
+{
+    let j = word_index(0x300000, disp)?;
+    whole(statics.get(j as usize).copied())
+}
+
+#[tactic(auto, unfolding(crate::specs::Places::slot_place, tal_types::specs::Kept::live_of))]
+fn slot_place(context: &Context, disp: u32) -> Option<Place>
+    ensures { result ≡ slot_place (live_of context.now) disp }
+{
+    let i = word_index(0, disp)?;
+    context.slots().get(i as usize)?;
+    Some(Place::Slot(i))
+}
+
+#[tactic(auto, unfolding(crate::specs::Places::object_place))]
+fn object_place(shapes: &Shapes, r: Reg, c: u32, disp: u32) -> Option<Place>
+    ensures { result ≡ object_place shapes.now r c disp }
+{
+    if disp == 0 {
+        Some(Place::Head(r, c))
+    } else {
+        whole(shapes.field_at(c, disp))
+    }
+}
+
+#[tactic(auto, unfolding(crate::specs::Places::array_place))]
+fn array_place(disp: u32) -> Option<Place>
+    ensures { result ≡ array_place disp }
+{
+    if disp == 4 { Some(Place::Length) } else { None }
+}
+
+#[tactic(auto, unfolding(crate::specs::Places::element_place, tal_types::specs::Kept::live_of))]
+fn element_place(
+    shapes: &Shapes,
+    context: &Context,
+    a: Reg,
+    k: u32,
+    i: Reg,
+    mem: &Mem,
+) -> Option<Place>
+    ensures { result ≡ element_place shapes.now (live_of context.now) a k i mem.now.scale mem.now.disp }
+{
+    if has_pair(context.pairs, i, a) && mem.scale == 2 && mem.disp == 8 {
+        whole(shapes.element_of(k))
+    } else {
+        None
+    }
+}
+
+#[tactic(auto, unfolding(crate::specs::Places::display_place))]
+fn display_place(t: Reg, disp: u32) -> Option<Place>
+    ensures { result ≡ display_place t disp }
+{
+    let depth = word_index(12, disp)?;
+    if depth <= 7 {
+        Some(Place::Display(t, depth))
+    } else {
+        None
+    }
+}
+
+#[tactic(auto, unfolding(crate::specs::Places::table_place))]
+fn table_place(shapes: &Shapes, t: Reg, c: u32, disp: u32) -> Option<Place>
+    ensures { result ≡ table_place shapes.now t c disp }
+{
+    if disp >= 44 {
+        Some(Place::Method(shapes.slot_at(c, disp)?))
+    } else {
+        display_place(t, disp)
+    }
+}
+
+/// The place at a base register other than ESP.
+#[tactic(auto, unfolding(crate::specs::Places::based))]
+fn based(shapes: &Shapes, context: &Context, r: Reg, mem: &Mem) -> Option<Place>
+    ensures { result ≡ based shapes.now (live_of context.now) r ((live_of context.now).regs r) mem.now.index mem.now.scale mem.now.disp }
+{
+    match (register(context, r), mem.index) {
+        (Ty::Obj(c), None) => object_place(shapes, r, c, mem.disp),
+        (Ty::Arr(_), None) => array_place(mem.disp),
+        (Ty::Arr(k), Some(i)) => element_place(shapes, context, r, k, i, mem),
+        (Ty::Tab(c), None) => table_place(shapes, r, c, mem.disp),
+        _ => None,
+    }
+}
+
+/// What a memory operand means in a context that is not dead.
+#[tactic(auto, unfolding(crate::specs::Places::place_in, tal_types::specs::Contexts::same))]
+pub(crate) fn place_in(
+    shapes: &Shapes,
+    statics: &[FieldTy],
+    context: &Context,
+    mem: &Mem,
+) -> Option<Place>
+    ensures { result ≡ place_in shapes.now statics.now (live_of context.now) mem.now }
+{
+    match (mem.base, mem.index) {
+        (None, None) => static_place(statics, mem.disp),
+        (None, Some(_)) => None,
+        (Some(Reg::Esp), None) => slot_place(context, mem.disp),
+        (Some(Reg::Esp), Some(_)) => None,
+        (Some(r), _) => based(shapes, context, r, mem),
+    }
+}
+
+/// What a memory operand means where `context` is known; none where it is no place. A dead context tells
+/// nothing of registers and slots: statics alone are places in it.
+#[tactic(auto, unfolding(crate::specs::Places::PlaceType, tal_types::specs::Kept::context_of))]
+pub fn place_of(shapes: &Shapes, statics: &[FieldTy], context: &Context, mem: &Mem) -> Option<Place>
+    ensures { result ≡ PlaceType shapes.now statics.now (context_of context.now) mem.now }
+{
+    if !context.dead {
+        return place_in(shapes, statics, context, mem);
+    }
+    if mem.base.is_some() || mem.index.is_some() {
+        return None;
+    }
+    static_place(statics, mem.disp)
+}
