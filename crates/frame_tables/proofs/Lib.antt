@@ -1,0 +1,4 @@
+mod Rows
+mod Keeping
+mod Lookup
+mod Frames

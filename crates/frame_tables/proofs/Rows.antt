@@ -1,0 +1,60 @@
+-- Rows, each different one once, and the keys under which they are kept.
+use Rattle.std.proofs.Common.{ℕ, zero, suc, ◌≡◌, ◌<◌, ◌≤◌, Bool, true, false, ◌||◌, List, [], ◌∷◌, ◌++◌, map, length, slice_get, Some, fold, ap, refl, arith, length-append, if◌then◌else◌}
+use Rattle.std.proofs.lemmas.Bool.Decides.{nat_tests}
+use Rattle.std.proofs.lemmas.List.{map-append}
+use Rattle.std.specs.List.{list_any}
+use Rattle.tal_types.specs.declared.FrameRow.{FrameRow}
+use Rattle.frame_tables.specs.FrameRows.{RowAt, same_row, joined, different_rows}
+use Rattle.frame_tables.specs.Layout.{row_of, numbered}
+
+-- A row more at the end is joined to the different ones.
+pub different_rows-append : (table : List RowAt) (r : RowAt) → different_rows (table ++ r ∷ []) ≡ joined (different_rows table) r.row
+different_rows-append table r = grow table []
+  where
+    grow : (table : List RowAt) (rows : List FrameRow) → fold joined rows (map (λ x. x.row) (table ++ r ∷ [])) ≡ joined (fold joined rows (map (λ x. x.row) table)) r.row
+    grow [] rows = refl
+    grow (x ∷ table) rows = grow table (joined rows x.row)
+
+-- Joining a row keeps the numbers of the others.
+pub numbered-joined : (rows : List FrameRow) (row : FrameRow) (n : ℕ) → n < length rows → numbered (joined rows row) n ≡ numbered rows n
+numbered-joined rows row n below = by_case (list_any (same_row row) rows)
+  where
+    front : (rs : List FrameRow) (k : ℕ) → k < length rs → numbered (rs ++ row ∷ []) k ≡ numbered rs k
+    front [] k below = absurd (omega arith)
+    front (r ∷ rs) zero below = refl
+    front (r ∷ rs) (suc k) below = front rs k (omega arith)
+
+    by_case : (b : Bool) → numbered (if b then rows else rows ++ row ∷ []) n ≡ numbered rows n
+    by_case true = refl
+    by_case false = front rows n below
+
+-- There are no fewer rows after one was joined.
+pub length-joined : (rows : List FrameRow) (row : FrameRow) → length rows ≤ length (joined rows row)
+length-joined rows row = by_case (list_any (same_row row) rows)
+  where
+    by_case : (b : Bool) → length rows ≤ length (if b then rows else rows ++ row ∷ [])
+    by_case true = omega arith
+    by_case false = grind (arith, length-append)
+
+-- Rows that say the same are the same.
+pub same_row-is : (a b : FrameRow) → same_row a b ≡ true → a ≡ b
+same_row-is a b same = grind (arith, nat_tests)
+
+-- A key is among the kept ones where its row is.
+pub list_any-row_of : (row : FrameRow) (ks : List (ℕ × ℕ × ℕ)) → list_any (same_row row) (map row_of ks) ≡ list_any (λ k. same_row row (row_of k)) ks
+list_any-row_of row [] = refl
+list_any-row_of row (k ∷ ks) = ap (λ b. same_row row (row_of k) || b) (list_any-row_of row ks)
+
+-- Where a key joins the kept ones, its row joins theirs.
+pub map-row_of-joined : (row : FrameRow) (ks : List (ℕ × ℕ × ℕ)) → map row_of (if list_any (λ k. same_row row (row_of k)) ks then ks else ks ++ (row.regs, row.slots, row.refs) ∷ []) ≡ joined (map row_of ks) row
+map-row_of-joined row ks = rw (list_any-row_of row ks) (by_case (list_any (λ k. same_row row (row_of k)) ks))
+  where
+    by_case : (b : Bool) → map row_of (if b then ks else ks ++ (row.regs, row.slots, row.refs) ∷ []) ≡ (if b then map row_of ks else map row_of ks ++ row ∷ [])
+    by_case true = refl
+    by_case false = map-append row_of ks _
+
+-- A key of this number has the row of this number.
+pub numbered-key : (ks : List (ℕ × ℕ × ℕ)) (n : ℕ) (k : ℕ × ℕ × ℕ) → slice_get ks n ≡ Some k → numbered (map row_of ks) n ≡ row_of k
+numbered-key [] n k at = cc
+numbered-key (x ∷ ks) zero k at = let is : x ≡ k = let at : Some x ≡ Some k = at in grind arith in rw is refl
+numbered-key (x ∷ ks) (suc n) k at = numbered-key ks n k at

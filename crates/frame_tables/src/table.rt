@@ -1,0 +1,147 @@
+// Rows of frames by address. Each different row is kept once, in a set that a hash searches; addresses are kept in
+// order, each with the number of its row, and are searched by halving.
+ghost use Rattle.std.specs.Prelude.{ℕ, ◌≡◌, ◌≢◌, ◌<◌, ◌^◌, ◌∷◌, ◌++◌, [], All, IfOk, OnOk, OnErr, MatchOption, slice_index, length, map};
+ghost use Rattle.frame_tables.specs.FrameRows.{row_at, joined, different_rows};
+ghost use Rattle.frame_tables.specs.Layout.{Rises, row_of, numbered};
+
+use indexmap::IndexSet;
+use no_memory::NoMemory;
+use std::alloc::Global;
+use std::marker::Model;
+use tal_types::FrameRow;
+
+// Where this address stands among rising ones.
+fn find_address(addresses: &[u32], pc: u32) -> Option<usize>
+    requires { Rises addresses.now }
+    ensures { MatchOption result ((i : ℕ) → i < length addresses.now → slice_index addresses.now i ≢ pc) (λ i. (i < length addresses.now) × (slice_index addresses.now i ≡ pc)) }
+{
+    match addresses.binary_search(&pc) {
+        Ok(at) => Some(at),
+        Err(_) => None,
+    }
+}
+
+// The row of this number.
+fn kept_row(rows: &IndexSet<(u8, u8, u64)>, number: u32) -> FrameRow
+    requires { number < length rows.now.keys }
+    ensures { result ≡ numbered (map row_of rows.now.keys) number }
+{
+    let (regs, slots, refs) = *rows.get_index(number as usize).unwrap();
+    FrameRow { regs, slots, refs }
+}
+
+// Keeps a row, where it is not kept already, and answers its number. Numbers have 32 bits.
+fn keep_row(rows: &mut IndexSet<(u8, u8, u64)>, row: FrameRow) -> Result<u32, NoMemory>
+    ensures joined { OnOk result (map row_of rows.new.keys ≡ joined (map row_of rows.old.keys) row) }
+    ensures few { OnOk result (length rows.new.keys < 2 ^ 32) }
+    ensures number { IfOk result (λ n. (n < length rows.new.keys) × (numbered (map row_of rows.new.keys) n ≡ row)) }
+    ensures err { OnErr result (rows.new.keys ≡ rows.old.keys) }
+{
+    if rows.len() >= u32::MAX as usize {
+        return Err(NoMemory);
+    }
+    let (number, _) = rows.insert_full((row.regs, row.slots, row.refs))?;
+    Ok(number as u32)
+}
+
+/// The rows of frames by the addresses of instructions.
+#[derive(Drop)]
+pub struct FrameTable {
+    addresses: Vec<u32>,
+    numbers: Vec<u32>,
+    rows: IndexSet<(u8, u8, u64)>,
+}
+
+impl Model for FrameTable {
+    ghost use Rattle.std.specs.Prelude.{List, map};
+    ghost use Rattle.frame_tables.specs.FrameRows.{RowAt};
+    ghost use Rattle.frame_tables.specs.Layout.{row_of, rows_at, IsKept};
+
+    ghost Value = { List RowAt };
+
+    ghost view = { λ t. rows_at (map row_of t.rows.keys) t.addresses.items t.numbers.items };
+
+    ghost invariant = { λ t. IsKept (map row_of t.rows.keys) t.addresses.items t.numbers.items };
+}
+
+impl FrameTable {
+    /// No rows yet. It takes no memory.
+    pub fn new(alloc: Global) -> FrameTable
+        ensures { result ≡ [] }
+    {
+        FrameTable {
+            addresses: Vec::new(alloc),
+            numbers: Vec::new(alloc),
+            rows: IndexSet::new(alloc),
+        }
+    }
+
+    /// Keeps the row of the instruction at `pc`, which is above every address so far.
+    pub fn push(&mut self, pc: u32, row: FrameRow) -> Result<(), NoMemory>
+        requires { All (λ r. r.pc < pc) self.old }
+        ensures ok { OnOk result (self.new ≡ self.old ++ record { pc = pc; row = row } ∷ []) }
+        ensures err { OnErr result (self.new ≡ self.old) }
+    {
+        self.addresses.reserve(1)?;
+        self.numbers.reserve(1)?;
+        let number = keep_row(&mut self.rows, row)?;
+        self.addresses.push_reserved(pc);
+        self.numbers.push_reserved(number);
+        Ok(())
+    }
+
+    /// The row at `pc`. None exactly where no instruction begins there.
+    pub fn row(&self, pc: u32) -> Option<FrameRow>
+        ensures { result ≡ row_at self.now pc }
+    {
+        match find_address(&self.addresses, pc) {
+            Some(at) => Some(kept_row(&self.rows, self.numbers[at])),
+            None => None,
+        }
+    }
+
+    /// How many different rows there are.
+    pub fn distinct(&self) -> u32
+        ensures { result ≡ length (different_rows self.now) }
+    {
+        self.rows.len() as u32
+    }
+}
+
+#[cfg(test)]
+mod tests {
+    use super::*;
+    use std::test::Fail;
+
+    #[test]
+    fn rows_are_found_at_their_addresses(rt: HostRuntime) -> Result<(), Fail> {
+        let mut table = FrameTable::new(rt.alloc());
+        assert_eq!(rt; table.row(0x100000), None);
+        let one = FrameRow {
+            regs: 0,
+            slots: 0,
+            refs: 0,
+        };
+        let other = FrameRow {
+            regs: 1,
+            slots: 3,
+            refs: 5,
+        };
+        table.push(0x100000, one)?;
+        assert_eq!(rt; table.row(0x100001), None);
+        table.push(0x100005, other)?;
+        table.push(0x100006, one)?;
+        let rows = [
+            (0x100000, Some(one)),
+            (0x100004, None),
+            (0x100005, Some(other)),
+            (0x100006, Some(one)),
+            (0x100007, None),
+        ];
+        for (pc, want) in rows {
+            assert_eq!(rt; table.row(pc), want, "at {pc:X}");
+        }
+        assert_eq!(rt; table.distinct(), 2);
+        Ok(())
+    }
+}
