@@ -1,0 +1,10 @@
+pub mod SizeClasses
+pub mod Chains
+pub mod Removal
+pub mod LinkWrites
+pub mod LinkChanges
+pub mod Listing
+pub mod Standing
+pub mod Search
+pub mod TakenBlocks
+pub mod Taking

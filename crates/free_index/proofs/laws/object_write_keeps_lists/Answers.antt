@@ -1,0 +1,5 @@
+use Rattle.free_index.proofs.Standing.{object-write}
+use Rattle.free_index.proofs.laws.object_write_keeps_lists.Goals as goal
+
+pub returns : goal.returns
+returns c = object-write

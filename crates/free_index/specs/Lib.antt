@@ -1,0 +1,4 @@
+pub mod Classes
+pub mod Free
+pub mod Lists
+pub mod Steps

@@ -1,0 +1,6 @@
+pub mod HeaderLaws
+pub mod Places
+pub mod BlockLists
+pub mod Writes
+pub mod Cuts
+pub mod NewHeap

@@ -1,0 +1,9 @@
+pub mod Keeping
+pub mod Counting
+pub mod Steps
+pub mod Scanning
+pub mod Sweeps
+pub mod Collects
+pub mod Totals
+pub mod GoodWords
+pub mod ObjectWords

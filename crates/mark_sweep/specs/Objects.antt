@@ -1,0 +1,53 @@
+use Rattle.std.specs.Prelude.{◌≡◌, ℕ, ◌+◌, ◌-◌, ◌*◌, ◌/◌, ◌<◌, ◌≤◌, ◌&&◌, Bool, true, false, List, slice_index, nat_lt, Option, Some, None, if◌then◌else◌}
+use Rattle.heap_words.specs.Headers.{size_at}
+use Rattle.heap_words.specs.Blocks.{IsUsed}
+use Rattle.object_layout.specs.Classes.{ShapesView, IsShape, need, field_at, element, table_address, descriptor_address}
+use Rattle.object_layout.specs.declared.rows.FieldTy.{FieldTy}
+use Rattle.object_layout.specs.declared.rows.FieldTy.TheVariants.{Num, Ref, ArrRef, Fun}
+use Rattle.object_layout.specs.declared.rows.Shape.{Shape}
+use Rattle.object_layout.specs.declared.rows.Shape.TheVariants.{Class, Kind}
+
+-- An object stands in a used block behind the two words of its block. Its first word names its shape: it is the
+-- address of a class's table or of a kind's descriptor. Its words are counted from this one on.
+
+-- the address of the object in the block at i, in a heap that begins at 0x800000
+unfoldable pub address : ℕ → ℕ
+address i = 0x800000 + 4 * (i + 2)
+
+-- the shape that an object's first word names: descriptors stand from 0x280000 on, tables below
+unfoldable pub shape_named : ℕ → Shape
+shape_named word = if nat_lt word 0x280000 then Class ((word - 0x200000) / 256) else Kind ((word - 0x280000) / 16)
+
+-- the word that names a shape
+unfoldable pub shape_word : Shape → ℕ
+shape_word (Class c) = table_address c
+shape_word (Kind k) = descriptor_address k
+
+-- a field or an element of this type is a reference to an object or an array
+unfoldable pub is_reference : Option FieldTy → Bool
+is_reference (Some (Ref c)) = true
+is_reference (Some (ArrRef k)) = true
+is_reference (Some Num) = false
+is_reference (Some (Fun g)) = false
+is_reference None = false
+
+-- whether word k of an object is a reference field or element: a field's word k stands at byte 4k; an array
+-- has its length in word 1 and its elements from word 2 on
+unfoldable pub refers : ShapesView → Shape → ℕ → ℕ → Bool
+refers s (Class c) length k = is_reference (field_at s c (4 * k))
+refers s (Kind q) length k = (nat_lt 1 k && nat_lt k (2 + length)) && is_reference (element s q)
+
+-- an object stands in the block at i: the block is used, its third word is a class's table or a kind's
+-- descriptor, and its size is what an object of that shape needs
+pub record IsObject (s : ShapesView) (words : List ℕ) (i : ℕ) : Type 0 where
+  pub used : IsUsed words i
+  pub there : IsShape s (shape_named (slice_index words (i + 2)))
+  pub named : slice_index words (i + 2) ≡ shape_word (shape_named (slice_index words (i + 2)))
+  pub exact : size_at words i ≡ need s (shape_named (slice_index words (i + 2))) (slice_index words (i + 3))
+
+-- word k of the object in the block at i stands behind its first word, lies in the block, and is a reference
+-- field or element
+pub record IsReference (s : ShapesView) (words : List ℕ) (i k : ℕ) : Type 0 where
+  pub behind : 1 ≤ k
+  pub within : k + 2 < size_at words i
+  pub refers : refers s (shape_named (slice_index words (i + 2))) (slice_index words (i + 3)) k ≡ true

@@ -1,0 +1,33 @@
+ghost use Rattle.std.specs.Prelude.{◌≡◌, ◌<◌};
+ghost use Rattle.mark_sweep.specs.Objects.{is_reference, refers, shape_named};
+
+use object_layout::{FieldTy, Shapes};
+
+// Whether a field or an element of this type is a reference.
+#[tactic(auto, unfolding(crate::specs::Objects::is_reference))]
+fn is_reference(ty: Option<FieldTy>) -> bool
+    ensures { result ≡ is_reference ty }
+{
+    match ty {
+        Some(FieldTy::Ref(_)) => true,
+        Some(FieldTy::ArrRef(_)) => true,
+        Some(FieldTy::Num) => false,
+        Some(FieldTy::Fun(_)) => false,
+        None => false,
+    }
+}
+
+// Whether word `k` of the object with these first two words is a reference field or element.
+#[tactic(auto, unfolding(crate::specs::Objects::shape_named, crate::specs::Objects::refers))]
+pub fn refers(shapes: &Shapes, table: u32, length: u32, k: u32) -> bool
+    requires { k < 4194304 }
+    ensures { result ≡ refers shapes.now (shape_named table) length k }
+{
+    if table < 0x280000 {
+        let class = table.saturating_sub(0x200000) / 256;
+        is_reference(shapes.field_at(class, 4 * k))
+    } else {
+        let kind = (table - 0x280000) / 16;
+        1 < k && u64::from(k) < 2 + u64::from(length) && is_reference(shapes.element_of(kind))
+    }
+}
