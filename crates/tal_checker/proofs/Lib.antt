@@ -1,0 +1,14 @@
+pub mod SmallSpellings
+pub mod Stands
+pub mod Exits
+pub mod FixedFields
+pub mod Instructions
+pub mod OneFault
+pub mod KeptContexts
+pub mod ImageFiles
+pub mod ReadsBack
+pub mod WholeFiles
+pub mod RowLists
+pub mod StrongestContexts
+pub mod FirstRefusals
+pub mod SpelledRows

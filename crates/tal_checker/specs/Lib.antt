@@ -1,0 +1,16 @@
+pub mod Code
+pub mod Image
+pub mod Fields
+pub mod Types
+pub mod Contexts
+pub mod Forms
+pub mod Rules
+pub mod WellTyped
+pub mod Reading
+pub mod Small
+pub mod Headers
+pub mod FileLaws
+pub mod Flow
+pub mod Accepted
+pub mod Refusals
+pub mod Running
