@@ -1,0 +1,12 @@
+pub mod Arithmetic
+pub mod Values
+pub mod States
+pub mod Effects
+pub mod Turns
+pub mod Typing
+pub mod Shown
+pub mod Report
+pub mod Journal
+pub mod Machine
+pub mod Words
+pub mod Laws

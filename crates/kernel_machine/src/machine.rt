@@ -1,0 +1,232 @@
+ghost use Rattle.std.specs.Prelude.{◌≡◌, ◌≢◌, ◌≤◌, ◌<◌, ◌+◌, [], Some, None, IsSome, IfOk, is_some, length};
+ghost use Rattle.tal_checker.specs.Code.{code_start};
+ghost use Rattle.device_model.specs.EventFile.{InOrder};
+ghost use Rattle.kernel_machine.specs.Machine.{MachineView, Follows, turn_of, end_of};
+ghost use Rattle.kernel_machine.specs.Turns.{inst_at};
+ghost use Rattle.kernel_machine.specs.Words.{next_words};
+
+use crate::cpu::{Cpu, Step, execute};
+use crate::ending::Ending;
+use crate::journal::Journal;
+use crate::laws::words_stand;
+use crate::run_end::RunEnd;
+use crate::shown::Shown;
+use crate::turn::Turn;
+use device_model::Event;
+use ia32_code::{Decoded, Inst, decode};
+use no_memory::NoMemory;
+use stack_states::{FlagBits, StackState};
+use std::alloc::Global;
+use std::marker::Model;
+use tal_checker::{Checked, Image};
+
+/// The address of the first code byte.
+const CODE_START: u32 = 0x100000;
+
+/// ESP of stack 0 with its end word alone.
+const FIRST_ESP: u32 = 0x403FFC;
+
+/// How many cells the screen has.
+const CELLS: usize = 2000;
+
+/// A cell of the screen before it is written: a space with attribute 7.
+const BLANK: u16 = 0x0720;
+
+/// A machine over a checked image and recorded events.
+///
+/// It stands for a state of the typed machine that typing allows, so no turn tests for an ill typed step.
+#[derive(Drop)]
+pub struct Machine {
+    checked: Checked,
+    events: Vec<Event>,
+    /// ESP is that of stack 0.
+    cpu: Cpu,
+    turns: u32,
+    ending: Option<Ending>,
+    /// The words of stack 0, which alone runs so far, from the top.
+    stack: Vec<u32>,
+    cells: Vec<u16>,
+}
+
+impl Model for Machine {
+    ghost use Rattle.kernel_machine.specs.Machine.{MachineView, Lawful};
+    ghost use Rattle.kernel_machine.specs.Words.{viewed};
+
+    ghost Value = { MachineView };
+
+    ghost view = { λ m. viewed m.checked.image m.events.items m.cpu m.turns m.ending m.stack.items m.cells.items };
+
+    ghost invariant = { λ m. Lawful (viewed m.checked.image m.events.items m.cpu m.turns m.ending m.stack.items m.cells.items) };
+}
+
+// The instruction at an address, and the length of its spelling.
+#[tactic(auto, unfolding(crate::specs::Turns::inst_at))]
+fn inst_in(image: &Image, pc: u32) -> (Inst, u32)
+    requires low { code_start ≤ pc }
+    requires inside { pc ≤ code_start + length image.now.code }
+    requires whole { IsSome (inst_at image.now pc) }
+    ensures { inst_at image.now pc ≡ Some result }
+{
+    let (_, rest) = image.code().split_at((pc - CODE_START) as usize);
+    match decode(rest) {
+        Decoded::One { inst, len } => (inst, len as u32),
+        Decoded::Short | Decoded::Unknown => unreachable!(),
+    }
+}
+
+impl Machine {
+    /// A machine before its first turn: stack 0 runs at its function, with all registers 0 and all flags clear.
+    ///
+    /// The events' turns are 1 to 50000000 and do not fall. After `NoMemory` the image and the events are given up.
+    pub fn new(alloc: Global, checked: Checked, events: Vec<Event>) -> Result<Machine, NoMemory>
+        requires { InOrder events.items }
+        ensures follows { IfOk result (λ m. Follows m []) }
+        ensures image { IfOk result (λ m. m.image ≡ checked.image) }
+        ensures events { IfOk result (λ m. m.events ≡ events.items) }
+        ensures turns { IfOk result (λ m. m.turns ≡ 0) }
+        ensures ending { IfOk result (λ m. m.ending ≡ None) }
+    {
+        // The image is well typed.
+        let _image = checked.image();
+        words_stand();
+        let stack = vec![in alloc; 0u32; 1]?;
+        let cells = vec![in alloc; BLANK; CELLS]?;
+        let flags = FlagBits {
+            carry: false,
+            zero: false,
+            sign: false,
+            overflow: false,
+        };
+        let cpu = Cpu {
+            regs: [0, 0, 0, 0, FIRST_ESP, 0, 0, 0],
+            flags,
+            pc: CODE_START,
+        };
+        Ok(Machine {
+            checked,
+            events,
+            cpu,
+            turns: 0,
+            ending: None,
+            stack,
+            cells,
+        })
+    }
+
+    /// One turn. On a machine that has ended it changes nothing and answers the end again.
+    ///
+    /// It takes no memory, and always succeeds.
+    pub fn turn(&mut self, journal: &mut Journal) -> Turn
+        requires room { 1 ≤ journal.old.spare }
+        requires turns { self.old.turns < 50000000 }
+        ensures follows { Follows self.old journal.old.entries → Follows self.new journal.new.entries }
+        ensures image { self.new.image ≡ self.old.image }
+        ensures events { self.new.events ≡ self.old.events }
+        ensures more { self.old.ending ≡ None → self.new.turns ≡ self.old.turns + 1 }
+        ensures ended { IsSome self.old.ending → self.new ≡ self.old }
+
+        // No instruction makes an entry yet.
+        ensures journal { journal.new ≡ journal.old }
+        ensures answer { result ≡ turn_of self.new.ending }
+    {
+        words_stand();
+        if self.ending.is_none() {
+            self.step();
+        }
+        match self.ending {
+            None => Turn::On,
+            Some(Ending::Halted(number)) => Turn::Halted(number),
+            Some(Ending::KernelFault(vector)) => Turn::KernelFault(vector),
+        }
+    }
+
+    /// How many turns were taken.
+    pub fn turns_taken(&self) -> u32
+        ensures { result ≡ self.now.turns }
+    {
+        self.turns
+    }
+
+    /// The image that the machine was made over.
+    pub fn checked(&self) -> &Checked
+        ensures { result.now.image ≡ self.now.image }
+    {
+        &self.checked
+    }
+
+    /// The end, or `Turns` where there is none yet. It is never `NoMemory`.
+    pub fn end(&self) -> RunEnd
+        ensures value { result ≡ end_of self.now.ending }
+        ensures real { result ≢ RunEnd.NoMemory }
+    {
+        match self.ending {
+            None => RunEnd::Turns,
+            Some(Ending::Halted(number)) => RunEnd::Halted(number),
+            Some(Ending::KernelFault(vector)) => RunEnd::KernelFault(vector),
+        }
+    }
+
+    // One instruction of a machine that has not ended.
+    fn step(&mut self)
+        requires on { self.old.ending ≡ None }
+        requires turns { self.old.turns < 50000000 }
+        ensures { next_words self.old ≡ Some self.new }
+    {
+        words_stand();
+        let (inst, len) = inst_in(self.checked.image(), self.cpu.pc);
+        self.turns += 1;
+        match execute(&mut self.cpu, inst, len) {
+            Step::Next => {}
+            Step::Return => self.ending = Some(Ending::Halted(self.cpu.regs[0])),
+        }
+    }
+
+    // Whether there is an end.
+    pub(crate) fn has_ended(&self) -> bool
+        ensures { result ≡ is_some self.now.ending }
+    {
+        self.ending.is_some()
+    }
+}
+
+impl Shown for Machine {
+    ghost shown = { λ m. m.shown };
+
+    fn regs(&self) -> [u32; 8] {
+        self.cpu.regs
+    }
+
+    fn flags(&self) -> FlagBits {
+        self.cpu.flags
+    }
+
+    fn pc(&self) -> u32 {
+        self.cpu.pc
+    }
+
+    fn stacks(&self) -> u32 {
+        self.checked.image().stacks()
+    }
+
+    fn state(&self, stack: u32) -> StackState {
+        let _checked = &self.checked;
+        if stack == 0 {
+            StackState::Running
+        } else {
+            StackState::Empty
+        }
+    }
+
+    fn stack_words(&self, stack: u32) -> &[u32] {
+        if stack == 0 { &self.stack } else { &[] }
+    }
+
+    fn statics(&self) -> &[u32] {
+        let _checked = &self.checked;
+        &[]
+    }
+
+    fn cells(&self) -> &[u16] {
+        &self.cells
+    }
+}
