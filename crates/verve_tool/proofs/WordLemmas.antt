@@ -1,0 +1,40 @@
+-- Words of a command line.
+use Rattle.std.specs.Prelude.{Result, Ok, Err, String}
+use Rattle.std.specs.declared.alloc.Global.{Global}
+use Rattle.std.proofs.Common.{◌≡◌, ℕ, List, [], ◌∷◌, length, get_or, refl, sym, ◌∙◌, arith, Bool, true, false}
+use Rattle.std.specs.Prelude.{not, bytes_eq}
+use Rattle.std.proofs.lemmas.Slice.Eq.{bytes_eq-Decides}
+use mathlib.Core.Bool.{true≢false}
+
+-- a result is not Ok and Err at once
+apart : {T E : Type 0} (x : T) (e : E) → Ok x ≡ Err e → ⊥
+apart x e h = cc
+
+pub no_err : {T E : Type 0} (r : Result T E) (x : T) (e : E) → r ≡ Ok x → r ≡ Err e → ⊥
+no_err r x e ok err = apart x e (sym ok ∙ err)
+
+-- a result is Ok of one number
+pub same_ok : {E : Type 0} (r : Result ℕ E) (x y : ℕ) → r ≡ Ok x → r ≡ Ok y → x ≡ y
+same_ok r x y a b = cc
+
+-- four words are the list of them
+pub four_words : (words : List (String Global)) (a b c d : String Global) → length words ≡ 4 → a ≡ get_or words 0 a → b ≡ get_or words 1 b → c ≡ get_or words 2 c → d ≡ get_or words 3 d → words ≡ a ∷ b ∷ c ∷ d ∷ []
+four_words [] a b c d len h0 h1 h2 h3 = let bad : ⊥ = omega arith in absurd bad
+four_words (w ∷ []) a b c d len h0 h1 h2 h3 = let bad : ⊥ = omega arith in absurd bad
+four_words (w ∷ x ∷ []) a b c d len h0 h1 h2 h3 = let bad : ⊥ = omega arith in absurd bad
+four_words (w ∷ x ∷ y ∷ []) a b c d len h0 h1 h2 h3 = let bad : ⊥ = omega arith in absurd bad
+four_words (w ∷ x ∷ y ∷ z ∷ []) a b c d len h0 h1 h2 h3 = cc
+four_words (w ∷ x ∷ y ∷ z ∷ v ∷ rest) a b c d len h0 h1 h2 h3 = let bad : ⊥ = omega arith in absurd bad
+
+-- two texts that `!=` told apart
+pub told_apart : (xs ys : List ℕ) (b : Bool) → xs ≡ ys → b ≡ true → b ≡ not (bytes_eq xs ys) → ⊥
+told_apart xs ys b same t is = true≢false (sym t ∙ is ∙ (rw ((bytes_eq-Decides xs ys).1 same) refl))
+
+-- false is the negation of true alone
+not_true : (b : Bool) → false ≡ not b → b ≡ true
+not_true true h = refl
+not_true false h = absurd (true≢false (sym h))
+
+-- two texts that `!=` did not tell apart
+pub told_same : (xs ys : List ℕ) (b : Bool) → b ≡ false → b ≡ not (bytes_eq xs ys) → xs ≡ ys
+told_same xs ys b f is = (bytes_eq-Decides xs ys).0 (not_true _ (sym f ∙ is))

@@ -1,0 +1,46 @@
+-- The line on the error stream that tells what went wrong.
+use Rattle.std.specs.Prelude.{ℕ, List, ◌++◌, codes, decimal}
+use Rattle.kernel_machine.specs.Report.{word_text}
+use Rattle.tal_checker.specs.declared.fault.ImageFault.{ImageFault}
+use Rattle.tal_checker.specs.declared.fault.ImageFault.TheVariants as fault
+
+-- the words are no command
+abbrev pub usage_line : List ℕ
+usage_line = codes "usage\n"
+
+-- this file was not read
+abbrev pub read_line : List ℕ → List ℕ
+read_line name = codes "read " ++ name ++ codes "\n"
+
+-- the report was not written whole
+abbrev pub write_line : List ℕ
+write_line = codes "write\n"
+
+-- this file is too long
+abbrev pub long_line : List ℕ → List ℕ
+long_line name = codes "long " ++ name ++ codes "\n"
+
+-- memory was wanting
+abbrev pub no_memory_line : List ℕ
+no_memory_line = codes "no memory\n"
+
+-- a file's name, a place in it, and what is wrong there
+abbrev pub file_line : List ℕ → ℕ → List ℕ → List ℕ
+file_line name at what = codes "file " ++ name ++ codes " at " ++ decimal at ++ what
+
+-- what this file has at this byte is not built
+abbrev pub not_built_line : List ℕ → ℕ → List ℕ
+not_built_line name at = codes "not built " ++ name ++ codes " at " ++ decimal at ++ codes "\n"
+
+-- the line of an image's first fault
+abbrev pub fault_line : List ℕ → ImageFault → List ℕ
+fault_line name fault.Magic = file_line name 0 (codes " magic\n")
+fault_line name fault.Version = file_line name 4 (codes " version\n")
+fault_line name (fault.Short at) = file_line name at (codes " short\n")
+fault_line name (fault.Rest at) = file_line name at (codes " rest\n")
+fault_line name (fault.NotBuilt at) = not_built_line name at
+fault_line name fault.NoMemory = no_memory_line
+
+-- the first address at which a rule fails, and the least rule failing there
+abbrev pub refused_line : ℕ → ℕ → List ℕ
+refused_line address rule = codes "refused at " ++ word_text address ++ codes " rule " ++ decimal rule ++ codes "\n"

@@ -1,0 +1,44 @@
+-- A run as the code holds it, and what it leaves.
+use Rattle.std.specs.Prelude.{◌≡◌, ◌≤◌, ◌⊎◌, ℕ, List, [], IsSome}
+use Rattle.tal_checker.specs.Image.{ImageParts}
+use Rattle.kernel_machine.specs.Machine.{MachineView, Follows}
+use Rattle.stack_states.specs.declared.journal_entry.Entry.{Entry}
+use Rattle.kernel_machine.specs.declared.run_end.RunEnd.{RunEnd}
+use Rattle.kernel_machine.specs.declared.run_end.RunEnd.TheVariants as end
+use Rattle.verve_tool.specs.declared.status.Status.{Status}
+use Rattle.verve_tool.specs.declared.status.Status.TheVariants.{Done, KernelFault}
+use Rattle.verve_tool.specs.declared.words.RunCommand.{RunCommand}
+use Rattle.verve_tool.specs.declared.running.Left.{Left}
+use Rattle.verve_tool.specs.declared.running.Left.TheVariants.{Finished, Short, NoMachine}
+use Rattle.verve_tool.specs.Words.{RunWords}
+
+-- the run that a command asks for
+abbrev pub run_of : RunCommand → RunWords
+run_of run = record { image = run.image.now; events = run.events.now; turns = run.turns }
+
+-- the machine has run the image for the turns, or until the run ended
+pub record Ran (image : ImageParts) (turns : ℕ) (entries : List Entry) (machine : MachineView) : Type 0 where
+  pub image_is : machine.image ≡ image
+  pub events_are : machine.events ≡ []
+  pub follows : Follows machine entries
+  pub turns_are : (machine.turns ≡ turns) ⊎ (IsSome machine.ending × (machine.turns ≤ turns))
+
+-- the machine has run the image for at most these turns
+pub record RanShort (image : ImageParts) (turns : ℕ) (entries : List Entry) (machine : MachineView) : Type 0 where
+  pub image_is : machine.image ≡ image
+  pub events_are : machine.events ≡ []
+  pub follows : Follows machine entries
+  pub turns_within : machine.turns ≤ turns
+
+-- what a run of an image leaves
+abbrev pub Leaves : ImageParts → ℕ → List Entry → Left → Type 0
+Leaves image turns entries (Finished machine) = Ran image turns entries machine
+Leaves image turns entries (Short machine) = RanShort image turns entries machine
+Leaves image turns entries NoMachine = entries ≡ []
+
+-- the status of a run that was printed
+abbrev pub status_at : RunEnd → Status
+status_at (end.KernelFault vector) = KernelFault
+status_at end.Turns = Done
+status_at (end.Halted number) = Done
+status_at end.NoMemory = Done

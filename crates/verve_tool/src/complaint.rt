@@ -1,0 +1,106 @@
+// What a stopped command tells on the error stream: one line, put in pieces, for which no memory is taken.
+ghost use Rattle.std.specs.Prelude.{◌≡◌, ◌<◌, [], ◌∷◌, ◌++◌};
+ghost use Rattle.std.specs.List.{flat_map};
+ghost use Rattle.outside.specs.Faults.{Quiet};
+ghost use Rattle.outside.specs.Sinks.{Gained};
+ghost use Rattle.kernel_machine.specs.Report.{word_text};
+ghost use Rattle.tal_checker.specs.declared.fault.ImageFault.{ImageFault};
+ghost use Rattle.verve_tool.specs.Lines.{file_line, not_built_line, fault_line, refused_line};
+ghost use Rattle.verve_tool.specs.Stops.{line_of};
+
+use crate::stop::Stop;
+use itoa::Buffer;
+use kernel_machine::word_digits;
+use outside::Sink;
+use tal_checker::ImageFault;
+
+// Puts these pieces, up to the first that is not taken.
+fn say<E: Sink>(err: &mut E, pieces: &[&[u8]])
+    ensures { Quiet (E.faults err.old) (E.faults err.new)
+        → Gained (E.told err.old) (E.told err.new) (flat_map (λ p. p.now) pieces.now) }
+{
+    for piece in pieces {
+        if err.put(piece).is_err() {
+            return;
+        }
+    }
+}
+
+fn say_place<E: Sink>(err: &mut E, name: &str, at: u32, what: &[u8])
+    ensures { Quiet (E.faults err.old) (E.faults err.new)
+        → Gained (E.told err.old) (E.told err.new) (file_line name.now at what.now) }
+{
+    let mut number = Buffer::new();
+    let at = number.format(at);
+    say(
+        err,
+        &[b"file ", name.as_bytes(), b" at ", at.as_bytes(), what],
+    );
+}
+
+fn say_not_built<E: Sink>(err: &mut E, name: &str, at: u32)
+    ensures { Quiet (E.faults err.old) (E.faults err.new)
+        → Gained (E.told err.old) (E.told err.new) (not_built_line name.now at) }
+{
+    let mut number = Buffer::new();
+    let at = number.format(at);
+    say(
+        err,
+        &[
+            b"not built ",
+            name.as_bytes(),
+            b" at ",
+            at.as_bytes(),
+            b"\n",
+        ],
+    );
+}
+
+fn say_fault<E: Sink>(err: &mut E, name: &str, fault: ImageFault)
+    ensures { Quiet (E.faults err.old) (E.faults err.new)
+        → Gained (E.told err.old) (E.told err.new) (fault_line name.now fault) }
+{
+    match fault {
+        ImageFault::Magic => say_place(err, name, 0, b" magic\n"),
+        ImageFault::Version => say_place(err, name, 4, b" version\n"),
+        ImageFault::Short { at } => say_place(err, name, at, b" short\n"),
+        ImageFault::Rest { at } => say_place(err, name, at, b" rest\n"),
+        ImageFault::NotBuilt { at } => say_not_built(err, name, at),
+        ImageFault::NoMemory => say(err, &[b"no memory\n"]),
+    }
+}
+
+fn say_refused<E: Sink>(err: &mut E, address: u32, rule: u8)
+    ensures { Quiet (E.faults err.old) (E.faults err.new)
+        → Gained (E.told err.old) (E.told err.new) (refused_line address rule) }
+{
+    let mut number = Buffer::new();
+    let rule = number.format(rule);
+    say(
+        err,
+        &[
+            b"refused at ",
+            &word_digits(address),
+            b" rule ",
+            rule.as_bytes(),
+            b"\n",
+        ],
+    );
+}
+
+// Puts the line that tells why the command stopped. A failure of the stream changes nothing else.
+pub(crate) fn complain<E: Sink>(err: &mut E, stop: &Stop<'_>)
+    ensures { Quiet (E.faults err.old) (E.faults err.new)
+        → Gained (E.told err.old) (E.told err.new) (line_of stop.now) }
+{
+    match *stop {
+        Stop::Usage => say(err, &[b"usage\n"]),
+        Stop::Read(name) => say(err, &[b"read ", name.as_bytes(), b"\n"]),
+        Stop::Write => say(err, &[b"write\n"]),
+        Stop::Long(name) => say(err, &[b"long ", name.as_bytes(), b"\n"]),
+        Stop::Image(name, fault) => say_fault(err, name, fault),
+        Stop::Refused { address, rule } => say_refused(err, address, rule),
+        Stop::Events(name) => say_not_built(err, name, 0),
+        Stop::NoMemory => say(err, &[b"no memory\n"]),
+    }
+}

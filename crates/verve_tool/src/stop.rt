@@ -1,0 +1,43 @@
+ghost use Rattle.std.specs.Prelude.{◌≡◌};
+ghost use Rattle.verve_tool.specs.Stops.{status_of};
+
+use crate::status::Status;
+use tal_checker::ImageFault;
+
+// Why a command stopped short of its work, with what its line on the error stream tells.
+#[derive(Clone, Copy)]
+pub(crate) enum Stop<'a> {
+    // The words are no command.
+    Usage,
+    // The file of this name was not read.
+    Read(&'a str),
+    // The text was not written.
+    Write,
+    // The file of this name is too long.
+    Long(&'a str),
+    // No image that is built stands for the file of this name, or memory was wanting for it.
+    Image(&'a str, ImageFault),
+    // This rule fails at this address.
+    Refused { address: u32, rule: u8 },
+    // The file of this name has events, which are not built.
+    Events(&'a str),
+    // Memory was wanting.
+    NoMemory,
+}
+
+impl Stop<'_> {
+    pub(crate) fn status(&self) -> Status
+        ensures { result ≡ status_of self.now }
+    {
+        match self {
+            Stop::Usage => Status::Usage,
+            Stop::Read(_) => Status::ReadFault,
+            Stop::Write => Status::WriteFault,
+            Stop::Long(_) => Status::TooLong,
+            Stop::Image(_, ImageFault::NotBuilt { .. }) | Stop::Events(_) => Status::NotBuilt,
+            Stop::Image(_, ImageFault::NoMemory) | Stop::NoMemory => Status::NoMemory,
+            Stop::Image(..) => Status::Malformed,
+            Stop::Refused { .. } => Status::Refused,
+        }
+    }
+}

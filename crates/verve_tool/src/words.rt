@@ -1,0 +1,52 @@
+// The words of a command.
+ghost use Rattle.std.specs.Prelude.{◌≡◌, ◌≤◌, ℕ, decimal, MatchOption};
+ghost use Rattle.verve_tool.specs.Words.{WordsOf, NoCommand};
+ghost use Rattle.verve_tool.specs.Running.{run_of};
+
+use itoa::Buffer;
+
+const MOST_TURNS: u32 = 50000000;
+
+// A run of an image over events for so many turns at most.
+#[derive(Clone, Copy)]
+pub(crate) struct RunCommand<'a> {
+    pub(crate) image: &'a str,
+    pub(crate) events: &'a str,
+    pub(crate) turns: u32,
+}
+
+// The turns are a decimal number as it is printed, so without leading zeros or a sign.
+fn read_turns(word: &str) -> Option<u32>
+    ensures { MatchOption result
+        ((n : ℕ) → 1 ≤ n → n ≤ 50000000 → word.now ≡ decimal n → ⊥)
+        (λ n. (word.now ≡ decimal n) × (1 ≤ n) × (n ≤ 50000000)) }
+{
+    let Ok(number) = word.parse::<u32>() else {
+        return None;
+    };
+    let mut buffer = Buffer::new();
+    if number == 0 || number > MOST_TURNS || buffer.format(number) != word {
+        return None;
+    }
+    Some(number)
+}
+
+// The run that the words are, if they are one.
+pub(crate) fn read_words(words: &[String]) -> Option<RunCommand<'_>>
+    ensures { MatchOption result (NoCommand words.now) (λ run. WordsOf words.now (run_of run)) }
+{
+    let [command, image, events, turns] = words else {
+        return None;
+    };
+    if command.as_str() != "run" || image.is_empty() || events.is_empty() {
+        return None;
+    }
+    match read_turns(turns.as_str()) {
+        Some(turns) => Some(RunCommand {
+            image: image.as_str(),
+            events: events.as_str(),
+            turns,
+        }),
+        None => None,
+    }
+}
