@@ -1,6 +1,6 @@
 use Rattle.std.proofs.Common.{◌≡◌, ◌≢◌, ℕ, ◌+◌, ◌<◌, ◌≤◌, ◌⊎◌, inl, inr, true, List, get_or, arith, refl, sym, ◌∙◌, ap, subst}
 use Rattle.heap_words.specs.Headers.{used_of, size_at, used_at}
-use Rattle.heap_words.specs.Blocks.{Begins, IsFree, IsUsed, Formed, blocks}
+use Rattle.heap_words.specs.Blocks.{Begins, IsFree, IsUsed, Formed, Blocks}
 use Rattle.heap_words.proofs.Places.{begins-row, apart}
 use Rattle.heap_words.proofs.Writes.{room}
 use Rattle.heap_words.proofs.BlockLists.{same-list}
@@ -46,7 +46,7 @@ pub free-only-back : (u v : List ℕ) (i : ℕ) → OnlyLinks u v → IsFree v i
 free-only-back u v i o f = let b = o.blocks.back i f.begins in record { begins = b; free = sym (ap used_of (only-headers u v i o b)) ∙ f.free }
 
 -- the list of blocks stays
-pub only-list : (u v : List ℕ) → Formed u → OnlyLinks u v → blocks v ≡ blocks u
+pub only-list : (u v : List ℕ) → Formed u → OnlyLinks u v → Blocks v ≡ Blocks u
 only-list u v f o = same-list u v f o.blocks (λ j b. ap used_of (only-headers u v j o b))
 
 pub only-refl : (u : List ℕ) → OnlyLinks u u

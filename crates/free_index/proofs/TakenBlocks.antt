@@ -1,7 +1,7 @@
 use Rattle.std.proofs.Common.{◌≡◌, ◌≢◌, ℕ, ◌+◌, ◌-◌, ◌<◌, ◌≤◌, ◌%◌, ◌⊎◌, inl, inr, Bool, true, false, if◌then◌else◌, nat_lt, List, [], ◌∷◌, length, refl, get_or, get_or-set_other, arith, sym, ◌∙◌, ap, subst}
 use Rattle.std.proofs.Math.ListN.{set}
 use Rattle.heap_words.specs.Headers.{size_of, used_of, size_at, used_at}
-use Rattle.heap_words.specs.Blocks.{Begins, Block, Formed, SameBlocks, Splits, IsFree, IsUsed, Replaces, block_at, blocks, free_block, used_block}
+use Rattle.heap_words.specs.Blocks.{Begins, Block, Formed, SameBlocks, Splits, IsFree, IsUsed, Replaces, block_at, Blocks, free_block, used_block}
 use Rattle.std.proofs.lemmas.Bool.Decides.{nat_tests}
 use Rattle.heap_words.proofs.BlockLists.{Differs, replaces-one, replaces-two, same-block}
 use Rattle.heap_words.proofs.Cuts.{SplitWords, split_words, split-words, free-block}
@@ -118,19 +118,19 @@ same_header u v j e = same-block u v j (ap size_of e) (ap used_of e)
 used-block : (u : List ℕ) (i : ℕ) → IsUsed u i → block_at u i ≡ used_block i (size_at u i)
 used-block u i f = rw f.used refl
 
-pub given-list : (u v : List ℕ) (i : ℕ) → Formed u → Formed v → IsUsed u i → Given u v i → Replaces (blocks u) (blocks v) (used_block i (size_at u i) ∷ []) (free_block i (size_at u i) ∷ [])
+pub given-list : (u v : List ℕ) (i : ℕ) → Formed u → Formed v → IsUsed u i → Given u v i → Replaces (Blocks u) (Blocks v) (used_block i (size_at u i) ∷ []) (free_block i (size_at u i) ∷ [])
 given-list u v i f h g t = subst P (free-block v i t.free ∙ rw t.exact refl) (subst Q (used-block u i g) (replaces-one u v i d t.exact))
   where
     d : Differs u v i
     d = record { formed = f; formed_after = h; size = t.size; begins = g.begins; others = λ j b n. same_header u v j (t.same j b n) }
 
     P : Block → Type 0
-    P b = Replaces (blocks u) (blocks v) (used_block i (size_at u i) ∷ []) (b ∷ [])
+    P b = Replaces (Blocks u) (Blocks v) (used_block i (size_at u i) ∷ []) (b ∷ [])
 
     Q : Block → Type 0
-    Q b = Replaces (blocks u) (blocks v) (b ∷ []) (block_at v i ∷ [])
+    Q b = Replaces (Blocks u) (Blocks v) (b ∷ []) (block_at v i ∷ [])
 
-pub taken-list : (u v : List ℕ) (need i : ℕ) → Formed u → Formed v → Taken u v need i → Replaces (blocks u) (blocks v) (free_block i (size_at u i) ∷ []) (taken_blocks i need (size_at u i))
+pub taken-list : (u v : List ℕ) (need i : ℕ) → Formed u → Formed v → Taken u v need i → Replaces (Blocks u) (Blocks v) (free_block i (size_at u i) ∷ []) (taken_blocks i need (size_at u i))
 unfolding taken_blocks
 taken-list u v need i f h t = choose (nat_lt need (size_at u i)) refl
   where
@@ -143,16 +143,16 @@ taken-list u v need i f h t = choose (nat_lt need (size_at u i)) refl
     becomes : block_at v i ≡ used_block i need
     becomes = used-block v i t.used ∙ rw t.exact refl
 
-    whole : size_at u i ≤ need → Replaces (blocks u) (blocks v) (free_block i (size_at u i) ∷ []) (used_block i need ∷ [])
+    whole : size_at u i ≤ need → Replaces (Blocks u) (Blocks v) (free_block i (size_at u i) ∷ []) (used_block i need ∷ [])
     whole l = subst P becomes (subst Q was (replaces-one u v i d (let e = t.exact in let m = t.fitted.enough in omega arith)))
       where
         P : Block → Type 0
-        P b = Replaces (blocks u) (blocks v) (free_block i (size_at u i) ∷ []) (b ∷ [])
+        P b = Replaces (Blocks u) (Blocks v) (free_block i (size_at u i) ∷ []) (b ∷ [])
 
         Q : Block → Type 0
-        Q b = Replaces (blocks u) (blocks v) (b ∷ []) (block_at v i ∷ [])
+        Q b = Replaces (Blocks u) (Blocks v) (b ∷ []) (block_at v i ∷ [])
 
-    cut : need < size_at u i → Replaces (blocks u) (blocks v) (free_block i (size_at u i) ∷ []) (used_block i need ∷ free_block (i + need) (size_at u i - need) ∷ [])
+    cut : need < size_at u i → Replaces (Blocks u) (Blocks v) (free_block i (size_at u i) ∷ []) (used_block i need ∷ free_block (i + need) (size_at u i - need) ∷ [])
     cut l = subst R rest_is (subst P becomes (subst Q was (replaces-two u v i need d t.exact (t.rest l).0.begins (t.rest l).1)))
       where
         rest_is : block_at v (i + need) ≡ free_block (i + need) (size_at u i - need)
@@ -161,13 +161,13 @@ taken-list u v need i f h t = choose (nat_lt need (size_at u i)) refl
             free-block v (i + need) (t.rest l).0 ∙ rw e refl
 
         P : Block → Type 0
-        P b = Replaces (blocks u) (blocks v) (free_block i (size_at u i) ∷ []) (b ∷ block_at v (i + need) ∷ [])
+        P b = Replaces (Blocks u) (Blocks v) (free_block i (size_at u i) ∷ []) (b ∷ block_at v (i + need) ∷ [])
 
         Q : Block → Type 0
-        Q b = Replaces (blocks u) (blocks v) (b ∷ []) (block_at v i ∷ block_at v (i + need) ∷ [])
+        Q b = Replaces (Blocks u) (Blocks v) (b ∷ []) (block_at v i ∷ block_at v (i + need) ∷ [])
 
         R : Block → Type 0
-        R b = Replaces (blocks u) (blocks v) (free_block i (size_at u i) ∷ []) (used_block i need ∷ b ∷ [])
+        R b = Replaces (Blocks u) (Blocks v) (free_block i (size_at u i) ∷ []) (used_block i need ∷ b ∷ [])
 
     below : (m n : ℕ) → nat_lt m n ≡ true → m < n
     below m n e = grind (arith, nat_tests)
@@ -176,7 +176,7 @@ taken-list u v need i f h t = choose (nat_lt need (size_at u i)) refl
     above m n e = grind (arith, nat_tests)
 
     choose : (b : Bool) → nat_lt need (size_at u i) ≡ b
-        → Replaces (blocks u) (blocks v) (free_block i (size_at u i) ∷ []) (if nat_lt need (size_at u i) then used_block i need ∷ free_block (i + need) (size_at u i - need) ∷ [] else used_block i need ∷ [])
+        → Replaces (Blocks u) (Blocks v) (free_block i (size_at u i) ∷ []) (if nat_lt need (size_at u i) then used_block i need ∷ free_block (i + need) (size_at u i - need) ∷ [] else used_block i need ∷ [])
     choose true e = rw e (cut (below need (size_at u i) e))
     choose false e = rw e (whole (above need (size_at u i) e))
 

@@ -1,6 +1,6 @@
 ghost use Rattle.std.specs.Prelude.{◌≡◌, ◌≢◌, ◌<◌, ◌≤◌, ◌+◌, ◌%◌, ℕ, MatchOption, IfNone, IfSome, length, slice_index, slice_set, [], ◌∷◌};
 ghost use Rattle.heap_words.specs.Headers.{size_at};
-ghost use Rattle.heap_words.specs.Blocks.{Formed, IsFree, IsUsed, Replaces, blocks, free_block, used_block};
+ghost use Rattle.heap_words.specs.Blocks.{Formed, IsFree, IsUsed, Replaces, Blocks, free_block, used_block};
 ghost use Rattle.free_index.specs.Classes.{class_of};
 ghost use Rattle.free_index.specs.Free.{Fits, Given, NoneFits, OnlyLinks, Taken, taken_blocks};
 ghost use Rattle.free_index.specs.Lists.{FreeLists, IsEmptyClass, IsFirst};
@@ -31,7 +31,7 @@ impl FreeIndex {
     pub fn rebuild(heap: &mut Heap) -> FreeIndex
         ensures lists { FreeLists result heap.new }
         ensures only { OnlyLinks heap.old heap.new }
-        ensures blocks { blocks heap.new ≡ blocks heap.old }
+        ensures blocks { Blocks heap.new ≡ Blocks heap.old }
         ensures formed { Formed heap.new }
     {
         let mut index = FreeIndex { heads: [0; 32] };
@@ -56,7 +56,7 @@ impl FreeIndex {
         requires lists { FreeLists self.old heap.old }
         ensures found { MatchOption result (NoneFits heap.old need) (λ i. Fits heap.old need i) }
         ensures taken { IfSome result (λ i. Taken heap.old heap.new need i) }
-        ensures blocks { IfSome result (λ i. Replaces (blocks heap.old) (blocks heap.new)
+        ensures blocks { IfSome result (λ i. Replaces (Blocks heap.old) (Blocks heap.new)
             (free_block i (size_at heap.old i) ∷ []) (taken_blocks i need (size_at heap.old i))) }
         ensures unchanged { IfNone result ((heap.new ≡ heap.old) × (self.new ≡ self.old)) }
         ensures lists { FreeLists self.new heap.new }
@@ -79,7 +79,7 @@ impl FreeIndex {
         requires used { IsUsed heap.old i }
         requires lists { FreeLists self.old heap.old }
         ensures given { Given heap.old heap.new i }
-        ensures blocks { Replaces (blocks heap.old) (blocks heap.new)
+        ensures blocks { Replaces (Blocks heap.old) (Blocks heap.new)
             (used_block i (size_at heap.old i) ∷ []) (free_block i (size_at heap.old i) ∷ []) }
         ensures lists { FreeLists self.new heap.new }
         ensures formed { Formed heap.new }

@@ -3,7 +3,7 @@ use Rattle.std.proofs.lemmas.Bool.Decides.{nat_tests}
 use Rattle.std.specs.List.{Contains}
 use Rattle.std.proofs.lemmas.List.Elements.{Contains-append_right}
 use Rattle.heap_words.specs.Headers.{size_at, used_at}
-use Rattle.heap_words.specs.Blocks.{Block, block_at, blocks_from, blocks, Begins, IsBlock, Formed, Tiles, Replaces, SameBlocks}
+use Rattle.heap_words.specs.Blocks.{Block, block_at, blocks_from, Blocks, Begins, IsBlock, Formed, Tiles, Replaces, SameBlocks}
 use Rattle.heap_words.proofs.Places.{begins-first, begins-next, begins-ind}
 
 -- the blocks from a place on
@@ -84,14 +84,14 @@ tiles-from words f (suc n) i (inl b) h g =
     let p = w.positive in
     rw (step-in words n i b.inside) (refl, p, tiles-from words f n (i + size_at words i) (at-next words i b) w.within (omega arith))
 
-pub tiles : (words : List ℕ) → Formed words → Tiles 0 (blocks words) (length words)
+pub tiles : (words : List ℕ) → Formed words → Tiles 0 (Blocks words) (length words)
 tiles words f = tiles-from words f (length words) 0 (at-first words f) (omega arith) (omega arith)
 
 -- up to a block the lists of two heaps are the same
 pub record SameFront (u v : List ℕ) (i : ℕ) : Type 0 where
   pub front : List Block
-  pub left : blocks u ≡ front ++ rest u i
-  pub right : blocks v ≡ front ++ rest v i
+  pub left : Blocks u ≡ front ++ rest u i
+  pub right : Blocks v ≡ front ++ rest v i
   pub begins : Begins v i
 
 longer : (front back all : List Block) (b : Block) → all ≡ front ++ (b ∷ back) → all ≡ (front ++ (b ∷ [])) ++ back
@@ -138,7 +138,7 @@ pub same-block : (u v : List ℕ) (j : ℕ) → size_at v j ≡ size_at u j → 
 same-block u v j s t = rw (s, t) refl
 
 -- heaps with the same headers have the same list
-pub same-list : (u v : List ℕ) → Formed u → SameBlocks u v → ((j : ℕ) → Begins u j → used_at v j ≡ used_at u j) → blocks v ≡ blocks u
+pub same-list : (u v : List ℕ) → Formed u → SameBlocks u v → ((j : ℕ) → Begins u j → used_at v j ≡ used_at u j) → Blocks v ≡ Blocks u
 same-list u v f s h = same-rest u v 0 s.size (at-first u f) (λ j b l. same-block u v j (s.sizes j b) (h j b))
 
 -- two heaps whose headers differ in the block at i alone
@@ -162,7 +162,7 @@ behind : (u v : List ℕ) (i : ℕ) → Differs u v i → rest v (i + size_at u 
 behind u v i d = same-rest u v (i + size_at u i) d.size (at-next u i d.begins) (λ j b l. d.others j b (above i j (size_at u i) (d.formed.whole i d.begins).positive l))
 
 -- the block at i kept its size
-pub replaces-one : (u v : List ℕ) (i : ℕ) → Differs u v i → size_at v i ≡ size_at u i → Replaces (blocks u) (blocks v) (block_at u i ∷ []) (block_at v i ∷ [])
+pub replaces-one : (u v : List ℕ) (i : ℕ) → Differs u v i → size_at v i ≡ size_at u i → Replaces (Blocks u) (Blocks v) (block_at u i ∷ []) (block_at v i ∷ [])
 replaces-one u v i d e =
     let s = front-of u v i d in
     let r : rest v i ≡ block_at v i ∷ rest u (i + size_at u i) = rest-block v i d.formed_after s.begins ∙ rw (e, behind u v i d) refl in
@@ -173,7 +173,7 @@ longer_by_two front back all b c e = e ∙ sym (append_assoc front (b ∷ c ∷ 
 
 -- the block at i was cut in two
 pub replaces-two : (u v : List ℕ) (i need : ℕ) → Differs u v i → size_at v i ≡ need → Begins v (i + need) → need + size_at v (i + need) ≡ size_at u i
-    → Replaces (blocks u) (blocks v) (block_at u i ∷ []) (block_at v i ∷ block_at v (i + need) ∷ [])
+    → Replaces (Blocks u) (Blocks v) (block_at u i ∷ []) (block_at v i ∷ block_at v (i + need) ∷ [])
 replaces-two u v i need d h b e =
     let s = front-of u v i d in
     let k : i + need + size_at v (i + need) ≡ i + size_at u i = omega arith in
@@ -200,10 +200,10 @@ listed-from words b f (suc n) i (inl d) c = go (rw (step-in words n i d.inside) 
     go (zero, l, e) r = rw (← e) (record { begins = d; size = refl; used = refl })
     go (suc k, l, e) r = r (k, omega arith, e)
 
-pub listed-block : (words : List ℕ) (b : Block) → Formed words → Contains (blocks words) b → IsBlock words b
+pub listed-block : (words : List ℕ) (b : Block) → Formed words → Contains (Blocks words) b → IsBlock words b
 listed-block words b f c = listed-from words b f (length words) 0 (at-first words f) c
 
-pub block-listed : (words : List ℕ) (b : Block) → Formed words → IsBlock words b → Contains (blocks words) b
+pub block-listed : (words : List ℕ) (b : Block) → Formed words → IsBlock words b → Contains (Blocks words) b
 block-listed words b f i =
     let s = fronts words words b.place f f refl i.begins (λ j d l. refl) in
     let e : block_at words b.place ≡ b = rw (← i.size, ← i.used) refl in

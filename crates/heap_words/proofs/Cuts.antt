@@ -1,7 +1,7 @@
 use Rattle.std.proofs.Common.{◌≡◌, ◌≢◌, ℕ, ◌+◌, ◌-◌, ◌<◌, ◌≤◌, ◌%◌, ◌⊎◌, inl, inr, List, [], ◌∷◌, length, get_or, get_or-set_other, get_or-set_same, arith, refl, sym, ◌∙◌, ap, subst}
 use Rattle.std.proofs.Math.ListN.{set, length-set}
 use Rattle.heap_words.specs.Headers.{size_of, size_at}
-use Rattle.heap_words.specs.Blocks.{Block, Begins, IsWhole, IsFree, Formed, Splits, Replaces, blocks, block_at, free_block}
+use Rattle.heap_words.specs.Blocks.{Block, Begins, IsWhole, IsFree, Formed, Splits, Replaces, Blocks, block_at, free_block}
 use Rattle.heap_words.proofs.HeaderLaws.{size-mod, whole-size, whole-free}
 use Rattle.heap_words.proofs.Places.{apart, begins-first, begins-next, begins-ind}
 use Rattle.heap_words.proofs.Writes.{same_place}
@@ -189,7 +189,7 @@ split-words u i need l s = record {
 pub record SplitFacts (u v : List ℕ) (i need : ℕ) : Type 0 where
   pub formed : Formed v
   pub splits : Splits u v (i + need)
-  pub replaces : Replaces (blocks u) (blocks v) (free_block i (size_at u i) ∷ []) (free_block i need ∷ free_block (i + need) (size_at u i - need) ∷ [])
+  pub replaces : Replaces (Blocks u) (Blocks v) (free_block i (size_at u i) ∷ []) (free_block i need ∷ free_block (i + need) (size_at u i - need) ∷ [])
 
 pub split-facts : (u : List ℕ) (i need : ℕ) → Formed u → IsFree u i → need % 4 ≡ 0 → 0 < need → need < size_at u i → SplitFacts u (split_words u i need) i need
 split-facts u i need f free r s l = record { formed = formed; splits = splits; replaces = subst P front (subst Q rest (subst R (free-block u i free) replaced)) }
@@ -227,17 +227,17 @@ split-facts u i need f free r s l = record { formed = formed; splits = splits; r
     differs : Differs u (split_words u i need) i
     differs = record { formed = f; formed_after = formed; size = w.size; begins = free.begins; others = other }
 
-    replaced : Replaces (blocks u) (blocks (split_words u i need)) (block_at u i ∷ []) (block_at (split_words u i need) i ∷ block_at (split_words u i need) (i + need) ∷ [])
+    replaced : Replaces (Blocks u) (Blocks (split_words u i need)) (block_at u i ∷ []) (block_at (split_words u i need) i ∷ block_at (split_words u i need) (i + need) ∷ [])
     replaced = replaces-two u _ i need differs front_size splits.added sum
 
     P : Block → Type 0
-    P b = Replaces (blocks u) (blocks (split_words u i need)) (free_block i (size_at u i) ∷ []) (b ∷ free_block (i + need) (size_at u i - need) ∷ [])
+    P b = Replaces (Blocks u) (Blocks (split_words u i need)) (free_block i (size_at u i) ∷ []) (b ∷ free_block (i + need) (size_at u i - need) ∷ [])
 
     Q : Block → Type 0
-    Q b = Replaces (blocks u) (blocks (split_words u i need)) (free_block i (size_at u i) ∷ []) (block_at (split_words u i need) i ∷ b ∷ [])
+    Q b = Replaces (Blocks u) (Blocks (split_words u i need)) (free_block i (size_at u i) ∷ []) (block_at (split_words u i need) i ∷ b ∷ [])
 
     R : Block → Type 0
-    R b = Replaces (blocks u) (blocks (split_words u i need)) (b ∷ []) (block_at (split_words u i need) i ∷ block_at (split_words u i need) (i + need) ∷ [])
+    R b = Replaces (Blocks u) (Blocks (split_words u i need)) (b ∷ []) (block_at (split_words u i need) i ∷ block_at (split_words u i need) (i + need) ∷ [])
 
 -- the same with the words and the size as the code has them
 pub split-made : (u w : List ℕ) (i need s : ℕ) → w ≡ u → Formed w → IsFree u i → need % 4 ≡ 0 → 0 < need → need < size_at u i → s ≡ size_at u i → SplitFacts u (set (set w (i + need) (s - need)) i need) i need
@@ -251,7 +251,7 @@ join_words u i = set u i (size_at u i + size_at u (i + size_at u i))
 pub record JoinFacts (u v : List ℕ) (i : ℕ) : Type 0 where
   pub formed : Formed v
   pub splits : Splits v u (i + size_at u i)
-  pub replaces : Replaces (blocks u) (blocks v) (free_block i (size_at u i) ∷ free_block (i + size_at u i) (size_at u (i + size_at u i)) ∷ []) (free_block i (size_at u i + size_at u (i + size_at u i)) ∷ [])
+  pub replaces : Replaces (Blocks u) (Blocks v) (free_block i (size_at u i) ∷ free_block (i + size_at u i) (size_at u (i + size_at u i)) ∷ []) (free_block i (size_at u i + size_at u (i + size_at u i)) ∷ [])
 
 pub join-facts : (u : List ℕ) (i : ℕ) → Formed u → IsFree u i → IsFree u (i + size_at u i) → JoinFacts u (join_words u i) i
 join-facts u i f free next = record { formed = formed; splits = splits-cut _ u i _ cut; replaces = replaces-back _ _ _ _ (subst P (free-block u i free) (subst Q (free-block u _ next) (subst R made replaced))) }
@@ -277,17 +277,17 @@ join-facts u i f free next = record { formed = formed; splits = splits-cut _ u i
     differs : Differs (join_words u i) u i
     differs = record { formed = formed; formed_after = f; size = cut.size; begins = cut.begins; others = λ j b n. sym (let e = get_or-set_other u i j total 0 n in rw e refl) }
 
-    replaced : Replaces (blocks (join_words u i)) (blocks u) (block_at (join_words u i) i ∷ []) (block_at u i ∷ block_at u (i + size_at u i) ∷ [])
+    replaced : Replaces (Blocks (join_words u i)) (Blocks u) (block_at (join_words u i) i ∷ []) (block_at u i ∷ block_at u (i + size_at u i) ∷ [])
     replaced = replaces-two _ u i (size_at u i) differs refl next.begins (sym joined.sum)
 
     P : Block → Type 0
-    P b = Replaces (blocks (join_words u i)) (blocks u) (free_block i total ∷ []) (b ∷ free_block (i + size_at u i) (size_at u (i + size_at u i)) ∷ [])
+    P b = Replaces (Blocks (join_words u i)) (Blocks u) (free_block i total ∷ []) (b ∷ free_block (i + size_at u i) (size_at u (i + size_at u i)) ∷ [])
 
     Q : Block → Type 0
-    Q b = Replaces (blocks (join_words u i)) (blocks u) (free_block i total ∷ []) (block_at u i ∷ b ∷ [])
+    Q b = Replaces (Blocks (join_words u i)) (Blocks u) (free_block i total ∷ []) (block_at u i ∷ b ∷ [])
 
     R : Block → Type 0
-    R b = Replaces (blocks (join_words u i)) (blocks u) (b ∷ []) (block_at u i ∷ block_at u (i + size_at u i) ∷ [])
+    R b = Replaces (Blocks (join_words u i)) (Blocks u) (b ∷ []) (block_at u i ∷ block_at u (i + size_at u i) ∷ [])
 
 -- the same with the words and the sizes as the code has them
 pub join-made : (u w : List ℕ) (i s m : ℕ) → w ≡ u → Formed w → IsFree u i → IsFree u (i + size_at u i) → s ≡ size_at u i → m ≡ size_at u (i + s) → JoinFacts u (set w i (s + m)) i

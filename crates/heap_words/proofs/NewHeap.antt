@@ -1,7 +1,7 @@
 use Rattle.std.proofs.Common.{◌≡◌, ℕ, ◌+◌, ◌<◌, ◌≤◌, ◌%◌, List, [], ◌∷◌, length, get_or, get_or-set_same, arith, refl, sym, ◌∙◌, subst}
 use Rattle.std.proofs.Math.ListN.{set, length-set}
 use Rattle.heap_words.specs.Headers.{size_at}
-use Rattle.heap_words.specs.Blocks.{Begins, IsWhole, Formed, IsFree, blocks, free_block}
+use Rattle.heap_words.specs.Blocks.{Begins, IsWhole, Formed, IsFree, Blocks, free_block}
 use Rattle.heap_words.proofs.HeaderLaws.{whole-size, whole-free}
 use Rattle.heap_words.proofs.Places.{begins-first, begins-ind}
 use Rattle.heap_words.proofs.BlockLists.{rest, rest-block, rest-end}
@@ -23,7 +23,7 @@ formed-one u r p m e = (record { whole = λ i b. whole i (begins-ind u (λ i. i 
 pub record NewHeap (u : List ℕ) (n : ℕ) : Type 0 where
   pub formed : Formed (set u 0 n)
   pub free : IsFree (set u 0 n) 0
-  pub listed : blocks (set u 0 n) ≡ free_block 0 n ∷ []
+  pub listed : Blocks (set u 0 n) ≡ free_block 0 n ∷ []
 
 pub new-heap : (u : List ℕ) (n : ℕ) → length u ≡ n → n % 4 ≡ 0 → 64 ≤ n → n ≤ 4194304 → NewHeap u n
 new-heap u n e r l m = record { formed = both.0; free = free; listed = rest-block (set u 0 n) 0 both.0 both.1 ∙ rw (whole-size-at, last) (rw free.free refl) }

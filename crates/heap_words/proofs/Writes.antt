@@ -1,7 +1,7 @@
 use Rattle.std.proofs.Common.{◌≡◌, ◌≢◌, ℕ, ◌+◌, ◌<◌, ◌≤◌, ◌%◌, ◌⊎◌, inl, inr, Bool, List, [], ◌∷◌, length, get_or, get_or-set_other, get_or-set_same, arith, refl, sym, ap, subst}
 use Rattle.std.proofs.Math.ListN.{set, length-set}
 use Rattle.heap_words.specs.Headers.{header_word, size_of, size_at, used_of, used_at}
-use Rattle.heap_words.specs.Blocks.{Begins, IsWhole, Formed, SameBlocks, Replaces, blocks, block_at}
+use Rattle.heap_words.specs.Blocks.{Begins, IsWhole, Formed, SameBlocks, Replaces, Blocks, block_at}
 use Rattle.heap_words.proofs.HeaderLaws.{size-mod, size-kept, used-written}
 use Rattle.heap_words.proofs.Places.{same-blocks, begins-row}
 use Rattle.heap_words.proofs.BlockLists.{Differs, replaces-one, same-list}
@@ -66,14 +66,14 @@ off_row_2 u i j b d e =
     omega arith
 
 -- a write beside the headers leaves the list of blocks
-pub aside-list : (u : List ℕ) (i w : ℕ) → Formed u → ((j : ℕ) → Begins u j → i ≢ j) → blocks (set u i w) ≡ blocks u
+pub aside-list : (u : List ℕ) (i w : ℕ) → Formed u → ((j : ℕ) → Begins u j → i ≢ j) → Blocks (set u i w) ≡ Blocks u
 aside-list u i w f h =
     same-list u (set u i w) f (same-set u i w (λ b. absurd (h i b refl))) (λ j b. ap used_of (get_or-set_other u i j w 0 (λ e. h j b (sym e))))
 
-pub link-list : (u : List ℕ) (i w : ℕ) → Formed u → Begins u i → blocks (set u (i + 1) w) ≡ blocks u
+pub link-list : (u : List ℕ) (i w : ℕ) → Formed u → Begins u i → Blocks (set u (i + 1) w) ≡ Blocks u
 link-list u i w f b = aside-list u (i + 1) w f (λ j d e. off_row u i j b d (sym e))
 
-pub back-list : (u : List ℕ) (i w : ℕ) → Formed u → Begins u i → blocks (set u (i + 2) w) ≡ blocks u
+pub back-list : (u : List ℕ) (i w : ℕ) → Formed u → Begins u i → Blocks (set u (i + 2) w) ≡ Blocks u
 back-list u i w f b = aside-list u (i + 2) w f (λ j d e. off_row_2 u i j b d (sym e))
 
 -- the header of a block, written again with these bits
@@ -87,7 +87,7 @@ other-block : (u : List ℕ) (i j w : ℕ) → j ≢ i → block_at (set u i w) 
 other-block u i j w n = let e = get_or-set_other u i j w 0 n in rw e refl
 
 pub reheaded-list : (u : List ℕ) (i : ℕ) (used marked : Bool) → Formed u → Begins u i
-    → Replaces (blocks u) (blocks (reheaded u i used marked)) (block_at u i ∷ []) (record { place = i; size = size_at u i; used = used } ∷ [])
+    → Replaces (Blocks u) (Blocks (reheaded u i used marked)) (block_at u i ∷ []) (record { place = i; size = size_at u i; used = used } ∷ [])
 reheaded-list u i used marked f b =
     let s = reheaded-same u i used marked in
     let d : Differs u (reheaded u i used marked) i = record {
@@ -98,10 +98,10 @@ reheaded-list u i used marked f b =
       others = λ j _ n. other-block u i j (header_word (size_at u i) used marked) n;
     } in
     let r = replaces-one u (reheaded u i used marked) i d (s.sizes i b) in
-    subst (λ b. Replaces (blocks u) (blocks (reheaded u i used marked)) (block_at u i ∷ []) (b ∷ [])) (rw (s.sizes i b, used-written u i used marked b.inside) refl) r
+    subst (λ b. Replaces (Blocks u) (Blocks (reheaded u i used marked)) (block_at u i ∷ []) (b ∷ [])) (rw (s.sizes i b, used-written u i used marked b.inside) refl) r
 
 -- only the mark changes
-pub remarked-list : (u : List ℕ) (i : ℕ) (marked : Bool) → Formed u → Begins u i → blocks (reheaded u i (used_at u i) marked) ≡ blocks u
+pub remarked-list : (u : List ℕ) (i : ℕ) (marked : Bool) → Formed u → Begins u i → Blocks (reheaded u i (used_at u i) marked) ≡ Blocks u
 remarked-list u i marked f b = same-list u (reheaded u i (used_at u i) marked) f (reheaded-same u i (used_at u i) marked) (λ j _. used j (same_place j i))
   where
     used : (j : ℕ) → (j ≡ i) ⊎ (j ≢ i) → used_at (reheaded u i (used_at u i) marked) j ≡ used_at u j

@@ -24,8 +24,8 @@ blocks_from (suc n) words i =
     cond (nat_lt i (length words)) (block_at words i ∷ blocks_from n words (i + size_at words i)) []
 
 -- the list of the blocks, read from the first word on
-abbrev pub blocks : List ℕ → List Block
-blocks words = blocks_from (length words) words 0
+abbrev pub Blocks : List ℕ → List Block
+Blocks words = blocks_from (length words) words 0
 
 -- the blocks of a list follow each other from a place up to `end` exactly
 abbrev pub Tiles : ℕ → List Block → ℕ → Type 0

@@ -1,7 +1,7 @@
 // The heap and its calls.
 ghost use Rattle.std.specs.Prelude.{◌≡◌, ◌<◌, ◌≤◌, ◌+◌, ◌-◌, ◌%◌, ℕ, length, IfOk, slice_index, slice_set, MatchOption, replicate, [], ◌∷◌};
 ghost use Rattle.heap_words.specs.Headers.{header_word, size_of, size_at, used_at, marked_at};
-ghost use Rattle.heap_words.specs.Blocks.{Begins, IsFree, Formed, IsObjectWord, Splits, SameBlocks, Replaces, blocks, block_at, free_block};
+ghost use Rattle.heap_words.specs.Blocks.{Begins, IsFree, Formed, IsObjectWord, Splits, SameBlocks, Replaces, Blocks, block_at, free_block};
 
 use crate::header::{header, marked_in, size_in, used_in};
 use no_memory::NoMemory;
@@ -34,7 +34,7 @@ impl Heap {
         requires most { words ≤ 4194304 }
         requires rows { words % 4 ≡ 0 }
         ensures words { IfOk result (λ h. h ≡ slice_set (replicate words 0) 0 words) }
-        ensures blocks { IfOk result (λ h. blocks h ≡ free_block 0 words ∷ []) }
+        ensures blocks { IfOk result (λ h. Blocks h ≡ free_block 0 words ∷ []) }
         ensures formed { IfOk result (λ h. Formed h) }
         ensures free { IfOk result (λ h. IsFree h 0) }
     {
@@ -101,7 +101,7 @@ impl Heap {
         requires inside { i < length self.old }
         requires object { IsObjectWord self.old i }
         ensures words { self.new ≡ slice_set self.old i w }
-        ensures blocks { blocks self.new ≡ blocks self.old }
+        ensures blocks { Blocks self.new ≡ Blocks self.old }
         ensures same { SameBlocks self.old self.new }
         ensures formed { Formed self.new }
     {
@@ -112,7 +112,7 @@ impl Heap {
     pub fn set_used(&mut self, i: u32, used: bool)
         requires { Begins self.old i }
         ensures words { self.new ≡ slice_set self.old i (header_word (size_at self.old i) used (marked_at self.old i)) }
-        ensures blocks { Replaces (blocks self.old) (blocks self.new) (block_at self.old i ∷ [])
+        ensures blocks { Replaces (Blocks self.old) (Blocks self.new) (block_at self.old i ∷ [])
             (record { place = i; size = size_at self.old i; used = used } ∷ []) }
         ensures same { SameBlocks self.old self.new }
         ensures formed { Formed self.new }
@@ -128,7 +128,7 @@ impl Heap {
     pub fn set_marked(&mut self, i: u32, marked: bool)
         requires { Begins self.old i }
         ensures words { self.new ≡ slice_set self.old i (header_word (size_at self.old i) (used_at self.old i) marked) }
-        ensures blocks { blocks self.new ≡ blocks self.old }
+        ensures blocks { Blocks self.new ≡ Blocks self.old }
         ensures same { SameBlocks self.old self.new }
         ensures formed { Formed self.new }
         ensures used { used_at self.new i ≡ used_at self.old i }
@@ -153,7 +153,7 @@ impl Heap {
     pub fn set_link(&mut self, i: u32, w: u32)
         requires { Begins self.old i }
         ensures words { self.new ≡ slice_set self.old (i + 1) w }
-        ensures blocks { blocks self.new ≡ blocks self.old }
+        ensures blocks { Blocks self.new ≡ Blocks self.old }
         ensures same { SameBlocks self.old self.new }
         ensures formed { Formed self.new }
     {
@@ -165,7 +165,7 @@ impl Heap {
     pub fn set_back(&mut self, i: u32, w: u32)
         requires { IsFree self.old i }
         ensures words { self.new ≡ slice_set self.old (i + 2) w }
-        ensures blocks { blocks self.new ≡ blocks self.old }
+        ensures blocks { Blocks self.new ≡ Blocks self.old }
         ensures same { SameBlocks self.old self.new }
         ensures formed { Formed self.new }
     {
@@ -181,7 +181,7 @@ impl Heap {
         requires some { 0 < need }
         requires less { need < size_at self.old i }
         ensures words { self.new ≡ slice_set (slice_set self.old (i + need) (size_at self.old i - need)) i need }
-        ensures blocks { Replaces (blocks self.old) (blocks self.new) (free_block i (size_at self.old i) ∷ [])
+        ensures blocks { Replaces (Blocks self.old) (Blocks self.new) (free_block i (size_at self.old i) ∷ [])
             (free_block i need ∷ free_block (i + need) (size_at self.old i - need) ∷ []) }
         ensures begins { Splits self.old self.new (i + need) }
         ensures formed { Formed self.new }
@@ -198,7 +198,7 @@ impl Heap {
         requires next { IsFree self.old (i + size_at self.old i) }
         ensures words { self.new ≡ slice_set self.old i (size_at self.old i + size_at self.old (i + size_at self.old i)) }
         ensures blocks { let next = i + size_at self.old i in
-            Replaces (blocks self.old) (blocks self.new)
+            Replaces (Blocks self.old) (Blocks self.new)
             (free_block i (size_at self.old i) ∷ free_block next (size_at self.old next) ∷ [])
             (free_block i (size_at self.old i + size_at self.old next) ∷ []) }
         ensures begins { Splits self.new self.old (i + size_at self.old i) }

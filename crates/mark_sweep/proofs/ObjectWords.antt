@@ -7,7 +7,7 @@ use Rattle.std.proofs.lemmas.Option.{slice_get_within}
 use Rattle.object_layout.specs.declared.rows.FieldTy.{FieldTy}
 use Rattle.object_layout.specs.declared.rows.Shape.{Shape}
 use Rattle.object_layout.specs.declared.rows.Shape.TheVariants.{Class, Kind}
-use Rattle.object_layout.specs.Classes.{ShapesView, fields, field_at, word_index, need, rounded_up, element}
+use Rattle.object_layout.specs.Classes.{ShapesView, Fields, field_at, word_index, Need, rounded_up, Element}
 use Rattle.mark_sweep.specs.Objects.{IsObject, IsReference, is_reference, refers, shape_named}
 
 -- the word of those from byte 4 on that stands at a byte
@@ -29,28 +29,28 @@ unfolding is_reference
 none-refers h = false≢true h
 
 -- a reference field is one of the fields
-field-word : (s : ShapesView) (c k : ℕ) → is_reference (field_at s c (4 * k)) ≡ true → (1 ≤ k) × (k ≤ length (fields s c))
+field-word : (s : ShapesView) (c k : ℕ) → is_reference (field_at s c (4 * k)) ≡ true → (1 ≤ k) × (k ≤ length (Fields s c))
 unfolding field_at
 field-word s c k h = at (word_index 4 (4 * k)) refl h
   where
-    found : (j : ℕ) → word_index 4 (4 * k) ≡ Some j → (o : Option FieldTy) → slice_get (fields s c) j ≡ o → is_reference o ≡ true → (1 ≤ k) × (k ≤ length (fields s c))
+    found : (j : ℕ) → word_index 4 (4 * k) ≡ Some j → (o : Option FieldTy) → slice_get (Fields s c) j ≡ o → is_reference o ≡ true → (1 ≤ k) × (k ≤ length (Fields s c))
     found j e None g r = absurd (none-refers r)
     found j e (Some t) g r =
         let w = word-at (4 * k) j e in
-        let l = slice_get_within (fields s c) j t g in
+        let l = slice_get_within (Fields s c) j t g in
         let a = w.0 in
         let b = w.1 in
         (omega arith, omega arith)
 
-    at : (o : Option ℕ) → word_index 4 (4 * k) ≡ o → is_reference (option_and_then (slice_get (fields s c)) o) ≡ true → (1 ≤ k) × (k ≤ length (fields s c))
+    at : (o : Option ℕ) → word_index 4 (4 * k) ≡ o → is_reference (option_and_then (slice_get (Fields s c)) o) ≡ true → (1 ≤ k) × (k ≤ length (Fields s c))
     at None e r = absurd (none-refers r)
-    at (Some j) e r = found j e (slice_get (fields s c) j) refl r
+    at (Some j) e r = found j e (slice_get (Fields s c) j) refl r
 
 -- the references of a shape lie within what it needs
-within-need : (s : ShapesView) (shape : Shape) (n k : ℕ) → refers s shape n k ≡ true → (1 ≤ k) × (k + 2 < need s shape n)
-unfolding refers need rounded_up
+within-need : (s : ShapesView) (shape : Shape) (n k : ℕ) → refers s shape n k ≡ true → (1 ≤ k) × (k + 2 < Need s shape n)
+unfolding refers Need rounded_up
 within-need s (Class c) n k h = let f = field-word s c k h in let a = f.0 in let b = f.1 in (a, omega arith)
-within-need s (Kind q) n k h = let p = tests (nat_lt 1 k) (nat_lt k (2 + n)) (is_reference (element s q)) refl refl h in let a = p.0 in let b = p.1 in (omega arith, omega arith)
+within-need s (Kind q) n k h = let p = tests (nat_lt 1 k) (nat_lt k (2 + n)) (is_reference (Element s q)) refl refl h in let a = p.0 in let b = p.1 in (omega arith, omega arith)
   where
     first : nat_lt 1 k ≡ true → 1 < k
     first e = grind (arith, nat_tests)

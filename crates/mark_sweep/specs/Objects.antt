@@ -1,7 +1,7 @@
 use Rattle.std.specs.Prelude.{◌≡◌, ℕ, ◌+◌, ◌-◌, ◌*◌, ◌/◌, ◌<◌, ◌≤◌, ◌&&◌, Bool, true, false, List, slice_index, nat_lt, Option, Some, None, if◌then◌else◌}
 use Rattle.heap_words.specs.Headers.{size_at}
 use Rattle.heap_words.specs.Blocks.{IsUsed}
-use Rattle.object_layout.specs.Classes.{ShapesView, IsShape, need, field_at, element, table_address, descriptor_address}
+use Rattle.object_layout.specs.Classes.{ShapesView, IsShape, Need, field_at, Element, table_address, descriptor_address}
 use Rattle.object_layout.specs.declared.rows.FieldTy.{FieldTy}
 use Rattle.object_layout.specs.declared.rows.FieldTy.TheVariants.{Num, Ref, ArrRef, Fun}
 use Rattle.object_layout.specs.declared.rows.Shape.{Shape}
@@ -35,7 +35,7 @@ is_reference None = false
 -- has its length in word 1 and its elements from word 2 on
 unfoldable pub refers : ShapesView → Shape → ℕ → ℕ → Bool
 refers s (Class c) length k = is_reference (field_at s c (4 * k))
-refers s (Kind q) length k = (nat_lt 1 k && nat_lt k (2 + length)) && is_reference (element s q)
+refers s (Kind q) length k = (nat_lt 1 k && nat_lt k (2 + length)) && is_reference (Element s q)
 
 -- an object stands in the block at i: the block is used, its third word is a class's table or a kind's
 -- descriptor, and its size is what an object of that shape needs
@@ -43,7 +43,7 @@ pub record IsObject (s : ShapesView) (words : List ℕ) (i : ℕ) : Type 0 where
   pub used : IsUsed words i
   pub there : IsShape s (shape_named (slice_index words (i + 2)))
   pub named : slice_index words (i + 2) ≡ shape_word (shape_named (slice_index words (i + 2)))
-  pub exact : size_at words i ≡ need s (shape_named (slice_index words (i + 2))) (slice_index words (i + 3))
+  pub exact : size_at words i ≡ Need s (shape_named (slice_index words (i + 2))) (slice_index words (i + 3))
 
 -- word k of the object in the block at i stands behind its first word, lies in the block, and is a reference
 -- field or element

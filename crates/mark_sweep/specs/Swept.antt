@@ -1,6 +1,6 @@
 use Rattle.std.specs.Prelude.{◌≡◌, ℕ, ◌+◌, ◌<◌, ◌≤◌, ◌⊎◌, false, List, [], ◌∷◌, length, slice_index, sum, max, if◌then◌else◌}
 use Rattle.heap_words.specs.Headers.{size_at, used_at, marked_at}
-use Rattle.heap_words.specs.Blocks.{Begins, Block, blocks, blocks_from, IsFree, IsUsed, SameBlocks}
+use Rattle.heap_words.specs.Blocks.{Begins, Block, Blocks, blocks_from, IsFree, IsUsed, SameBlocks}
 
 -- no free block stands directly before another
 abbrev pub NoNeighbours : List ℕ → Type 0
@@ -18,10 +18,10 @@ greatest (x ∷ xs) = max x (greatest xs)
 
 -- the words of the free blocks together, and of the largest of them
 abbrev pub free_words : List ℕ → ℕ
-free_words words = sum (free_sizes (blocks words))
+free_words words = sum (free_sizes (Blocks words))
 
 abbrev pub largest_free : List ℕ → ℕ
-largest_free words = greatest (free_sizes (blocks words))
+largest_free words = greatest (free_sizes (Blocks words))
 
 -- What the passes over the blocks do, and how far they have come.
 

@@ -8,7 +8,7 @@ use Rattle.std.proofs.lemmas.List.Folds.{list_any_at}
 use Rattle.std.proofs.lemmas.Grind.{flat_map-append}
 use Rattle.std.proofs.lemmas.Option.{option_and_then_some, same_Some}
 use Rattle.object_layout.specs.declared.rows.FieldTy.{FieldTy}
-use Rattle.object_layout.specs.Classes.{ShapesView, parent, own_fields, lineage_within, lineage, depth, below, fields, field_at, signatures, slot_at, word_index, table_word, table_address}
+use Rattle.object_layout.specs.Classes.{ShapesView, parent, own_fields, lineage_within, lineage, Depth, Below, Fields, field_at, signatures, slot_at, word_index, table_word, table_address}
 use Rattle.object_layout.specs.Laws.{ClassLaws}
 use Rattle.object_layout.proofs.Tables.{table_word-at, display-word}
 use Rattle.object_layout.specs.Faults.{first_fault, is_front, keeps_methods}
@@ -22,47 +22,47 @@ unfolding lineage lineage_within
 lineage-end s c = (option_map_or (lineage_within c s) (parent s c) [], refl)
 
 -- a lineage is one longer than the depth
-pub lineage-length : (s : ShapesView) (c : ℕ) → length (lineage s c) ≡ depth s c + 1
-unfolding depth
+pub lineage-length : (s : ShapesView) (c : ℕ) → length (lineage s c) ≡ Depth s c + 1
+unfolding Depth
 lineage-length s c = let e = lineage-end s c in omega (arith, ap length e.1, length-append e.0 (c ∷ []))
 
 -- a class stands at its depth
-pub lineage-at : (s : ShapesView) (c : ℕ) → get_or (lineage s c) (depth s c) 0 ≡ c
+pub lineage-at : (s : ShapesView) (c : ℕ) → get_or (lineage s c) (Depth s c) 0 ≡ c
 lineage-at s c =
     let e = lineage-end s c in
-    let long : length e.0 ≡ depth s c = omega (arith, lineage-length s c, ap length e.1, length-append e.0 (c ∷ [])) in
-    ap (λ xs. get_or xs (depth s c) 0) e.1 ∙ get_or_at e.0 c [] 0 (depth s c) long
+    let long : length e.0 ≡ Depth s c = omega (arith, lineage-length s c, ap length e.1, length-append e.0 (c ∷ [])) in
+    ap (λ xs. get_or xs (Depth s c) 0) e.1 ∙ get_or_at e.0 c [] 0 (Depth s c) long
 
 -- an ancestor stands at its depth
-pub ancestor-at : (s : ShapesView) (k c d : ℕ) → IsEarlierBelow s k → c < k → Descends s c d → (depth s d ≤ depth s c) × (get_or (lineage s c) (depth s d) 0 ≡ d)
+pub ancestor-at : (s : ShapesView) (k c d : ℕ) → IsEarlierBelow s k → c < k → Descends s c d → (Depth s d ≤ Depth s c) × (get_or (lineage s c) (Depth s d) 0 ≡ d)
 ancestor-at s k c d h l t =
     let f = lineage-front s k c d h l t in
-    let short : depth s d < length (lineage s d) = omega (arith, lineage-length s d) in (
+    let short : Depth s d < length (lineage s d) = omega (arith, lineage-length s d) in (
       omega (arith, lineage-length s c, lineage-length s d, ap length f.1, length-append (lineage s d) f.0),
-      ap (λ xs. get_or xs (depth s d) 0) f.1 ∙ get_or_append_left (lineage s d) f.0 0 (depth s d) short ∙ lineage-at s d,
+      ap (λ xs. get_or xs (Depth s d) 0) f.1 ∙ get_or_append_left (lineage s d) f.0 0 (Depth s d) short ∙ lineage-at s d,
     )
 
 -- what stands in a lineage is the class or an ancestor
 pub descends-at : (s : ShapesView) (c d i : ℕ) → i < length (lineage s c) → get_or (lineage s c) i 0 ≡ d → list_any (nat_eq d) (lineage s c) ≡ true
 descends-at s c d i l e = list_any_at (nat_eq d) (lineage s c) i 0 l (grind (arith, nat_tests))
 
--- what `below` says, as facts
-pub below-parts : (s : ShapesView) (c d : ℕ) → below s c d ≡ true → (c < length s.classes) × Descends s c d
-unfolding below lineage
+-- what `Below` says, as facts
+pub below-parts : (s : ShapesView) (c d : ℕ) → Below s c d ≡ true → (c < length s.classes) × Descends s c d
+unfolding Below lineage
 below-parts s c d h =
     let parts = and_parts (nat_lt c (length s.classes)) _ h in
     (grind (arith, nat_tests), descends-within s (suc c) c d parts.1)
 
 -- what stands in the lineage of a class is above it
-pub below-from : (s : ShapesView) (c d i : ℕ) → c < length s.classes → i < length (lineage s c) → get_or (lineage s c) i 0 ≡ d → below s c d ≡ true
-unfolding below
+pub below-from : (s : ShapesView) (c d i : ℕ) → c < length s.classes → i < length (lineage s c) → get_or (lineage s c) i 0 ≡ d → Below s c d ≡ true
+unfolding Below
 below-from s c d i there l e = grind (arith, nat_tests, descends-at s c d i l e)
 
 -- an ancestor is above
-pub below-from_descends : (s : ShapesView) (c d : ℕ) → IsEarlierBelow s (length s.classes) → c < length s.classes → Descends s c d → below s c d ≡ true
+pub below-from_descends : (s : ShapesView) (c d : ℕ) → IsEarlierBelow s (length s.classes) → c < length s.classes → Descends s c d → Below s c d ≡ true
 below-from_descends s c d h there t =
     let a = ancestor-at s (length s.classes) c d h there t in
-    below-from s c d (depth s d) there (omega (arith, lineage-length s c)) a.1
+    below-from s c d (Depth s d) there (omega (arith, lineage-length s c)) a.1
 
 -- an ancestor is no later class
 pub descends-there : (s : ShapesView) (k c d : ℕ) → IsEarlierBelow s k → c < k → Descends s c d → d ≤ c
@@ -75,17 +75,17 @@ descends-trans s _ _ e (itself c) g = g
 descends-trans s _ _ e (under c p d x t) g = under c p e x (descends-trans s p d e t g)
 
 -- of two ancestors, one is below the other
-pub descends-tree : (s : ShapesView) (k c d e : ℕ) → IsEarlierBelow s k → c < k → k ≤ length s.classes → Descends s c d → Descends s c e → depth s e ≤ depth s d → below s d e ≡ true
+pub descends-tree : (s : ShapesView) (k c d e : ℕ) → IsEarlierBelow s k → c < k → k ≤ length s.classes → Descends s c d → Descends s c e → Depth s e ≤ Depth s d → Below s d e ≡ true
 descends-tree s k c d e h l there t u less =
     let a = ancestor-at s k c e h l u in
     let f = lineage-front s k c d h l t in
-    let short : depth s e < length (lineage s d) = omega (arith, lineage-length s d) in
+    let short : Depth s e < length (lineage s d) = omega (arith, lineage-length s d) in
     let low = descends-there s k c d h l t in
-    below-from s d e (depth s e) (omega arith) short (sym (get_or_append_left (lineage s d) f.0 0 (depth s e) short) ∙ sym (ap (λ xs. get_or xs (depth s e) 0) f.1) ∙ a.1)
+    below-from s d e (Depth s e) (omega arith) short (sym (get_or_append_left (lineage s d) f.0 0 (Depth s e) short) ∙ sym (ap (λ xs. get_or xs (Depth s e) 0) f.1) ∙ a.1)
 
 -- the fields of an ancestor stand in front
-pub fields-front : (s : ShapesView) (k c d : ℕ) → IsEarlierBelow s k → c < k → Descends s c d → (rest : List FieldTy) × (fields s c ≡ fields s d ++ rest)
-unfolding fields
+pub fields-front : (s : ShapesView) (k c d : ℕ) → IsEarlierBelow s k → c < k → Descends s c d → (rest : List FieldTy) × (Fields s c ≡ Fields s d ++ rest)
+unfolding Fields
 fields-front s k c d h l t =
     let f = lineage-front s k c d h l t in
     (flat_map (own_fields s) f.0, ap (flat_map (own_fields s)) f.1 ∙ flat_map-append (own_fields s) (lineage s d) f.0)
@@ -110,16 +110,16 @@ pub lineage-short : (s : ShapesView) (c : ℕ) → first_fault s ≡ None → c 
 lineage-short s c sound l = omega (arith, lineage-length s c, (classes-sound s sound c l).shallow)
 
 -- the table of a class names each ancestor at its depth
-display-law : (s : ShapesView) (c d : ℕ) → first_fault s ≡ None → below s c d ≡ true → table_word s c (3 + depth s d) ≡ Some (table_address d)
+display-law : (s : ShapesView) (c d : ℕ) → first_fault s ≡ None → Below s c d ≡ true → table_word s c (3 + Depth s d) ≡ Some (table_address d)
 display-law s c d sound h =
     let k = length s.classes in
     let earlier = parents-earlier s sound in
     let p = below-parts s c d h in
     let short = lineage-short s c sound p.0 in
     let a = ancestor-at s k c d earlier p.0 p.1 in
-    let inside : depth s d < length (lineage s c) = omega (arith, lineage-length s c) in
-    table_word-at s c (3 + depth s d) (table_address d) p.0 short (classes-sound s sound c p.0).few_methods (omega arith)
-    (display-word s c (depth s d) short (omega arith) ∙ get_or-map table_address (lineage s c) (depth s d) 0 0 inside ∙ ap table_address a.1)
+    let inside : Depth s d < length (lineage s c) = omega (arith, lineage-length s c) in
+    table_word-at s c (3 + Depth s d) (table_address d) p.0 short (classes-sound s sound c p.0).few_methods (omega arith)
+    (display-word s c (Depth s d) short (omega arith) ∙ get_or-map table_address (lineage s c) (Depth s d) 0 0 inside ∙ ap table_address a.1)
 
 -- tables of two classes are apart
 table_address-apart : (c d : ℕ) → table_address c ≡ table_address d → c ≡ d
@@ -132,31 +132,31 @@ unfolding table_address
 table_address-above c = omega arith
 
 -- what the table of a class names at its depth is above the class
-displayed-law : (s : ShapesView) (c d : ℕ) → first_fault s ≡ None → c < length s.classes → d < length s.classes → table_word s c (3 + depth s d) ≡ Some (table_address d) → below s c d ≡ true
+displayed-law : (s : ShapesView) (c d : ℕ) → first_fault s ≡ None → c < length s.classes → d < length s.classes → table_word s c (3 + Depth s d) ≡ Some (table_address d) → Below s c d ≡ true
 displayed-law s c d sound l m h =
     let short = lineage-short s c sound l in
-    let level : depth s d < 8 = omega (arith, (classes-sound s sound d m).shallow) in
-    let word = table_word-at s c (3 + depth s d) _ l short (classes-sound s sound c l).few_methods (omega arith) (display-word s c (depth s d) short level) in
-    let same : get_or (map table_address (lineage s c)) (depth s d) 0 ≡ table_address d = same_Some _ _ (sym word ∙ h) in
+    let level : Depth s d < 8 = omega (arith, (classes-sound s sound d m).shallow) in
+    let word = table_word-at s c (3 + Depth s d) _ l short (classes-sound s sound c l).few_methods (omega arith) (display-word s c (Depth s d) short level) in
+    let same : get_or (map table_address (lineage s c)) (Depth s d) 0 ≡ table_address d = same_Some _ _ (sym word ∙ h) in
     ⊎_elim
-    (λ (inside : depth s d < length (lineage s c)).
-    below-from s c d (depth s d) l inside (table_address-apart _ d (sym (get_or-map table_address (lineage s c) (depth s d) 0 0 inside) ∙ same)))
-    (λ (past : length (lineage s c) ≤ depth s d).
-    let zero = get_or_past (map table_address (lineage s c)) (depth s d) 0 (omega (arith, length-map (lineage s c) table_address)) in
+    (λ (inside : Depth s d < length (lineage s c)).
+    below-from s c d (Depth s d) l inside (table_address-apart _ d (sym (get_or-map table_address (lineage s c) (Depth s d) 0 0 inside) ∙ same)))
+    (λ (past : length (lineage s c) ≤ Depth s d).
+    let zero = get_or_past (map table_address (lineage s c)) (Depth s d) 0 (omega (arith, length-map (lineage s c) table_address)) in
     absurd (omega (arith, table_address-above d)))
-    (cases_lt (depth s d) (length (lineage s c)))
+    (cases_lt (Depth s d) (length (lineage s c)))
 
 -- a field stays where it is below its class
-field-law : (s : ShapesView) (c d byte : ℕ) (t : FieldTy) → first_fault s ≡ None → below s c d ≡ true → field_at s d byte ≡ Some t → field_at s c byte ≡ Some t
+field-law : (s : ShapesView) (c d byte : ℕ) (t : FieldTy) → first_fault s ≡ None → Below s c d ≡ true → field_at s d byte ≡ Some t → field_at s c byte ≡ Some t
 unfolding field_at
 field-law s c d byte t sound h e =
     let p = below-parts s c d h in
     let f = fields-front s (length s.classes) c d (parents-earlier s sound) p.0 p.1 in
-    option_and_then_some (slice_get (fields s d)) (word_index 4 byte) t e
-    (λ i w g. rw w (rw f.1 (slice_get-front (fields s d) f.0 i t g)))
+    option_and_then_some (slice_get (Fields s d)) (word_index 4 byte) t e
+    (λ i w g. rw w (rw f.1 (slice_get-front (Fields s d) f.0 i t g)))
 
 -- a method slot stays where it is below its class
-slot-law : (s : ShapesView) (c d byte g : ℕ) → first_fault s ≡ None → below s c d ≡ true → slot_at s d byte ≡ Some g → slot_at s c byte ≡ Some g
+slot-law : (s : ShapesView) (c d byte g : ℕ) → first_fault s ≡ None → Below s c d ≡ true → slot_at s d byte ≡ Some g → slot_at s c byte ≡ Some g
 unfolding slot_at
 slot-law s c d byte g sound h e =
     let p = below-parts s c d h in
@@ -164,18 +164,18 @@ slot-law s c d byte g sound h e =
     (λ i w x. rw w (is_front-get (signatures s d) (signatures s c) i g (signatures-front s c d sound p.0 p.1) x))
 
 -- of two ancestors of a class, one is below the other
-tree-law : (s : ShapesView) (c d e : ℕ) → first_fault s ≡ None → below s c d ≡ true → below s c e ≡ true → (below s d e ≡ true) ⊎ (below s e d ≡ true)
+tree-law : (s : ShapesView) (c d e : ℕ) → first_fault s ≡ None → Below s c d ≡ true → Below s c e ≡ true → (Below s d e ≡ true) ⊎ (Below s e d ≡ true)
 tree-law s c d e sound h g =
     let k = length s.classes in
     let earlier = parents-earlier s sound in
     let p = below-parts s c d h in let q = below-parts s c e g in
     ⊎_elim
-    (λ (less : depth s e < depth s d). inl (descends-tree s k c d e earlier p.0 (omega arith) p.1 q.1 (omega arith)))
-    (λ (less : depth s d ≤ depth s e). inr (descends-tree s k c e d earlier p.0 (omega arith) q.1 p.1 less))
-    (cases_lt (depth s e) (depth s d))
+    (λ (less : Depth s e < Depth s d). inl (descends-tree s k c d e earlier p.0 (omega arith) p.1 q.1 (omega arith)))
+    (λ (less : Depth s d ≤ Depth s e). inr (descends-tree s k c e d earlier p.0 (omega arith) q.1 p.1 less))
+    (cases_lt (Depth s e) (Depth s d))
 
 -- two classes that are below each other are one
-antisymmetric-law : (s : ShapesView) (c d : ℕ) → first_fault s ≡ None → below s c d ≡ true → below s d c ≡ true → c ≡ d
+antisymmetric-law : (s : ShapesView) (c d : ℕ) → first_fault s ≡ None → Below s c d ≡ true → Below s d c ≡ true → c ≡ d
 antisymmetric-law s c d sound h g =
     let k = length s.classes in
     let earlier = parents-earlier s sound in
@@ -184,7 +184,7 @@ antisymmetric-law s c d sound h g =
     omega arith
 
 -- both classes are there
-pub there-law : (s : ShapesView) (c d : ℕ) → first_fault s ≡ None → below s c d ≡ true → (c < length s.classes) × (d < length s.classes)
+pub there-law : (s : ShapesView) (c d : ℕ) → first_fault s ≡ None → Below s c d ≡ true → (c < length s.classes) × (d < length s.classes)
 there-law s c d sound h =
     let p = below-parts s c d h in
     let a = descends-there s (length s.classes) c d (parents-earlier s sound) p.0 p.1 in

@@ -7,7 +7,7 @@ use Rattle.std.proofs.lemmas.Grind.{flat_map-append}
 use Rattle.object_layout.specs.declared.rows.ClassRow.{ClassRow}
 use Rattle.object_layout.specs.declared.laying.LaidClass.{LaidClass}
 use Rattle.object_layout.specs.declared.laying.Inherited.{Inherited}
-use Rattle.object_layout.specs.Classes.{ShapesView, parent, own_fields, lineage, fields, methods, signatures, signatures_of}
+use Rattle.object_layout.specs.Classes.{ShapesView, parent, own_fields, lineage, Fields, Methods, signatures, signatures_of}
 use Rattle.object_layout.specs.Faults.{first_below, class_fault, has_earlier_parent, keeps_methods, is_front}
 use Rattle.object_layout.specs.Layout.{IsLaid, IsInherited}
 use Rattle.object_layout.proofs.Lineages.{IsEarlierBelow, lineage-root, lineage-under}
@@ -27,8 +27,8 @@ unfolding own_fields
 own_fields-of_row s c row e = rw e refl
 
 -- the methods, by the row
-pub methods-of_row : (s : ShapesView) (c : ℕ) (row : ClassRow) → slice_get s.classes c ≡ Some row → methods s c ≡ row.methods
-unfolding methods
+pub methods-of_row : (s : ShapesView) (c : ℕ) (row : ClassRow) → slice_get s.classes c ≡ Some row → Methods s c ≡ row.methods
+unfolding Methods
 methods-of_row s c row e = rw e refl
 
 -- no parent is no bad one
@@ -53,8 +53,8 @@ all_zero (x ∷ xs) h zero = grind (arith, nat_tests)
 all_zero (x ∷ xs) h (suc k) = all_zero xs (and_parts _ _ h).1 k
 
 -- a root has its own fields
-pub fields-root : (s : ShapesView) (c : ℕ) → parent s c ≡ None → fields s c ≡ own_fields s c
-unfolding fields
+pub fields-root : (s : ShapesView) (c : ℕ) → parent s c ≡ None → Fields s c ≡ own_fields s c
+unfolding Fields
 fields-root s c e = ap (flat_map (own_fields s)) (lineage-root s c e) ∙ append-nil (own_fields s c)
 
 -- a root takes over nothing
@@ -86,15 +86,15 @@ earlier-with s c h e = record {
 }
 
 -- the fields of the parent stand before the own ones
-pub fields-under : (s : ShapesView) (c p : ℕ) → IsEarlierBelow s (suc c) → parent s c ≡ Some p → fields s c ≡ fields s p ++ own_fields s c
-unfolding fields
+pub fields-under : (s : ShapesView) (c p : ℕ) → IsEarlierBelow s (suc c) → parent s c ≡ Some p → Fields s c ≡ Fields s p ++ own_fields s c
+unfolding Fields
 fields-under s c p h e =
     ap (flat_map (own_fields s)) (lineage-under s (suc c) c p h (omega arith) e)
     ∙ flat_map-append (own_fields s) (lineage s p) (c ∷ [])
     ∙ ap (λ xs. flat_map (own_fields s) (lineage s p) ++ xs) (append-nil (own_fields s c))
 
 -- the test of the methods, by those of the parent
-kept-under : (s : ShapesView) (c p : ℕ) (ms : List ℕ) → parent s c ≡ Some p → methods s p ≡ ms → keeps_methods s c ≡ is_front (signatures_of s ms) (signatures s c)
+kept-under : (s : ShapesView) (c p : ℕ) (ms : List ℕ) → parent s c ≡ Some p → Methods s p ≡ ms → keeps_methods s c ≡ is_front (signatures_of s ms) (signatures s c)
 unfolding keeps_methods signatures
 kept-under s c p ms e m = rw (e, m) refl
 

@@ -8,7 +8,7 @@ use Rattle.std.proofs.lemmas.List.{get_or-take, length-take-le, append-nil, get_
 use Rattle.object_layout.specs.declared.rows.FunRow.{FunRow}
 use Rattle.std.proofs.lemmas.Option.{slice_get_past, slice_get_within, slice_get-map, unwrap_or-slice_get, get_or_from_slice_get}
 use Rattle.object_layout.specs.declared.laying.LaidClass.{LaidClass}
-use Rattle.object_layout.specs.Classes.{ShapesView, parent, own_fields, methods, signatures, signatures_of, lineage_within, lineage, depth, below, fields, field_at, slot_at, word_index, fun_row, rounded_up, need, element}
+use Rattle.object_layout.specs.Classes.{ShapesView, parent, own_fields, Methods, signatures, signatures_of, lineage_within, lineage, Depth, Below, Fields, field_at, slot_at, word_index, fun_row, rounded_up, Need, Element}
 use Rattle.object_layout.specs.declared.rows.KindRow.{KindRow}
 use Rattle.object_layout.specs.declared.rows.Shape.TheVariants.{Class, Kind}
 use Rattle.object_layout.specs.Faults.{first_fault, has_indexes}
@@ -19,13 +19,13 @@ use Rattle.object_layout.proofs.ClassLaws.{lineage-length, ancestor-at, below-pa
 -- What the look-ups find where there is no class.
 
 -- no class, no fields
-pub fields-no_class : (s : ShapesView) (c : ℕ) → length s.classes ≤ c → fields s c ≡ []
-unfolding fields lineage lineage_within parent own_fields
+pub fields-no_class : (s : ShapesView) (c : ℕ) → length s.classes ≤ c → Fields s c ≡ []
+unfolding Fields lineage lineage_within parent own_fields
 fields-no_class s c l = rw (slice_get_past s.classes c l, append-nil) (rw (slice_get_past s.classes c l) refl)
 
 -- no class, no slots
 pub signatures-no_class : (s : ShapesView) (c : ℕ) → length s.classes ≤ c → signatures s c ≡ []
-unfolding signatures signatures_of methods
+unfolding signatures signatures_of Methods
 signatures-no_class s c l = rw (slice_get_past s.classes c l) refl
 
 -- an empty list has nothing at any place
@@ -39,15 +39,15 @@ unfolding field_at
 field_at-no_class s c byte l = rw (fields-no_class s c l) (found_in_none (word_index 4 byte))
 
 -- no class is below another without being there
-pub below-no_class : (s : ShapesView) (c d : ℕ) → length s.classes ≤ c → below s c d ≡ false
-unfolding below
+pub below-no_class : (s : ShapesView) (c d : ℕ) → length s.classes ≤ c → Below s c d ≡ false
+unfolding Below
 below-no_class s c d l = grind (arith, nat_tests)
 
 -- What is kept beside a row.
 
 -- the methods are those of the row
-pub methods-laid : (s : ShapesView) (c : ℕ) (laid : LaidClass) → IsLaid s c laid → methods s c ≡ laid.row.methods
-unfolding methods
+pub methods-laid : (s : ShapesView) (c : ℕ) (laid : LaidClass) → IsLaid s c laid → Methods s c ≡ laid.row.methods
+unfolding Methods
 methods-laid s c laid h = rw h.row refl
 
 -- the lineage has one class for each depth up to its own
@@ -55,7 +55,7 @@ pub lineage-laid : (s : ShapesView) (c : ℕ) (laid : LaidClass) → IsLaid s c 
 lineage-laid s c laid h = ap length h.ancestors ∙ length-take-le (suc laid.depth) laid.lineage (omega (arith, h.room, h.shallow))
 
 -- the depth is kept
-pub depth-laid : (s : ShapesView) (c : ℕ) (laid : LaidClass) → IsLaid s c laid → depth s c ≡ laid.depth
+pub depth-laid : (s : ShapesView) (c : ℕ) (laid : LaidClass) → IsLaid s c laid → Depth s c ≡ laid.depth
 depth-laid s c laid h = omega (arith, lineage-laid s c laid h, lineage-length s c)
 
 -- the ancestors are kept at their depths
@@ -65,12 +65,12 @@ ancestor-laid s c laid h k l = ap (λ xs. get_or xs k 0) h.ancestors ∙ get_or-
 -- The display tells what is below what.
 
 -- what the display names at its depth is above
-pub below-laid : (s : ShapesView) (c d : ℕ) (low high : LaidClass) → IsLaid s c low → IsLaid s d high → c < length s.classes → high.depth ≤ low.depth → get_or low.lineage high.depth 0 ≡ d → below s c d ≡ true
+pub below-laid : (s : ShapesView) (c d : ℕ) (low high : LaidClass) → IsLaid s c low → IsLaid s d high → c < length s.classes → high.depth ≤ low.depth → get_or low.lineage high.depth 0 ≡ d → Below s c d ≡ true
 below-laid s c d low high h g there l e =
     below-from s c d high.depth there (omega (arith, lineage-laid s c low h)) (ancestor-laid s c low h high.depth l ∙ e)
 
 -- what is above stands in the display at its depth
-pub below-told : (s : ShapesView) (c d : ℕ) (low high : LaidClass) → first_fault s ≡ None → IsLaid s c low → IsLaid s d high → below s c d ≡ true → (high.depth ≤ low.depth) × (get_or low.lineage high.depth 0 ≡ d)
+pub below-told : (s : ShapesView) (c d : ℕ) (low high : LaidClass) → first_fault s ≡ None → IsLaid s c low → IsLaid s d high → Below s c d ≡ true → (high.depth ≤ low.depth) × (get_or low.lineage high.depth 0 ≡ d)
 below-told s c d low high sound h g b =
     let p = below-parts s c d b in
     let a = ancestor-at s (length s.classes) c d (parents-earlier s sound) p.0 p.1 in
@@ -83,17 +83,17 @@ same_tests : (a b : Bool) → (a ≡ true → b ≡ true) → (b ≡ true → a 
 same_tests a b f g = grind arith
 
 -- the display decides
-pub below-at : (s : ShapesView) (c d : ℕ) (low high : LaidClass) → first_fault s ≡ None → IsLaid s c low → IsLaid s d high → high.depth ≤ low.depth → nat_eq (get_or low.lineage high.depth 0) d ≡ below s c d
+pub below-at : (s : ShapesView) (c d : ℕ) (low high : LaidClass) → first_fault s ≡ None → IsLaid s c low → IsLaid s d high → high.depth ≤ low.depth → nat_eq (get_or low.lineage high.depth 0) d ≡ Below s c d
 below-at s c d low high sound h g l = same_tests _ _
     (λ e. below-laid s c d low high h g (slice_get_within _ _ _ h.row) l (grind (arith, nat_tests)))
     (λ e. let same = (below-told s c d low high sound h g e).1 in grind (arith, nat_tests))
 
 -- a deeper class is not above
-pub below-deeper : (s : ShapesView) (c d : ℕ) (low high : LaidClass) → first_fault s ≡ None → IsLaid s c low → IsLaid s d high → low.depth < high.depth → false ≡ below s c d
+pub below-deeper : (s : ShapesView) (c d : ℕ) (low high : LaidClass) → first_fault s ≡ None → IsLaid s c low → IsLaid s d high → low.depth < high.depth → false ≡ Below s c d
 below-deeper s c d low high sound h g l = same_tests _ _ (λ e. cc) (λ e. absurd (omega (arith, (below-told s c d low high sound h g e).0)))
 
 -- a class that is not there is not above
-pub below-no_ancestor : (s : ShapesView) (c d : ℕ) → first_fault s ≡ None → length s.classes ≤ d → false ≡ below s c d
+pub below-no_ancestor : (s : ShapesView) (c d : ℕ) → first_fault s ≡ None → length s.classes ≤ d → false ≡ Below s c d
 below-no_ancestor s c d sound l = same_tests _ _ (λ e. cc) (λ e. absurd (omega (arith, (there-law s c d sound e).1)))
 
 -- the field at a byte, by the fields that are kept
@@ -110,22 +110,22 @@ methods-named s c laid named h =
     λ k d a. let e = pass k d a in grind (arith, nat_tests)
 
 -- no class, no methods
-pub methods-no_class : (s : ShapesView) (c : ℕ) → length s.classes ≤ c → methods s c ≡ []
-unfolding methods
+pub methods-no_class : (s : ShapesView) (c : ℕ) → length s.classes ≤ c → Methods s c ≡ []
+unfolding Methods
 methods-no_class s c l = rw (slice_get_past s.classes c l) refl
 
 -- no class, no method in a slot
-pub method-no_class : (s : ShapesView) (c slot : ℕ) → length s.classes ≤ c → None ≡ option_map (fun_row s) (slice_get (methods s c) slot)
+pub method-no_class : (s : ShapesView) (c slot : ℕ) → length s.classes ≤ c → None ≡ option_map (fun_row s) (slice_get (Methods s c) slot)
 method-no_class s c slot l = rw (methods-no_class s c l) refl
 
 -- the function in a slot, by the row
-pub method-laid : (s : ShapesView) (c slot : ℕ) (laid : LaidClass) (o : Option ℕ) → IsLaid s c laid → o ≡ slice_get laid.row.methods slot → option_map (fun_row s) o ≡ option_map (fun_row s) (slice_get (methods s c) slot)
+pub method-laid : (s : ShapesView) (c slot : ℕ) (laid : LaidClass) (o : Option ℕ) → IsLaid s c laid → o ≡ slice_get laid.row.methods slot → option_map (fun_row s) o ≡ option_map (fun_row s) (slice_get (Methods s c) slot)
 method-laid s c slot laid o h e = rw (methods-laid s c laid h) (ap (option_map (fun_row s)) e)
 
 -- a slot's signature, by its function
-pub slot_at-method : (s : ShapesView) (c byte slot : ℕ) → Some slot ≡ word_index 44 byte → slot_at s c byte ≡ option_map (λ (row : FunRow). row.sig) (option_map (fun_row s) (slice_get (methods s c) slot))
+pub slot_at-method : (s : ShapesView) (c byte slot : ℕ) → Some slot ≡ word_index 44 byte → slot_at s c byte ≡ option_map (λ (row : FunRow). row.sig) (option_map (fun_row s) (slice_get (Methods s c) slot))
 unfolding slot_at signatures signatures_of
-slot_at-method s c byte slot e = rw (← e, slice_get-map) (two_maps (slice_get (methods s c) slot))
+slot_at-method s c byte slot e = rw (← e, slice_get-map) (two_maps (slice_get (Methods s c) slot))
   where
     two_maps : (o : Option ℕ) → option_map (λ f. (fun_row s f).sig) o ≡ option_map (λ (row : FunRow). row.sig) (option_map (fun_row s) o)
     two_maps None = refl
@@ -137,8 +137,8 @@ unfolding slot_at
 slot_at-no_word s c byte e = rw (← e) refl
 
 -- a slot's address, by its function
-pub address-method : (s : ShapesView) (c slot : ℕ) → slice_index (map (λ f. (fun_row s f).address) (methods s c)) slot ≡ option_map_or (λ (row : FunRow). row.address) (option_map (fun_row s) (slice_get (methods s c) slot)) 0
-address-method s c slot = sym (unwrap_or-slice_get (map (λ f. (fun_row s f).address) (methods s c)) slot 0) ∙ rw slice_get-map (two_maps (slice_get (methods s c) slot))
+pub address-method : (s : ShapesView) (c slot : ℕ) → slice_index (map (λ f. (fun_row s f).address) (Methods s c)) slot ≡ option_map_or (λ (row : FunRow). row.address) (option_map (fun_row s) (slice_get (Methods s c) slot)) 0
+address-method s c slot = sym (unwrap_or-slice_get (map (λ f. (fun_row s f).address) (Methods s c)) slot 0) ∙ rw slice_get-map (two_maps (slice_get (Methods s c) slot))
   where
     two_maps : (o : Option ℕ) → unwrap_or (option_map (λ f. (fun_row s f).address) o) 0 ≡ option_map_or (λ (row : FunRow). row.address) (option_map (fun_row s) o) 0
     two_maps None = refl
@@ -159,16 +159,16 @@ fun_row-read s f row l e = get_or_read s.funs f row l e _
 -- The words that an object needs.
 
 -- an object's need, by the fields that are kept
-pub need-class : (s : ShapesView) (c n : ℕ) (laid : LaidClass) → IsLaid s c laid → rounded_up (3 + length laid.fields) ≡ need s (Class c) n
-unfolding need
+pub need-class : (s : ShapesView) (c n : ℕ) (laid : LaidClass) → IsLaid s c laid → rounded_up (3 + length laid.fields) ≡ Need s (Class c) n
+unfolding Need
 need-class s c n laid h = rw h.whole refl
 
 -- an array's need
-pub need-kind : (s : ShapesView) (k n : ℕ) → rounded_up (4 + n) ≡ need s (Kind k) n
-unfolding need
+pub need-kind : (s : ShapesView) (k n : ℕ) → rounded_up (4 + n) ≡ Need s (Kind k) n
+unfolding Need
 need-kind s k n = refl
 
 -- the element type, by the row
-pub element-at : (s : ShapesView) (k : ℕ) (o : Option KindRow) → o ≡ slice_get s.kinds k → option_map (λ (row : KindRow). row.element) o ≡ element s k
-unfolding element
+pub element-at : (s : ShapesView) (k : ℕ) (o : Option KindRow) → o ≡ slice_get s.kinds k → option_map (λ (row : KindRow). row.element) o ≡ Element s k
+unfolding Element
 element-at s k o e = ap (option_map (λ (row : KindRow). row.element)) e

@@ -7,7 +7,7 @@ use Rattle.object_layout.specs.declared.rows.ClassRow.{ClassRow}
 use Rattle.object_layout.specs.declared.laying.Inherited.{Inherited}
 use Rattle.object_layout.specs.declared.faults.ShapeFault.{ShapeFault}
 use Rattle.object_layout.specs.declared.faults.ShapeFault.TheVariants.{BadParent, TooDeep, TooMany, BadIndex, BadMethod}
-use Rattle.object_layout.specs.Classes.{ShapesView, own_fields, fields, depth, signatures, signatures_of}
+use Rattle.object_layout.specs.Classes.{ShapesView, own_fields, Fields, Depth, signatures, signatures_of}
 use Rattle.object_layout.specs.Faults.{class_fault, has_earlier_parent, is_too_many, has_indexes, is_type, is_front}
 use Rattle.object_layout.specs.Layout.{IsInherited, IsLaid}
 use Rattle.object_layout.proofs.Sound.{class-sound}
@@ -17,13 +17,13 @@ use Rattle.object_layout.proofs.ClassLaws.{lineage-length}
 -- The faults of a row, by what the class takes over from its parent.
 
 -- the depth is the number of ancestors
-pub depth-inherited : (s : ShapesView) (c : ℕ) (above : Inherited) → IsInherited s c above → depth s c ≡ above.ancestors
+pub depth-inherited : (s : ShapesView) (c : ℕ) (above : Inherited) → IsInherited s c above → Depth s c ≡ above.ancestors
 depth-inherited s c above h =
     let long = length-take-le above.ancestors above.lineage (omega (arith, h.shallow, h.room)) in
     omega (arith, lineage-length s c, ap length h.ancestors, length-append (take above.ancestors above.lineage) (c ∷ []))
 
 -- the fields are those of the parent and the own ones
-pub length-fields-inherited : (s : ShapesView) (c : ℕ) (above : Inherited) (row : ClassRow) → IsInherited s c above → slice_get s.classes c ≡ Some row → length (fields s c) ≡ length above.fields.now + length row.fields
+pub length-fields-inherited : (s : ShapesView) (c : ℕ) (above : Inherited) (row : ClassRow) → IsInherited s c above → slice_get s.classes c ≡ Some row → length (Fields s c) ≡ length above.fields.now + length row.fields
 length-fields-inherited s c above row h e = ap length h.whole ∙ length-append above.fields.now (own_fields s c) ∙ ap (λ xs. length above.fields.now + length xs) (own_fields-of_row s c row e)
 
 -- the first fault of a row whose parent is an earlier class

@@ -4,7 +4,7 @@ use Rattle.std.proofs.lemmas.Bool.Decides.{nat_tests}
 use Rattle.std.proofs.lemmas.Bool.{cases_lt}
 use Rattle.std.proofs.lemmas.Option.{slice_get_cases}
 use Rattle.object_layout.specs.declared.faults.ShapeFault.{ShapeFault}
-use Rattle.object_layout.specs.Classes.{ShapesView, parent, depth, fields, methods}
+use Rattle.object_layout.specs.Classes.{ShapesView, parent, Depth, Fields, Methods}
 use Rattle.object_layout.specs.Faults.{first_fault, first_below, class_fault, kind_fault, has_earlier_parent, is_too_many, has_indexes, keeps_methods}
 use Rattle.object_layout.proofs.Lineages.{IsEarlierBelow}
 
@@ -12,9 +12,9 @@ use Rattle.object_layout.proofs.Lineages.{IsEarlierBelow}
 
 pub record IsSoundClass (s : ShapesView) (c : ℕ) : Type 0 where
   pub earlier : has_earlier_parent s c ≡ true
-  pub shallow : depth s c ≤ 7
-  pub few_fields : length (fields s c) ≤ 256
-  pub few_methods : length (methods s c) ≤ 53
+  pub shallow : Depth s c ≤ 7
+  pub few_fields : length (Fields s c) ≤ 256
+  pub few_methods : length (Methods s c) ≤ 53
   pub few_classes : c < 1024
   pub named : has_indexes s c ≡ true
   pub kept : keeps_methods s c ≡ true

@@ -4,7 +4,7 @@ use Rattle.std.proofs.lemmas.Bool.Decides.{nat_tests}
 use Rattle.std.proofs.lemmas.List.{get_or-map, get_or_past, length-map}
 use Rattle.std.proofs.lemmas.Option.{slice_get_within}
 use Rattle.object_layout.specs.declared.laying.LaidClass.{LaidClass}
-use Rattle.object_layout.specs.Classes.{ShapesView, lineage, methods, fun_row, table, table_word, table_address}
+use Rattle.object_layout.specs.Classes.{ShapesView, lineage, Methods, fun_row, table, table_word, table_address}
 use Rattle.object_layout.specs.Faults.{first_fault}
 use Rattle.object_layout.specs.Layout.{IsLaid}
 use Rattle.object_layout.proofs.Sound.{classes-sound}
@@ -56,7 +56,7 @@ level-word s c word laid sound h l m =
     ∙ ap (table_word s c) place
 
 -- the words from 11 on are the methods
-pub slot-word : (s : ShapesView) (c word : ℕ) (laid : LaidClass) → first_fault s ≡ None → IsLaid s c laid → 11 ≤ word → word < 64 → Some (slice_index (map (λ f. (fun_row s f).address) (methods s c)) (word - 11)) ≡ table_word s c word
+pub slot-word : (s : ShapesView) (c word : ℕ) (laid : LaidClass) → first_fault s ≡ None → IsLaid s c laid → 11 ≤ word → word < 64 → Some (slice_index (map (λ f. (fun_row s f).address) (Methods s c)) (word - 11)) ≡ table_word s c word
 slot-word s c word laid sound h l m =
     let place : 11 + (word - 11) ≡ word = omega arith in
     let few = (classes-sound s sound c (slice_get_within _ _ _ h.row)).few_methods in

@@ -27,8 +27,8 @@ unfoldable pub own_fields : ShapesView → ℕ → List FieldTy
 own_fields s c = option_map_or (λ (row : ClassRow). row.fields) (slice_get s.classes c) []
 
 -- the functions in the method slots of class c
-unfoldable pub methods : ShapesView → ℕ → List ℕ
-methods s c = option_map_or (λ (row : ClassRow). row.methods) (slice_get s.classes c) []
+unfoldable pub Methods : ShapesView → ℕ → List ℕ
+Methods s c = option_map_or (λ (row : ClassRow). row.methods) (slice_get s.classes c) []
 
 -- a function's row
 unfoldable pub fun_row : ShapesView → ℕ → FunRow
@@ -40,7 +40,7 @@ signatures_of s functions = map (λ f. (fun_row s f).sig) functions
 
 -- the signatures of the method slots of class c
 unfoldable pub signatures : ShapesView → ℕ → List ℕ
-signatures s c = signatures_of s (methods s c)
+signatures s c = signatures_of s (Methods s c)
 
 -- class c behind its ancestors, the root first, in at most n classes
 unfoldable pub lineage_within : ℕ → ShapesView → ℕ → List ℕ
@@ -52,20 +52,20 @@ unfoldable pub lineage : ShapesView → ℕ → List ℕ
 lineage s c = lineage_within (suc c) s c
 
 -- how many ancestors class c has
-unfoldable pub depth : ShapesView → ℕ → ℕ
-depth s c = length (lineage s c) - 1
+unfoldable pub Depth : ShapesView → ℕ → ℕ
+Depth s c = length (lineage s c) - 1
 
 -- there is a class c, and it is d or has d as an ancestor
-unfoldable pub below : ShapesView → ℕ → ℕ → Bool
-below s c d = nat_lt c (length s.classes) && list_any (nat_eq d) (lineage s c)
+unfoldable pub Below : ShapesView → ℕ → ℕ → Bool
+Below s c d = nat_lt c (length s.classes) && list_any (nat_eq d) (lineage s c)
 
 -- the types of all fields of an object of class c: the parent's, then the own ones
-unfoldable pub fields : ShapesView → ℕ → List FieldTy
-fields s c = flat_map (own_fields s) (lineage s c)
+unfoldable pub Fields : ShapesView → ℕ → List FieldTy
+Fields s c = flat_map (own_fields s) (lineage s c)
 
 -- the element type of kind k
-unfoldable pub element : ShapesView → ℕ → Option FieldTy
-element s k = option_map (λ (row : KindRow). row.element) (slice_get s.kinds k)
+unfoldable pub Element : ShapesView → ℕ → Option FieldTy
+Element s k = option_map (λ (row : KindRow). row.element) (slice_get s.kinds k)
 
 -- which word of those from byte `first` on stands at a byte
 unfoldable pub word_index : ℕ → ℕ → Option ℕ
@@ -73,7 +73,7 @@ word_index first byte = if nat_le first byte && ((byte - first) % 4 == 0) then S
 
 -- the type of the field at a byte of an object of class c: field i stands at byte 4 + 4i
 unfoldable pub field_at : ShapesView → ℕ → ℕ → Option FieldTy
-field_at s c byte = option_and_then (slice_get (fields s c)) (word_index 4 byte)
+field_at s c byte = option_and_then (slice_get (Fields s c)) (word_index 4 byte)
 
 -- the signature of the method at a byte of the table of class c: method m stands at byte 44 + 4m
 unfoldable pub slot_at : ShapesView → ℕ → ℕ → Option ℕ
@@ -90,9 +90,9 @@ rounded_up n = (n + 3) / 4 * 4
 
 -- the heap words that an object takes: a block's two words, then its table word with its fields, or its
 -- descriptor word, its length and its elements
-unfoldable pub need : ShapesView → Shape → ℕ → ℕ
-need s (Class c) elements = rounded_up (3 + length (fields s c))
-need s (Kind k) elements = rounded_up (4 + elements)
+unfoldable pub Need : ShapesView → Shape → ℕ → ℕ
+Need s (Class c) elements = rounded_up (3 + length (Fields s c))
+Need s (Kind k) elements = rounded_up (4 + elements)
 
 -- where the table of class c stands
 unfoldable pub table_address : ℕ → ℕ
@@ -121,8 +121,8 @@ padded n words = words ++ replicate (n - length words) 0
 -- words), and the addresses of its methods (53 words)
 unfoldable pub table : ShapesView → ℕ → List ℕ
 table s c =
-    (1 + length (fields s c)) ∷ depth s c ∷ 0 ∷ (
-    padded 8 (map table_address (lineage s c)) ++ padded 53 (map (λ f. (fun_row s f).address) (methods s c))
+    (1 + length (Fields s c)) ∷ Depth s c ∷ 0 ∷ (
+    padded 8 (map table_address (lineage s c)) ++ padded 53 (map (λ f. (fun_row s f).address) (Methods s c))
     )
 
 -- a word of the table of class c, if there is such a class and such a word

@@ -5,7 +5,7 @@ use Rattle.object_layout.specs.declared.rows.FieldTy.{FieldTy}
 use Rattle.object_layout.specs.declared.rows.FieldTy.TheVariants.{Num, Ref, ArrRef, Fun}
 use Rattle.object_layout.specs.declared.faults.ShapeFault.{ShapeFault}
 use Rattle.object_layout.specs.declared.faults.ShapeFault.TheVariants.{BadParent, TooDeep, TooMany, BadIndex, BadMethod}
-use Rattle.object_layout.specs.Classes.{ShapesView, parent, own_fields, methods, fields, depth, signatures, element}
+use Rattle.object_layout.specs.Classes.{ShapesView, parent, own_fields, Methods, Fields, Depth, signatures, Element}
 
 -- Which rows are a table: no row has a fault. The faults of a row are tried in the order of `ShapeFault`.
 
@@ -15,7 +15,7 @@ has_earlier_parent s c = option_map_or (λ p. nat_lt p c) (parent s c) true
 
 -- more than 256 fields or 53 methods, or the 1025th class
 unfoldable pub is_too_many : ShapesView → ℕ → Bool
-is_too_many s c = nat_lt 256 (length (fields s c)) || (nat_lt 53 (length (methods s c)) || nat_le 1024 c)
+is_too_many s c = nat_lt 256 (length (Fields s c)) || (nat_lt 53 (length (Methods s c)) || nat_le 1024 c)
 
 -- the class, kind or signature that a type names is there
 unfoldable pub is_type : ShapesView → FieldTy → Bool
@@ -26,7 +26,7 @@ is_type s (Fun g) = nat_lt g s.sigs
 
 -- all that the row names is there
 unfoldable pub has_indexes : ShapesView → ℕ → Bool
-has_indexes s c = list_all (is_type s) (own_fields s c) && list_all (λ f. nat_lt f (length s.funs)) (methods s c)
+has_indexes s c = list_all (is_type s) (own_fields s c) && list_all (λ f. nat_lt f (length s.funs)) (Methods s c)
 
 -- the second list begins with the first
 unfoldable pub is_front : List ℕ → List ℕ → Bool
@@ -42,7 +42,7 @@ keeps_methods s c = option_map_or (λ p. is_front (signatures s p) (signatures s
 unfoldable pub class_fault : ShapesView → ℕ → Option ShapeFault
 class_fault s c =
     if not (has_earlier_parent s c) then Some (BadParent c)
-    else if nat_lt 7 (depth s c) then Some (TooDeep c)
+    else if nat_lt 7 (Depth s c) then Some (TooDeep c)
     else if is_too_many s c then Some (TooMany c)
     else if not (has_indexes s c) then Some (BadIndex c)
     else if not (keeps_methods s c) then Some (BadMethod c)
@@ -52,7 +52,7 @@ class_fault s c =
 unfoldable pub kind_fault : ShapesView → ℕ → Option ShapeFault
 kind_fault s k =
     if nat_le 256 k then Some (TooMany k)
-    else if not (option_map_or (is_type s) (element s k) true) then Some (BadIndex k)
+    else if not (option_map_or (is_type s) (Element s k) true) then Some (BadIndex k)
     else None
 
 -- the first fault of the rows 0 to n - 1

@@ -1,21 +1,21 @@
 use Rattle.std.specs.Prelude.{◌≡◌, ℕ, ◌+◌, ◌<◌, ◌≤◌, ◌⊎◌, true, length, Some}
 use Rattle.object_layout.specs.declared.rows.FieldTy.{FieldTy}
-use Rattle.object_layout.specs.Classes.{ShapesView, depth, fields, methods, below, field_at, slot_at, table_word, table_address}
+use Rattle.object_layout.specs.Classes.{ShapesView, Depth, Fields, Methods, Below, field_at, slot_at, table_word, table_address}
 
 -- What holds of classes: they are few trees, and a class keeps what stands above it where it stands.
 pub record ClassLaws (s : ShapesView) : Type 0 where
-  pub is_there : (c d : ℕ) → below s c d ≡ true → (c < length s.classes) × (d < length s.classes)
-  pub reflexive : (c : ℕ) → c < length s.classes → below s c c ≡ true
-  pub transitive : (c d e : ℕ) → below s c d ≡ true → below s d e ≡ true → below s c e ≡ true
-  pub tree : (c d e : ℕ) → below s c d ≡ true → below s c e ≡ true → (below s d e ≡ true) ⊎ (below s e d ≡ true)
-  pub antisymmetric : (c d : ℕ) → below s c d ≡ true → below s d c ≡ true → c ≡ d
-  pub field_kept : (c d byte : ℕ) (t : FieldTy) → below s c d ≡ true → field_at s d byte ≡ Some t → field_at s c byte ≡ Some t
-  pub slot_kept : (c d byte g : ℕ) → below s c d ≡ true → slot_at s d byte ≡ Some g → slot_at s c byte ≡ Some g
+  pub is_there : (c d : ℕ) → Below s c d ≡ true → (c < length s.classes) × (d < length s.classes)
+  pub reflexive : (c : ℕ) → c < length s.classes → Below s c c ≡ true
+  pub transitive : (c d e : ℕ) → Below s c d ≡ true → Below s d e ≡ true → Below s c e ≡ true
+  pub tree : (c d e : ℕ) → Below s c d ≡ true → Below s c e ≡ true → (Below s d e ≡ true) ⊎ (Below s e d ≡ true)
+  pub antisymmetric : (c d : ℕ) → Below s c d ≡ true → Below s d c ≡ true → c ≡ d
+  pub field_kept : (c d byte : ℕ) (t : FieldTy) → Below s c d ≡ true → field_at s d byte ≡ Some t → field_at s c byte ≡ Some t
+  pub slot_kept : (c d byte g : ℕ) → Below s c d ≡ true → slot_at s d byte ≡ Some g → slot_at s c byte ≡ Some g
   pub few_classes : length s.classes ≤ 1024
   pub few_kinds : length s.kinds ≤ 256
-  pub shallow : (c : ℕ) → c < length s.classes → depth s c ≤ 7
-  pub few_fields : (c : ℕ) → c < length s.classes → length (fields s c) ≤ 256
-  pub few_methods : (c : ℕ) → c < length s.classes → length (methods s c) ≤ 53
+  pub shallow : (c : ℕ) → c < length s.classes → Depth s c ≤ 7
+  pub few_fields : (c : ℕ) → c < length s.classes → length (Fields s c) ≤ 256
+  pub few_methods : (c : ℕ) → c < length s.classes → length (Methods s c) ≤ 53
   -- a class's table tells at a class's depth whether it is below it
-  pub display : (c d : ℕ) → below s c d ≡ true → table_word s c (3 + depth s d) ≡ Some (table_address d)
-  pub displayed : (c d : ℕ) → c < length s.classes → d < length s.classes → table_word s c (3 + depth s d) ≡ Some (table_address d) → below s c d ≡ true
+  pub display : (c d : ℕ) → Below s c d ≡ true → table_word s c (3 + Depth s d) ≡ Some (table_address d)
+  pub displayed : (c d : ℕ) → c < length s.classes → d < length s.classes → table_word s c (3 + Depth s d) ≡ Some (table_address d) → Below s c d ≡ true

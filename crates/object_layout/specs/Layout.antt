@@ -3,7 +3,7 @@ use Rattle.object_layout.specs.declared.laying.LaidClass.{LaidClass}
 use Rattle.object_layout.specs.declared.laying.Rows.{Rows}
 use Rattle.object_layout.specs.declared.laying.Inherited.{Inherited}
 use Rattle.object_layout.specs.declared.look_ups.Shapes.TheInside.{Inside}
-use Rattle.object_layout.specs.Classes.{ShapesView, lineage, fields, own_fields, signatures, signatures_of}
+use Rattle.object_layout.specs.Classes.{ShapesView, lineage, Fields, own_fields, signatures, signatures_of}
 use Rattle.object_layout.specs.Faults.{first_fault, first_below, class_fault, has_earlier_parent, keeps_methods, is_front}
 
 -- How a `Shapes` keeps its rows.
@@ -23,7 +23,7 @@ pub record IsLaid (s : ShapesView) (c : ℕ) (laid : LaidClass) : Type 0 where
   pub shallow : laid.depth ≤ 7
   pub ancestors : lineage s c ≡ take (suc laid.depth) laid.lineage
   pub few_classes : (k : ℕ) → slice_index laid.lineage k < 1024
-  pub whole : fields s c ≡ laid.fields
+  pub whole : Fields s c ≡ laid.fields
   pub few_fields : length laid.fields ≤ 256
 
 -- the rows have no fault, and each class is laid out
@@ -44,7 +44,7 @@ pub record IsInherited (s : ShapesView) (c : ℕ) (above : Inherited) : Type 0 w
   pub shallow : above.ancestors ≤ 8
   pub ancestors : lineage s c ≡ take above.ancestors above.lineage ++ c ∷ []
   pub few_classes : (k : ℕ) → slice_index above.lineage k < 1024
-  pub whole : fields s c ≡ above.fields.now ++ own_fields s c
+  pub whole : Fields s c ≡ above.fields.now ++ own_fields s c
   pub few_fields : length above.fields.now ≤ 256
   pub named : All (λ f. f < length s.funs) above.methods.now
   pub kept : keeps_methods s c ≡ is_front (signatures_of s above.methods.now) (signatures s c)

@@ -211,7 +211,7 @@ impl Rows<'_> {
     }
 
     /// The first fault of kind row `k`.
-    #[tactic(auto, unfolding(crate::specs::Faults::kind_fault, crate::specs::Classes::element))]
+    #[tactic(auto, unfolding(crate::specs::Faults::kind_fault, crate::specs::Classes::Element))]
     fn kind_fault(&self, k: usize) -> Option<ShapeFault>
         requires there { k < length self.now.kinds.now }
         requires few { k ≤ 256 }

@@ -31,7 +31,7 @@ impl Model for Shapes {
 }
 
 impl Shapes {
-    ghost use Rattle.object_layout.specs.Classes.{below, field_at, slot_at, element, need, table_word, fun_row, methods, IsShape, ShapesView};
+    ghost use Rattle.object_layout.specs.Classes.{Below, field_at, slot_at, Element, Need, table_word, fun_row, Methods, IsShape, ShapesView};
     ghost use Rattle.object_layout.specs.Faults.{first_fault};
     ghost use Rattle.object_layout.specs.Laws.{ClassLaws};
     ghost use Rattle.object_layout.specs.Layout.{IsLaid};
@@ -89,7 +89,7 @@ impl Shapes {
 
     /// The function in a method slot of class `c`, if there is such a slot.
     fn method(&self, c: u32, slot: usize) -> Option<FunRow>
-        ensures { result ≡ option_map (fun_row self.now) (slice_get (methods self.now c) slot) }
+        ensures { result ≡ option_map (fun_row self.now) (slice_get (Methods self.now c) slot) }
     {
         let class = self.class(c)?;
         let function = class.row.methods.items().get(slot).copied()?;
@@ -98,7 +98,7 @@ impl Shapes {
 
     /// The address of the function in a method slot of class `c`, or 0 past the last slot.
     fn method_address(&self, c: u32, slot: u32) -> u32
-        ensures { result ≡ slice_index (map (λ f. (fun_row self.now f).address) (methods self.now c)) slot }
+        ensures { result ≡ slice_index (map (λ f. (fun_row self.now f).address) (Methods self.now c)) slot }
     {
         match self.method(c, slot as usize) {
             Some(row) => row.address,
@@ -108,7 +108,7 @@ impl Shapes {
 
     /// Whether there is a class `c`, and it is `d` or has `d` as an ancestor.
     pub fn below(&self, c: u32, d: u32) -> bool
-        ensures { result ≡ below self.now c d }
+        ensures { result ≡ Below self.now c d }
     {
         match (self.class(c), self.class(d)) {
             (Some(low), Some(high)) => {
@@ -141,7 +141,7 @@ impl Shapes {
     /// of elements, and counts for an array alone.
     pub fn need_words(&self, shape: Shape, length: u32) -> u64
         requires { IsShape self.now shape }
-        ensures { result ≡ need self.now shape length }
+        ensures { result ≡ Need self.now shape length }
     {
         match shape {
             Shape::Class(c) => {
@@ -170,7 +170,7 @@ impl Shapes {
 
     /// What the elements of kind `k` are; none where there is no such kind.
     pub fn element_of(&self, k: u32) -> Option<FieldTy>
-        ensures value { result ≡ element self.now k }
+        ensures value { result ≡ Element self.now k }
         ensures there { IsSome result ↔ (k < length self.now.kinds) }
     {
         let row = self.kinds.get(k as usize)?;

@@ -9,7 +9,7 @@ use Rattle.ia32_code.specs.declared.instruction.Mem.{Mem}
 use Rattle.ia32_code.specs.declared.instruction.Operand.{Operand}
 use Rattle.ia32_code.specs.declared.instruction.Operand.TheVariants.{R, M, I}
 use Rattle.object_layout.specs.declared.rows.FieldTy.{FieldTy}
-use Rattle.object_layout.specs.Classes.{ShapesView, word_index, field_at, slot_at, element}
+use Rattle.object_layout.specs.Classes.{ShapesView, word_index, field_at, slot_at, Element}
 use Rattle.object_layout.specs.Laws.{ClassLaws}
 use Rattle.tal_types.specs.declared.types.Ty.{Ty}
 use Rattle.tal_types.specs.declared.types.Ty.TheVariants.{Num, Obj, Arr, Tab, Junk}
@@ -93,9 +93,9 @@ pub element_place-below : (s : ShapesView) (a b : LiveContext) (r : Reg) (j k : 
 unfolding element_place
 element_place-below s a b r j k i scale n h e = rw e (go (b.pairs i r) (h.pairs i r))
   where
-    go : (t : Bool) → (t ≡ true → a.pairs i r ≡ true) → FoundBelow s (element_place s a r k i scale n) (if t && ((scale == 2) && (n == 8)) then whole (element s k) else None)
+    go : (t : Bool) → (t ≡ true → a.pairs i r ≡ true) → FoundBelow s (element_place s a r k i scale n) (if t && ((scale == 2) && (n == 8)) then whole (Element s k) else None)
     go false f = tt
-    go true f = rw (f refl) (place-same s (if (scale == 2) && (n == 8) then whole (element s k) else None))
+    go true f = rw (f refl) (place-same s (if (scale == 2) && (n == 8) then whole (Element s k) else None))
 
 -- places at a base other than ESP
 pub based-below : (s : ShapesView) → ClassLaws s → (a b : LiveContext) (r : Reg) (t u : Ty) (x : Option Reg) (k n : ℕ) → LiveBelow s a b → sub s t u ≡ true → FoundBelow s (based s a r t x k n) (based s b r u x k n)

@@ -7,7 +7,7 @@ use Rattle.ia32_code.specs.declared.instruction.Mem.{Mem}
 use Rattle.ia32_code.specs.declared.instruction.Operand.{Operand}
 use Rattle.ia32_code.specs.declared.instruction.Operand.TheVariants.{R, M, I}
 use Rattle.object_layout.specs.declared.rows.FieldTy.{FieldTy}
-use Rattle.object_layout.specs.Classes.{ShapesView, word_index, field_at, slot_at, element}
+use Rattle.object_layout.specs.Classes.{ShapesView, word_index, field_at, slot_at, Element}
 use Rattle.tal_types.specs.declared.types.Ty.{Ty}
 use Rattle.tal_types.specs.declared.types.Ty.TheVariants.{Num, Ref, Obj, ArrRef, Arr, Fun, Code, Tab, Desc, Junk}
 use Rattle.tal_types.specs.declared.views.Mark.{Mark}
@@ -40,7 +40,7 @@ array_place disp = if disp == 4 then Some Length else None
 
 -- element: base a of Arr k, index i times 4, displacement 8, the pair (i, a)
 unfoldable pub element_place : ShapesView → LiveContext → Reg → ℕ → Reg → ℕ → ℕ → Option Place
-element_place s c a k i scale disp = if c.pairs i a && ((scale == 2) && (disp == 8)) then whole (element s k) else None
+element_place s c a k i scale disp = if c.pairs i a && ((scale == 2) && (disp == 8)) then whole (Element s k) else None
 
 -- display: base Tab c, no index, displacement 12 + 4d, d 0 to 7
 unfoldable pub display_place : Reg → ℕ → Option Place

@@ -5,7 +5,7 @@ use Rattle.ia32_code.specs.declared.instruction.Reg.{Reg}
 use Rattle.ia32_code.specs.declared.instruction.Reg.TheVariants.{Eax, Ecx, Edx, Ebx, Esp, Ebp, Esi, Edi}
 use Rattle.ia32_code.specs.declared.instruction.Operand.{Operand}
 use Rattle.ia32_code.specs.declared.instruction.Operand.TheVariants.{R, M, I}
-use Rattle.object_layout.specs.Classes.{ShapesView, depth}
+use Rattle.object_layout.specs.Classes.{ShapesView, Depth}
 use Rattle.tal_types.specs.declared.types.Ty.{Ty}
 use Rattle.tal_types.specs.declared.types.Ty.TheVariants as ty
 use Rattle.tal_types.specs.declared.types.FlagKind.{FlagKind}
@@ -61,7 +61,7 @@ length_base v c _ = None
 
 -- there is class c, and its depth is k
 unfoldable pub has_depth : ShapesView → ℕ → ℕ → Bool
-has_depth s c k = nat_lt c (length s.classes) && (depth s c == k)
+has_depth s c k = nat_lt c (length s.classes) && (Depth s c == k)
 
 -- the register of lowest number whose object's table is in t
 unfoldable pub first_head : LiveContext → Reg → Option Reg

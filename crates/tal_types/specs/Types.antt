@@ -1,7 +1,7 @@
 use Rattle.std.specs.Prelude.{◌≡◌, ℕ, ◌==◌, Bool, true, false, ◌||◌}
 use Rattle.object_layout.specs.declared.rows.FieldTy.{FieldTy}
 use Rattle.object_layout.specs.declared.rows.FieldTy.TheVariants.{Num as NumField, Ref as RefField, ArrRef as ArrRefField, Fun as FunField}
-use Rattle.object_layout.specs.Classes.{ShapesView, below}
+use Rattle.object_layout.specs.Classes.{ShapesView, Below}
 use Rattle.tal_types.specs.declared.types.Ty.{Ty}
 use Rattle.tal_types.specs.declared.types.Ty.TheVariants.{Num, Ref, Obj, ArrRef, Arr, Fun, Code, Tab, Desc, Junk}
 
@@ -16,7 +16,7 @@ of_field (FunField g) = Fun g
 
 -- class c is d, or has d as an ancestor
 unfoldable pub within : ShapesView → ℕ → ℕ → Bool
-within s c d = (c == d) || below s c d
+within s c d = (c == d) || Below s c d
 
 -- whether the first type is below the second: whatever has it has the second, too. Types are below
 -- themselves and Junk; what is surely there is below what may be null; and a class is below its ancestors

@@ -1,6 +1,6 @@
 use Rattle.std.proofs.Common.{◌+◌, ap, sym, ◌∙◌, length}
 use Rattle.std.proofs.lemmas.Option.{MatchOption-at_some}
-use Rattle.object_layout.specs.Classes.{need, rounded_up}
+use Rattle.object_layout.specs.Classes.{Need, rounded_up}
 use Rattle.object_layout.proofs.LookUps.{need-class, need-kind}
 use Rattle.object_layout.proofs.look_ups.Shapes.need_words.Goals as goal
 
@@ -10,11 +10,11 @@ returns-in-Class c =
     c.rounded_up.ensures
     ∙ ap (λ xs. rounded_up (3 + length xs)) c.items.ensures
     ∙ need-class _ _ c.args.length _ laid
-    ∙ ap (λ shape. need c.args.self.now shape c.args.length) (sym c.in-Class.is)
+    ∙ ap (λ shape. Need c.args.self.now shape c.args.length) (sym c.in-Class.is)
 
 pub returns-in-Kind : goal.returns-in-Kind
 returns-in-Kind c =
     c.rounded_up-in-Kind.ensures
     ∙ ap (λ n. rounded_up (4 + n)) c.from.ensures
     ∙ need-kind _ _ _
-    ∙ ap (λ shape. need c.args.self.now shape c.args.length) (sym c.in-Kind.is)
+    ∙ ap (λ shape. Need c.args.self.now shape c.args.length) (sym c.in-Kind.is)
