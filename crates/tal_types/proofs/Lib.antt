@@ -1,4 +1,3 @@
 pub mod Orders
 pub mod Registers
 pub mod Meanings
-pub mod Changes

@@ -1,6 +1,6 @@
-use Rattle.std.proofs.Common.{◌≡◌, ◌≢◌, ℕ, zero, suc, ◌+◌, ◌<◌, ◌≤◌, false, List, [], ◌∷◌, length, ◌++◌, get_or, set, take, replicate, append_assoc, refl, ap, sym, ◌∙◌, arith, if◌then◌else◌}
+use Rattle.std.proofs.Common.{◌≡◌, ◌≢◌, ℕ, zero, suc, ◌+◌, ◌<◌, ◌≤◌, false, List, [], ◌∷◌, length, ◌++◌, get_or, set, take, replicate, refl, ap, sym, ◌∙◌, arith, if◌then◌else◌}
 use Rattle.std.proofs.lemmas.Bool.Decides.{nat_tests}
-use Rattle.std.proofs.lemmas.List.{get_or_default, get_or-set_other, take_all, take_more, take_more_set, append-nil}
+use Rattle.std.proofs.lemmas.List.{get_or_default, get_or-set_other, take_more, take_more_set}
 use Rattle.std.proofs.lemmas.Nat.Bits.{bit_at-zero}
 use Rattle.ia32_code.specs.declared.instruction.Reg.{Reg}
 use Rattle.ia32_code.specs.declared.instruction.Reg.TheVariants.{Eax, Ecx, Edx, Ebx, Esp, Ebp, Esi, Edi}
@@ -66,29 +66,3 @@ filled-more all slots i long l m same =
 -- a slot that is filled in leaves those behind it
 pub filled-rest : (all : List Ty) (i : ℕ) (t : Ty) → ((k : ℕ) → i ≤ k → get_or all k Junk ≡ Junk) → (k : ℕ) → i + 1 ≤ k → get_or (set all i t) k Junk ≡ Junk
 filled-rest all i t rest k l = let apart : k ≢ i = omega arith in get_or-set_other all i k t Junk apart ∙ rest k (omega arith)
-
--- one more slot of the second list is placed
-pub placed-more : (all first second : List Ty) (j : ℕ) → length all ≡ 64 → length first + j < 64 → j < length second → take (length first + j) all ≡ first ++ take j second → take (length first + (j + 1)) (set all (length first + j) (get_or second j Num)) ≡ first ++ take (j + 1) second
-placed-more all first second j long l m same =
-    let i = length first + j in
-    let next : length first + (j + 1) ≡ i + 1 = omega arith in
-    ap (λ n. take n (set all i (get_or second j Num))) next
-    ∙ take_more_set all i (get_or second j Num) (omega arith)
-    ∙ ap (λ xs. xs ++ get_or second j Num ∷ []) same
-    ∙ append_assoc first (take j second) (get_or second j Num ∷ [])
-    ∙ ap (λ xs. first ++ xs) (sym (take_more second j Num m))
-
--- behind the first list none of the second is placed yet
-pub placed-none : (all first : List Ty) (i : ℕ) → i ≡ length first → take i all ≡ take i first → take (length first + 0) all ≡ first ++ []
-placed-none all first i end same =
-    let here : length first + 0 ≡ i = omega arith in
-    ap (λ n. take n all) here ∙ same ∙ take_all i first (omega arith) ∙ sym (append-nil first)
-
--- behind both lists all is placed
-pub placed-all : (all first second : List Ty) (j : ℕ) → j ≡ length second → take (length first + j) all ≡ first ++ take j second → take (length first + length second) all ≡ first ++ second
-placed-all all first second j end same =
-    ap (λ n. take (length first + n) all) (sym end) ∙ same ∙ ap (λ xs. first ++ xs) (take_all j second (omega arith))
-
--- a slot of the second list leaves those behind it
-pub placed-rest : (all first : List Ty) (j : ℕ) (t : Ty) → ((k : ℕ) → length first + j ≤ k → get_or all k Junk ≡ Junk) → (k : ℕ) → length first + (j + 1) ≤ k → get_or (set all (length first + j) t) k Junk ≡ Junk
-placed-rest all first j t rest k l = filled-rest all (length first + j) t rest k (omega arith)

@@ -2,4 +2,3 @@ pub mod Types
 pub mod Contexts
 pub mod Kept
 pub mod Shown
-pub mod Writes

@@ -1,4 +1,4 @@
-ghost use Rattle.std.specs.Prelude.{◌≡◌, ◌≤◌, ◌+◌, ◌++◌, ℕ, length, take, slice_index_or};
+ghost use Rattle.std.specs.Prelude.{◌≡◌, ◌≤◌, ℕ, length, take, slice_index_or};
 ghost use Rattle.tal_types.specs.declared.types.Ty.TheVariants.{Junk};
 
 use crate::types::{FlagKind, Ty};
@@ -37,7 +37,7 @@ impl Context {
         Context {
             dead: true,
             regs: [Ty::Junk; 8],
-            slots: placed(&[], &[]),
+            slots: filled(&[]),
             depth: 0,
             kind: FlagKind::Lost,
             pairs: 0,
@@ -63,7 +63,7 @@ impl Context {
                 types[5],
                 types[6],
             ],
-            slots: placed(slots, &[]),
+            slots: filled(slots),
             depth: slots.len() as u8,
             kind: FlagKind::Lost,
             pairs: 0,
@@ -81,18 +81,15 @@ impl Context {
     }
 }
 
-/// The slots of two lists, one after the other, and Junk past the last.
-pub(crate) fn placed(first: &[Ty], second: &[Ty]) -> [Ty; 64]
-    requires { length first.now + length second.now ≤ 64 }
-    ensures slots { take (length first.now + length second.now) result ≡ first.now ++ second.now }
-    ensures rest { (k : ℕ) → length first.now + length second.now ≤ k → slice_index_or result k Junk ≡ Junk }
+/// The slots of a list, and Junk past the last.
+fn filled(slots: &[Ty]) -> [Ty; 64]
+    requires { length slots.now ≤ 64 }
+    ensures slots { take (length slots.now) result ≡ slots.now }
+    ensures rest { (k : ℕ) → length slots.now ≤ k → slice_index_or result k Junk ≡ Junk }
 {
     let mut all = [Ty::Junk; 64];
-    for i in 0..first.len() {
-        all[i] = first[i];
-    }
-    for j in 0..second.len() {
-        all[first.len() + j] = second[j];
+    for i in 0..slots.len() {
+        all[i] = slots[i];
     }
     all
 }

@@ -3,8 +3,7 @@
 // `Ty` is the type of a value in a register, a slot or a place in memory, `FlagKind` what the last
 // operation lets a branch use, and `Context` all that is known before an instruction. `sub` and
 // `context_below` test the orders of types and of contexts, and `entry_context` is what a signature lets
-// a function know at its first instruction. `Context` has the changes that instructions make (`write`,
-// `push`, `call` and others), and `ImageView` is what typing asks of an image. Contracts see a
+// a function know at its first instruction. `ImageView` is what typing asks of an image. Contracts see a
 // `Context` as `context_of` says; the definitions stand in `specs/Types.antt` and `specs/Contexts.antt`,
 // and that both are orders in the module `laws`.
 #![tactic(auto)]
@@ -15,7 +14,6 @@ mod order;
 mod signatures;
 mod types;
 mod views;
-mod writes;
 
 pub use contexts::Context;
 pub use order::{context_below, sub};

@@ -1,6 +1,0 @@
-use Rattle.std.proofs.Common.{refl}
-use Rattle.tal_types.proofs.Changes.{live_of-paired}
-use Rattle.tal_types.proofs.contexts.Context.add_pair.Goals as goal
-
-pub returns-clause-live : goal.returns-clause-live
-returns-clause-live c = live_of-paired c.args.self.now _ _ _ refl refl refl c.with_pair-self.ensures refl

@@ -1,6 +1,0 @@
-use Rattle.std.proofs.Common.{refl, ap, set, arith}
-use Rattle.tal_types.proofs.Changes.{live_of-narrow}
-use Rattle.tal_types.proofs.contexts.Context.narrow.Goals as goal
-
-pub returns-clause-live : goal.returns-clause-live
-returns-clause-live c = live_of-narrow c.args.self.now _ _ _ (omega arith) (ap (λ n. set c.args.self.now.regs n c.args.t) c.number.ensures.number) refl refl refl refl
