@@ -1,5 +1,5 @@
 use Rattle.std.proofs.Common.{◌≡◌, ℕ, Bool, true, false, not, ◌&&◌, ◌||◌, if◌then◌else◌, Option, Some, None, refl, sym, ◌∙◌, ap, subst, arith}
-use Rattle.std.specs.Prelude.{MatchOption, is_some, Result, Ok, Err, IfOk, IfErr}
+use Rattle.std.specs.Prelude.{MatchOption, Result, Ok, Err, IfOk, IfErr}
 use Rattle.ia32_code.specs.declared.instruction.Cond.{Cond}
 use Rattle.std.specs.Option.{option_map, option_and_then}
 use Rattle.ia32_code.specs.declared.instruction.Inst.{Inst}
@@ -103,7 +103,7 @@ fall-seventeen v c pc next f d g op e k h j =
     edge-fails v c pc next f (Some 17) op (rw (fall-rules v c pc next f g, i, j) refl)
 
 -- where no block is
-pub fits-nothing : (v : ShownImage) (c : ContextView) (next : ℕ) (o : Option Context) → option_map context_of o ≡ v.block_at next → is_some o ≡ false → edge_fits v.shapes c (v.block_at next) ≡ true
+pub fits-nothing : (v : ShownImage) (c : ContextView) (next : ℕ) (o : Option Context) → option_map context_of o ≡ v.block_at next → o ≡ None → edge_fits v.shapes c (v.block_at next) ≡ true
 unfolding edge_fits
 fits-nothing v c next None h e = rw (sym h) refl
 fits-nothing v c next (Some d) h e = absurd (grind arith)

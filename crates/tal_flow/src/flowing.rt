@@ -24,6 +24,15 @@ fn fits<V: ImageView>(image: &V, context: &Context, address: u32) -> bool
     }
 }
 
+/// Whether what is known where an instruction falls to a block is below the annotation there.
+#[tactic(auto, unfolding(crate::specs::Rules::edge_fits))]
+fn fits_block<V: ImageView>(image: &V, context: &Context, address: u32, block: &Context) -> bool
+    requires { Some (context_of block.now) ≡ (V.shown image.now).block_at address }
+    ensures { result ≡ edge_fits (V.shown image.now).shapes (context_of context.now) ((V.shown image.now).block_at address) }
+{
+    context_below(image.shapes(), context, block)
+}
+
 /// The rules 16 and 17 of an instruction that falls through, and what it leaves.
 fn fall<V: ImageView>(
     image: &V,
@@ -39,21 +48,24 @@ fn fall<V: ImageView>(
     ensures rule { IfErr result (λ rule. rule_of_form (V.shown image.now) (Live (live_of context.old)) pc next form.now ≡ Some rule.0) }
     ensures same { IfErr result (λ rule. context.new ≡ context.old) }
 {
-    if image.block_at(next).is_some() {
-        let mut after = *context;
-        step(image, &mut after, pc, form);
-        if !fits(image, &after, next) {
-            return Err(Rule(16));
+    match image.block_at(next) {
+        Some(block) => {
+            let mut after = *context;
+            step(image, &mut after, pc, form);
+            if !fits_block(image, &after, next, &block) {
+                return Err(Rule(16));
+            }
+            if !in_function(image, pc, next) {
+                return Err(Rule(17));
+            }
+            *context = after;
         }
-        if !in_function(image, pc, next) {
-            return Err(Rule(17));
+        None => {
+            if !in_function(image, pc, next) {
+                return Err(Rule(17));
+            }
+            step(image, context, pc, form);
         }
-        *context = after;
-    } else {
-        if !in_function(image, pc, next) {
-            return Err(Rule(17));
-        }
-        step(image, context, pc, form);
     }
     Ok(Edges {
         branch: None,

@@ -3,38 +3,38 @@ use Rattle.tal_types.specs.Kept.{live_of}
 use Rattle.tal_flow.proofs.EdgeRules.{fall-sixteen, fall-seventeen, fall-outside, fits-nothing, fall-flows}
 use Rattle.tal_flow.proofs.flowing.fall.Goals as goal
 
-pub returns-then-not-fits-clause-rule : goal.returns-then-not-fits-clause-rule
-returns-then-not-fits-clause-rule g c =
-    let t = c.if-not-fits.true in
-    let f : c.fits.result ≡ false = grind arith in
-    fall-sixteen _ (live_of c.args.context.now) c.args.pc c.args.next c.args.form.now c.step.new.context c.requires.form c.requires.rules (c.step.ensures.dead ∙ c.requires.alive) c.step.ensures.known (sym c.fits.ensures ∙ f)
+pub returns-then-not-fits_block-clause-rule : goal.returns-then-not-fits_block-clause-rule
+returns-then-not-fits_block-clause-rule g c =
+    let t = c.if-not-fits_block.true in
+    let f : c.fits_block.result ≡ false = grind arith in
+    fall-sixteen _ (live_of c.args.context.now) c.args.pc c.args.next c.args.form.now c.step.new.context c.requires.form c.requires.rules (c.step.ensures.dead ∙ c.requires.alive) c.step.ensures.known (sym c.fits_block.ensures ∙ f)
 
 pub returns-then-not-in_function-clause-rule : goal.returns-then-not-in_function-clause-rule
 returns-then-not-in_function-clause-rule g c =
-    let t = c.if-not-fits.false in
-    let f : c.fits.result ≡ true = grind arith in
+    let t = c.if-not-fits_block.false in
+    let f : c.fits_block.result ≡ true = grind arith in
     let u = c.if-not-in_function.true in
     let h : c.in_function.result ≡ false = grind arith in
-    fall-seventeen _ (live_of c.args.context.now) c.args.pc c.args.next c.args.form.now c.step.new.context c.requires.form c.requires.rules (c.step.ensures.dead ∙ c.requires.alive) c.step.ensures.known (sym c.fits.ensures ∙ f) (sym c.in_function.ensures ∙ h)
+    fall-seventeen _ (live_of c.args.context.now) c.args.pc c.args.next c.args.form.now c.step.new.context c.requires.form c.requires.rules (c.step.ensures.dead ∙ c.requires.alive) c.step.ensures.known (sym c.fits_block.ensures ∙ f) (sym c.in_function.ensures ∙ h)
 
 pub returns-then-not-in_function-2-clause-rule : goal.returns-then-not-in_function-2-clause-rule
 returns-then-not-in_function-2-clause-rule g c =
     let u = c.if-not-in_function-2.true in
-    let h : c.in_function-else-is_some.result ≡ false = grind arith in
-    fall-outside _ (live_of c.args.context.now) c.args.pc c.args.next c.args.form.now c.requires.form c.requires.rules (fits-nothing (g.V.ImageView.shown c.args.image.now) _ c.args.next c.block_at.result c.block_at.ensures (let s = c.if-is_some.false in let r = c.is_some.ensures in grind arith)) (sym c.in_function-else-is_some.ensures ∙ h)
+    let h : c.in_function-in-None.result ≡ false = grind arith in
+    fall-outside _ (live_of c.args.context.now) c.args.pc c.args.next c.args.form.now c.requires.form c.requires.rules (fits-nothing (g.V.ImageView.shown c.args.image.now) _ c.args.next c.block_at.result c.block_at.ensures c.in-None.is) (sym c.in_function-in-None.ensures ∙ h)
 
 pub returns-else-not-in_function-clause-ok : goal.returns-else-not-in_function-clause-ok
 returns-else-not-in_function-clause-ok g c =
-    let t = c.if-not-fits.false in
-    let f : c.fits.result ≡ true = grind arith in
+    let t = c.if-not-fits_block.false in
+    let f : c.fits_block.result ≡ true = grind arith in
     let u = c.if-not-in_function.false in
     let h : c.in_function.result ≡ true = grind arith in
-    fall-flows _ (live_of c.args.context.now) c.args.pc c.args.next c.args.form.now c.step.new.context c.requires.form c.requires.rules (c.step.ensures.dead ∙ c.requires.alive) c.step.ensures.known (sym c.fits.ensures ∙ f) (sym c.in_function.ensures ∙ h)
+    fall-flows _ (live_of c.args.context.now) c.args.pc c.args.next c.args.form.now c.step.new.context c.requires.form c.requires.rules (c.step.ensures.dead ∙ c.requires.alive) c.step.ensures.known (sym c.fits_block.ensures ∙ f) (sym c.in_function.ensures ∙ h)
 
 pub returns-else-not-in_function-2-clause-ok : goal.returns-else-not-in_function-2-clause-ok
 returns-else-not-in_function-2-clause-ok g c =
     let u = c.if-not-in_function-2.false in
-    let h : c.in_function-else-is_some.result ≡ true = grind arith in
-    fall-flows _ (live_of c.args.context.now) c.args.pc c.args.next c.args.form.now c.step-else-is_some.new.context c.requires.form c.requires.rules (c.step-else-is_some.ensures.dead ∙ c.requires.alive) c.step-else-is_some.ensures.known
-    (fits-nothing (g.V.ImageView.shown c.args.image.now) _ c.args.next c.block_at.result c.block_at.ensures (let s = c.if-is_some.false in let r = c.is_some.ensures in grind arith))
-    (sym c.in_function-else-is_some.ensures ∙ h)
+    let h : c.in_function-in-None.result ≡ true = grind arith in
+    fall-flows _ (live_of c.args.context.now) c.args.pc c.args.next c.args.form.now c.step-in-None.new.context c.requires.form c.requires.rules (c.step-in-None.ensures.dead ∙ c.requires.alive) c.step-in-None.ensures.known
+    (fits-nothing (g.V.ImageView.shown c.args.image.now) _ c.args.next c.block_at.result c.block_at.ensures c.in-None.is)
+    (sym c.in_function-in-None.ensures ∙ h)
