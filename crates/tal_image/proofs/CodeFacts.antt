@@ -1,0 +1,270 @@
+-- What is known of the instructions that were read: where each begins, its bytes, and what it is.
+use Rattle.std.proofs.Common.{◌≡◌, ℕ, zero, suc, ◌+◌, ◌-◌, ◌<◌, ◌≤◌, ◌⊎◌, inl, inr, Bool, true, false, cond, Option, Some, None, List, [], ◌∷◌, ◌++◌, length, take, drop, replicate, Result, Ok, Err, refl, sym, ap, subst, ◌∙◌, arith, ⊎_elim}
+use Rattle.std.specs.Prelude.{nat_le, nat_lt, ◌==◌, is_some, if◌then◌else◌}
+use Rattle.std.specs.Option.{option_map_or}
+use Rattle.std.proofs.lemmas.Bool.{cases_lt}
+use Rattle.std.proofs.lemmas.Bool.Decides.{nat_tests}
+use Rattle.std.proofs.lemmas.List.{length-append, drop-drop}
+use Rattle.ia32_code.specs.declared.instruction.Inst.{Inst}
+use Rattle.ia32_code.specs.declared.decoding.Decoded.{Decoded}
+use Rattle.ia32_code.specs.declared.decoding.Decoded.TheVariants as answer
+use Rattle.ia32_code.specs.Decoding.{Answers, DecodedLaw, decoded}
+use Rattle.tal_image.specs.declared.fault.ImageFault.{ImageFault}
+use Rattle.tal_image.specs.declared.fault.ImageFault.TheVariants.{Bad}
+use Rattle.tal_image.specs.declared.parts.FunctionPart.{FunctionPart}
+use Rattle.tal_image.specs.Conditions.{Spelled, begins_at, function_begins, number_at, marked_number}
+use Rattle.tal_image.specs.Grammar.{done, then_with}
+use Rattle.tal_image.specs.Fields.{instructions, bodies, joined, code_bytes}
+use Rattle.tal_image.specs.Reading.{answered, run}
+use Rattle.tal_image.specs.CodeReading.{span, instruction_starts, function_starts, starts_at, number_of, number_in}
+use Rattle.tal_image.proofs.Bodies.{joined_bytes}
+use Rattle.tal_image.proofs.ReadFields.{AreBytes, bytes_after}
+use Rattle.tal_image.proofs.RowReadings.{run-then_with}
+use Rattle.tal_image.proofs.Rooms.{AllPositive, bind_inverse, ok_pair}
+
+-- These instructions stand one after another in a file from a place on.
+abbrev pub StandAt : List ℕ → ℕ → List Spelled → Type 0
+StandAt file at [] = Unit {0}
+StandAt file at (s ∷ more) = (decoded (drop at file) ≡ answer.One s.means (length s.text)) × (0 < length s.text) × (s.text ≡ take (length s.text) (drop at file)) × StandAt file (at + length s.text) more
+
+-- some, then others
+stand_both : (file : List ℕ) (at : ℕ) (code more : List Spelled) → StandAt file at code → StandAt file (at + length (code_bytes code)) more → StandAt file at (code ++ more)
+stand_both file at [] more h g = subst (λ (n : ℕ). StandAt file n more) (let e : at + 0 ≡ at = omega arith in e) g
+stand_both file at (s ∷ code) more h g =
+    let l = length-append s.text (code_bytes code) in
+    let e : at + length (code_bytes (s ∷ code)) ≡ at + length s.text + length (code_bytes code) = omega arith in
+    (h.0, h.1, h.2, stand_both file (at + length s.text) code more h.3 (subst (λ (n : ℕ). StandAt file n more) e g))
+
+length-take : (n : ℕ) (bytes : List ℕ) → n ≤ length bytes → length (take n bytes) ≡ n
+length-take zero bytes h = refl
+length-take (suc n) [] h = absurd (omega arith)
+length-take (suc n) (b ∷ bytes) h = let e = length-take n bytes (omega arith) in omega arith
+
+-- a test that was passed
+passed : {A : Type 0} (b : Bool) (x : Result A ImageFault) (f : ImageFault) (y : A) → cond b x (Err f) ≡ Ok y → x ≡ Ok y
+passed true x f y e = e
+passed false x f y e = absurd cc
+
+-- how many bytes the instructions of functions have
+joined_length : (body : List Spelled) (more : List (List Spelled)) → length (code_bytes (joined (body ∷ more))) ≡ length (code_bytes body) + length (code_bytes (joined more))
+joined_length body more = ap (λ (z : List ℕ). length z) (joined_bytes body more) ∙ length-append (code_bytes body) (code_bytes (joined more))
+
+-- what was read ends behind these instructions
+abbrev Read_to : List ℕ → ℕ → List Spelled → ℕ → Type 0
+Read_to file at code end = StandAt file at code × (end ≡ at + length (code_bytes code))
+
+module _ (law : DecodedLaw) (file : List ℕ) (fits : AreBytes file) where
+  nothing : (at : ℕ) (xs : List Spelled) (end : ℕ) → (let r : Result (List Spelled × ℕ) ImageFault = Ok ([], at) in r) ≡ Ok (xs, end) → Read_to file at xs end
+  nothing at xs end e =
+      let k = ok_pair [] xs at end e in
+      let p : end ≡ at + 0 = let q = k.1 in omega arith in
+      subst (λ (z : List Spelled). Read_to file at z end) k.0 (tt, p)
+
+  one_more : (n r at : ℕ) (xs : List Spelled) (end : ℕ) (d : Decoded) → decoded (drop at file) ≡ d → Answers (drop at file) d
+      → answered d (λ len i. run (then_with (instructions n (suc r - length (take len (drop at file)))) (λ more. done (record { text = take len (drop at file); means = i } ∷ more))) file (at + len)) (suc r) at (length file) ≡ Ok (xs, end)
+      → ((room next : ℕ) (ys : List Spelled) (last : ℕ) → run (instructions n room) file next ≡ Ok (ys, last) → Read_to file next ys last) → Read_to file at xs end
+  one_more n r at xs end answer.Short de a e more = absurd cc
+  one_more n r at xs end answer.Unknown de a e more = absurd cc
+  one_more n r at xs end (answer.One i len) de a e more =
+      let text = take len (drop at file) in
+      let s : Spelled = record { text = text; means = i } in
+      let l = length-take len (drop at file) a.1 in
+      let inner = passed (nat_le len (suc r)) (run (then_with (instructions n (suc r - length text)) (λ ys. done (s ∷ ys))) file (at + len)) (Bad at 23) (xs, end) e in
+      let bound = bind_inverse (run (instructions n (suc r - length text)) file (at + len)) (λ x. Ok (s ∷ x.0, x.1)) (xs, end) (sym (run-then_with (instructions n (suc r - length text)) (λ ys. done (s ∷ ys)) file (at + len)) ∙ inner) in
+      let rest = more (suc r - length text) (at + len) bound.0.0 bound.0.1 bound.1 in
+      let k = ok_pair (s ∷ bound.0.0) xs bound.0.1 end bound.2 in
+      let place : at + len ≡ at + length text = omega arith in
+      let sum = length-append text (code_bytes bound.0.0) in
+      let last : end ≡ at + length (code_bytes (s ∷ bound.0.0)) = let q = rest.1 in let q2 = k.1 in omega arith in
+      subst (λ (z : List Spelled). Read_to file at z end) k.0 (
+        (
+          de ∙ ap (λ (m : ℕ). answer.One i m) (sym l),
+          (let pos = a.0 in omega arith),
+          ap (λ (m : ℕ). take m (drop at file)) (sym l),
+          subst (λ (m : ℕ). StandAt file m bound.0.0) place rest.0,
+        ),
+        last,
+      )
+
+  -- the instructions of one function
+  instructions_stand : (n room at : ℕ) (xs : List Spelled) (end : ℕ) → run (instructions n room) file at ≡ Ok (xs, end) → Read_to file at xs end
+  unfolding instructions
+  instructions_stand zero room at xs end e = nothing at xs end e
+  instructions_stand (suc n) zero at xs end e = nothing at xs end e
+  instructions_stand (suc n) (suc r) at xs end e =
+      one_more n r at xs end (decoded (drop at file)) refl (law (drop at file) (bytes_after at file fits)) e (λ room next ys last h. instructions_stand n room next ys last h)
+
+  -- those of all functions
+  pub bodies_stand : (functions : List FunctionPart) (at : ℕ) (xs : List (List Spelled)) (end : ℕ) → run (bodies functions) file at ≡ Ok (xs, end) → Read_to file at (joined xs) end
+  unfolding bodies
+  bodies_stand [] at xs end e =
+      let k = ok_pair [] xs at end e in
+      let p : end ≡ at + 0 = let q = k.1 in omega arith in
+      subst (λ (z : List (List Spelled)). Read_to file at (joined z) end) k.0 (tt, p)
+  bodies_stand (f ∷ functions) at xs end e =
+      let one = bind_inverse (run (instructions f.length f.length) file at) (λ x. run (then_with (bodies functions) (λ more. done (x.0 ∷ more))) file x.1) (xs, end) (sym (run-then_with (instructions f.length f.length) (λ body. then_with (bodies functions) (λ more. done (body ∷ more))) file at) ∙ e) in
+      let body = one.0 in
+      let two = bind_inverse (run (bodies functions) file body.1) (λ x. Ok (body.0 ∷ x.0, x.1)) (xs, end) (sym (run-then_with (bodies functions) (λ more. done (body.0 ∷ more)) file body.1) ∙ one.2) in
+      let first = instructions_stand f.length f.length at body.0 body.1 one.1 in
+      let rest = bodies_stand functions body.1 two.0.0 two.0.1 two.1 in
+      let k = ok_pair (body.0 ∷ two.0.0) xs two.0.1 end two.2 in
+      let sum = joined_length body.0 two.0.0 in
+      let last : end ≡ at + length (code_bytes (joined (body.0 ∷ two.0.0))) = let q = rest.1 in let q2 = k.1 in let q3 = first.1 in omega arith in
+      subst (λ (z : List (List Spelled)). Read_to file at (joined z) end) k.0
+      (stand_both file at body.0 (joined two.0.0) first.0 (subst (λ (m : ℕ). StandAt file m (joined two.0.0)) first.1 rest.0), last)
+
+-- ---- the bytes
+
+take_nothing : (n : ℕ) → take {A = ℕ} n [] ≡ []
+take_nothing zero = refl
+take_nothing (suc n) = refl
+
+take_both : (n m : ℕ) (bytes : List ℕ) → take n bytes ++ take m (drop n bytes) ≡ take (n + m) bytes
+take_both zero m bytes = ap (λ (k : ℕ). take k bytes) (let e : m ≡ 0 + m = omega arith in e)
+take_both (suc n) m [] = take_nothing m ∙ sym (take_nothing (suc n + m))
+take_both (suc n) m (b ∷ bytes) = let e : suc n + m ≡ suc (n + m) = omega arith in rw e (ap (λ (z : List ℕ). b ∷ z) (take_both n m bytes))
+
+-- the bytes of the instructions are those of the file
+pub bytes_are : (file : List ℕ) (at : ℕ) (code : List Spelled) → StandAt file at code → code_bytes code ≡ take (length (code_bytes code)) (drop at file)
+bytes_are file at [] h = refl
+bytes_are file at (s ∷ code) h =
+    let l = length-append s.text (code_bytes code) in
+    ap (λ (z : List ℕ). z ++ code_bytes code) h.2
+    ∙ ap (λ (z : List ℕ). take (length s.text) (drop at file) ++ z) (bytes_are file (at + length s.text) code h.3 ∙ ap (take (length (code_bytes code))) (sym (drop-drop (length s.text) at file)))
+    ∙ take_both (length s.text) (length (code_bytes code)) (drop at file)
+    ∙ ap (λ (n : ℕ). take n (drop at file)) (sym l)
+
+-- ---- where things begin
+
+none_marked : (m : ℕ) (rest : List Bool) (k : ℕ) → k < m → starts_at (replicate m false ++ rest) k ≡ false
+none_marked zero rest k h = absurd (omega arith)
+none_marked (suc m) rest zero h = refl
+none_marked (suc m) rest (suc k) h = none_marked m rest k (omega arith)
+
+past_marked : (m : ℕ) (rest : List Bool) (k : ℕ) → m ≤ k → starts_at (replicate m false ++ rest) k ≡ starts_at rest (k - m)
+past_marked zero rest k h = ap (starts_at rest) (let e : k ≡ k - 0 = omega arith in e)
+past_marked (suc m) rest zero h = absurd (omega arith)
+past_marked (suc m) rest (suc k) h = past_marked m rest k (omega arith) ∙ ap (starts_at rest) (let e : k - m ≡ suc k - suc m = omega arith in e)
+
+-- so many bytes, of which the first is marked
+first_starts : (n : ℕ) (rest : List Bool) → 0 < n → starts_at (span n ++ rest) 0 ≡ true
+unfolding span
+first_starts zero rest h = absurd (omega arith)
+first_starts (suc n) rest h = refl
+
+none_starts : (n : ℕ) (rest : List Bool) (k : ℕ) → 0 < k → k < n → starts_at (span n ++ rest) k ≡ false
+unfolding span
+none_starts zero rest k p h = absurd (omega arith)
+none_starts (suc n) rest zero p h = absurd (omega arith)
+none_starts (suc n) rest (suc k) p h = none_marked n rest k (omega arith)
+
+later_starts : (n : ℕ) (rest : List Bool) (k : ℕ) → 0 < n → n ≤ k → starts_at (span n ++ rest) k ≡ starts_at rest (k - n)
+unfolding span
+later_starts zero rest k p h = absurd (omega arith)
+later_starts (suc n) rest zero p h = absurd (omega arith)
+later_starts (suc n) rest (suc k) p h = past_marked n rest k (omega arith) ∙ ap (starts_at rest) (let e : k - n ≡ suc k - suc n = omega arith in e)
+
+-- at the first of so many bytes, at another of them, or past them
+places : (k n : ℕ) → (k ≡ 0) ⊎ (((0 < k) × (k < n)) ⊎ ((0 < k) × (n ≤ k)))
+places zero n = inl refl
+places (suc k) n = ⊎_elim (λ (low : suc k < n). inr (inl (omega arith, low))) (λ (high : n ≤ suc k). inr (inr (omega arith, high))) (cases_lt (suc k) n)
+
+-- the instruction that begins at a byte
+begins_first : (s : Spelled) (more : List Spelled) → begins_at 0 (s ∷ more) ≡ Some s.means
+unfolding begins_at
+begins_first s more = refl
+
+begins_within : (s : Spelled) (more : List Spelled) (k : ℕ) → 0 < k → k < length s.text → begins_at k (s ∷ more) ≡ None
+unfolding begins_at
+begins_within s more k p h =
+    let a : (k == 0) ≡ false = grind (arith, nat_tests) in
+    let b : nat_lt k (length s.text) ≡ true = grind (arith, nat_tests) in
+    rw (a, b) refl
+
+begins_past : (s : Spelled) (more : List Spelled) (k : ℕ) → 0 < k → length s.text ≤ k → begins_at k (s ∷ more) ≡ begins_at (k - length s.text) more
+unfolding begins_at
+begins_past s more k p h =
+    let a : (k == 0) ≡ false = grind (arith, nat_tests) in
+    let b : nat_lt k (length s.text) ≡ false = grind (arith, nat_tests) in
+    rw (a, b) refl
+
+begins_nowhere : (k : ℕ) → begins_at k [] ≡ None
+unfolding begins_at
+begins_nowhere k = refl
+
+-- an instruction begins where one is marked
+pub starts_same : (file : List ℕ) (at : ℕ) (code : List Spelled) → StandAt file at code → (k : ℕ) → is_some (begins_at k code) ≡ starts_at (instruction_starts code) k
+starts_same file at [] h k = ap is_some (begins_nowhere k)
+starts_same file at (s ∷ code) h k =
+    let n = length s.text in
+    let rest = instruction_starts code in
+    let pos = h.1 in
+    ⊎_elim
+    (λ (z : k ≡ 0). ap (λ (m : ℕ). is_some (begins_at m (s ∷ code))) z ∙ ap is_some (begins_first s code) ∙ sym (ap (starts_at (span n ++ rest)) z ∙ first_starts n rest pos))
+    (λ later. ⊎_elim
+    (λ (w : (0 < k) × (k < n)). ap is_some (begins_within s code k w.0 w.1) ∙ sym (none_starts n rest k w.0 w.1))
+    (λ (w : (0 < k) × (n ≤ k)). ap is_some (begins_past s code k w.0 w.1) ∙ starts_same file (at + n) code h.3 (k - n) ∙ sym (later_starts n rest k pos w.1))
+    later)
+    (places k n)
+
+-- the number of the instruction that is decoded at a byte
+abbrev decoded_number : List ℕ → ℕ → Bool → Option ℕ
+decoded_number file at b = if b then number_of (decoded (drop at file)) else None
+
+number_is : (k : ℕ) (code : List Spelled) (o : Option Inst) → begins_at k code ≡ o → number_at k code ≡ option_map_or marked_number o None
+unfolding number_at
+number_is k code o e = ap (λ (x : Option Inst). option_map_or marked_number x None) e
+
+number_stands : (file : List ℕ) (at : ℕ) (code : List Spelled) → StandAt file at code → (k : ℕ) → number_at k code ≡ decoded_number file (at + k) (starts_at (instruction_starts code) k)
+unfolding number_of
+number_stands file at [] h k = number_is k [] None (begins_nowhere k)
+number_stands file at (s ∷ code) h k =
+    let n = length s.text in
+    let rest = instruction_starts code in
+    let pos = h.1 in
+    ⊎_elim
+    (λ (z : k ≡ 0).
+    let place : at ≡ at + k = omega arith in
+    ap (λ (m : ℕ). number_at m (s ∷ code)) z ∙ number_is 0 (s ∷ code) (Some s.means) (begins_first s code)
+    ∙ sym (ap (λ (m : ℕ). decoded_number file m (starts_at (span n ++ rest) k)) (sym place) ∙ ap (decoded_number file at) (ap (starts_at (span n ++ rest)) z ∙ first_starts n rest pos) ∙ ap number_of h.0))
+    (λ later. ⊎_elim
+    (λ (w : (0 < k) × (k < n)). number_is k (s ∷ code) None (begins_within s code k w.0 w.1) ∙ sym (ap (decoded_number file (at + k)) (none_starts n rest k w.0 w.1)))
+    (λ (w : (0 < k) × (n ≤ k)).
+    let far = w.1 in
+    let place : at + n + (k - n) ≡ at + k = omega arith in
+    number_is k (s ∷ code) (begins_at (k - n) code) (begins_past s code k w.0 w.1) ∙ sym (number_is (k - n) code (begins_at (k - n) code) refl)
+    ∙ number_stands file (at + n) code h.3 (k - n) ∙ ap (λ (m : ℕ). decoded_number file m (starts_at rest (k - n))) place ∙ sym (ap (decoded_number file (at + k)) (later_starts n rest k pos w.1)))
+    later)
+    (places k n)
+
+-- the number at a byte of the code is read there again
+pub number_same : (file : List ℕ) (at : ℕ) (code : List Spelled) → StandAt file at code → (k : ℕ) → number_at k code ≡ number_in (drop at file) (instruction_starts code) k
+unfolding number_in
+number_same file at code h k =
+    number_stands file at code h k ∙ ap (λ (bytes : List ℕ). if starts_at (instruction_starts code) k then number_of (decoded bytes) else None) (sym (drop-drop k at file))
+
+-- a function begins where one is marked
+pub functions_same : (functions : List FunctionPart) → AllPositive functions → (k : ℕ) → function_begins k functions ≡ starts_at (function_starts functions) k
+unfolding function_begins
+functions_same [] h k = refl
+functions_same (f ∷ functions) h k =
+    let n = f.length in
+    let rest = function_starts functions in
+    let pos = h.0 in
+    ⊎_elim
+    (λ (z : k ≡ 0). let a : (k == 0) ≡ true = grind (arith, nat_tests) in rw a (sym (ap (starts_at (span n ++ rest)) z ∙ first_starts n rest pos)))
+    (λ later. ⊎_elim
+    (λ (w : (0 < k) × (k < n)).
+    let low = w.0 in
+    let high = w.1 in
+    let a : (k == 0) ≡ false = grind (arith, nat_tests) in
+    let b : nat_lt k n ≡ true = grind (arith, nat_tests) in
+    rw (a, b) (sym (none_starts n rest k w.0 w.1)))
+    (λ (w : (0 < k) × (n ≤ k)).
+    let low = w.0 in
+    let high = w.1 in
+    let a : (k == 0) ≡ false = grind (arith, nat_tests) in
+    let b : nat_lt k n ≡ false = grind (arith, nat_tests) in
+    rw (a, b) (functions_same functions h.1 (k - n) ∙ sym (later_starts n rest k pos w.1)))
+    later)
+    (places k n)

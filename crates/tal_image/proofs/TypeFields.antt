@@ -1,0 +1,163 @@
+-- What the two numbers of a type stand for.
+use Rattle.std.proofs.Common.{◌≡◌, ℕ, zero, suc, ◌<◌, ◌^◌, Bool, true, false, ◌&&◌, List, [], ◌∷◌, ◌++◌, refl, sym, ap, subst, ◌∙◌, arith, lit<}
+use Rattle.std.specs.Int.{w32, to_le_bytes}
+use Rattle.std.specs.Prelude.{nat_lt}
+use Rattle.std.proofs.lemmas.Bool.Decides.{nat_tests}
+use Rattle.std.proofs.lemmas.List.{append-nil}
+use Rattle.object_layout.specs.declared.rows.FieldTy.{FieldTy}
+use Rattle.object_layout.specs.declared.rows.FieldTy.TheVariants.{Num as NumField, Ref as RefField, ArrRef as ArrRefField, Fun as FunField}
+use Rattle.tal_types.specs.declared.types.Ty.{Ty}
+use Rattle.tal_types.specs.declared.types.Ty.TheVariants.{Num, Ref, Obj, ArrRef, Arr, Fun, Code, Tab, Desc, Junk}
+use Rattle.tal_types.specs.Types.{of_field}
+use Rattle.tal_image.specs.Image.{tag_of, index_of, type_bytes, field_bytes}
+use Rattle.tal_image.specs.Conditions.{Tables, type_fits, is_field_tag}
+use Rattle.tal_image.specs.Grammar.{Grammar, done, Field, Number, Pair, Instruction, fields_text, Sound}
+use Rattle.tal_image.specs.Fields.{type_of, field_type_of, type_field, field_type_field}
+use Rattle.tal_image.specs.Formed.{IsType, IsFieldType}
+use Rattle.tal_image.proofs.PartMeanings.{Means, at_end}
+
+-- no index is below 0, and 0 alone is below 1
+none_below : {X : Type 0} (i : ℕ) → nat_lt i 0 ≡ true → X
+none_below {X} i h = let no : ⊥ = grind (arith, nat_tests) in absurd no
+
+zero_below : (i : ℕ) → nat_lt i 1 ≡ true → 0 ≡ i
+zero_below i h = grind (arith, nat_tests)
+
+-- a tag and an index in its table are those of their type
+same_tag : (t : Tables) (tag index : ℕ) → type_fits t tag index ≡ true → tag_of (type_of tag index) ≡ tag
+unfolding type_fits type_of tag_of
+same_tag t zero index h = refl
+same_tag t (suc zero) index h = refl
+same_tag t (suc (suc zero)) index h = refl
+same_tag t (suc (suc (suc zero))) index h = refl
+same_tag t (suc (suc (suc (suc zero)))) index h = refl
+same_tag t (suc (suc (suc (suc (suc zero))))) index h = refl
+same_tag t (suc (suc (suc (suc (suc (suc zero)))))) index h = refl
+same_tag t (suc (suc (suc (suc (suc (suc (suc zero))))))) index h = refl
+same_tag t (suc (suc (suc (suc (suc (suc (suc (suc zero)))))))) index h = refl
+same_tag t (suc (suc (suc (suc (suc (suc (suc (suc (suc zero))))))))) index h = refl
+same_tag t (suc (suc (suc (suc (suc (suc (suc (suc (suc (suc n)))))))))) index h = none_below index h
+
+same_index : (t : Tables) (tag index : ℕ) → type_fits t tag index ≡ true → index_of (type_of tag index) ≡ index
+unfolding type_fits type_of index_of
+same_index t zero index h = zero_below index h
+same_index t (suc zero) index h = refl
+same_index t (suc (suc zero)) index h = refl
+same_index t (suc (suc (suc zero))) index h = refl
+same_index t (suc (suc (suc (suc zero)))) index h = refl
+same_index t (suc (suc (suc (suc (suc zero))))) index h = refl
+same_index t (suc (suc (suc (suc (suc (suc zero)))))) index h = refl
+same_index t (suc (suc (suc (suc (suc (suc (suc zero))))))) index h = refl
+same_index t (suc (suc (suc (suc (suc (suc (suc (suc zero)))))))) index h = refl
+same_index t (suc (suc (suc (suc (suc (suc (suc (suc (suc zero))))))))) index h = zero_below index h
+same_index t (suc (suc (suc (suc (suc (suc (suc (suc (suc (suc n)))))))))) index h = none_below index h
+
+-- a type is the one of its tag and its index
+type_is : (ty : Ty) → type_of (tag_of ty) (index_of ty) ≡ ty
+unfolding type_of tag_of index_of
+type_is Num = refl
+type_is (Ref c) = refl
+type_is (Obj c) = refl
+type_is (ArrRef k) = refl
+type_is (Arr k) = refl
+type_is (Fun s) = refl
+type_is (Code s) = refl
+type_is (Tab c) = refl
+type_is (Desc k) = refl
+type_is Junk = refl
+
+-- a tag is small
+tag_small : (ty : Ty) → tag_of ty < 2 ^ 32
+unfolding tag_of
+tag_small Num = lit< tt
+tag_small (Ref c) = lit< tt
+tag_small (Obj c) = lit< tt
+tag_small (ArrRef k) = lit< tt
+tag_small (Arr k) = lit< tt
+tag_small (Fun s) = lit< tt
+tag_small (Code s) = lit< tt
+tag_small (Tab c) = lit< tt
+tag_small (Desc k) = lit< tt
+tag_small Junk = lit< tt
+
+-- a type of a tag and an index in its table is one of the image
+is_type : (t : Tables) (tag index : ℕ) → index < 2 ^ 32 → type_fits t tag index ≡ true → IsType t (type_of tag index)
+is_type t tag index small h = record {
+  word = subst (λ (z : ℕ). z < 2 ^ 32) (sym (same_index t tag index h)) small;
+  condition_12 = rw (same_tag t tag index h, same_index t tag index h) h;
+}
+
+-- its numbers
+type_text : (t : Tables) (tag index : ℕ) → type_fits t tag index ≡ true → to_le_bytes w32 tag ++ to_le_bytes w32 index ≡ type_bytes (type_of tag index)
+type_text t tag index h = rw (same_tag t tag index h, same_index t tag index h) refl
+
+-- a type in a file
+pub type_means : (t : Tables) → Means (type_field t) (IsType t) type_bytes
+type_means t = record { whole = whole; back = back }
+  where
+    whole : (ty : Ty) → IsType t ty → (fs : List Field) × Sound (type_field t) fs (done ty) × (fields_text fs ≡ type_bytes ty)
+    whole ty h = (Pair (tag_of ty) (index_of ty) ∷ [], (done (type_of (tag_of ty) (index_of ty)), (tag_small ty, h.word, h.condition_12, refl), ap (λ (z : Ty). done z) (type_is ty)), append-nil (type_bytes ty))
+
+    back : (fs : List Field) (ty : Ty) → Sound (type_field t) fs (done ty) → IsType t ty × (fields_text fs ≡ type_bytes ty)
+    back [] ty s = absurd cc
+    back (Number n ∷ fs) ty s = absurd s.1
+    back (Instruction text i ∷ fs) ty s = absurd s.1
+    back (Pair tag index ∷ fs) ty s =
+        let k = at_end (type_of tag index) ty fs (subst (λ (z : Grammar Ty). Sound z fs (done ty)) s.1.3 s.2) in (
+          subst (λ (z : Ty). IsType t z) k.1 (is_type t tag index s.1.1 s.1.2),
+          ap (λ (z : List Field). fields_text (Pair tag index ∷ z)) k.0 ∙ append-nil (to_le_bytes w32 tag ++ to_le_bytes w32 index) ∙ type_text t tag index s.1.2 ∙ ap type_bytes k.1,
+        )
+
+-- both of two tests
+both : (a b : Bool) → (a && b) ≡ true → (a ≡ true) × (b ≡ true)
+both true true h = (refl, refl)
+both true false h = absurd cc
+both false b h = absurd cc
+
+-- the tags of fields, statics and elements
+field_type_is : (tag index : ℕ) → is_field_tag tag ≡ true → of_field (field_type_of tag index) ≡ type_of tag index
+unfolding of_field field_type_of type_of
+field_type_is zero index h = refl
+field_type_is (suc zero) index h = refl
+field_type_is (suc (suc zero)) index h = absurd cc
+field_type_is (suc (suc (suc zero))) index h = refl
+field_type_is (suc (suc (suc (suc zero)))) index h = absurd cc
+field_type_is (suc (suc (suc (suc (suc zero))))) index h = refl
+field_type_is (suc (suc (suc (suc (suc (suc n)))))) index h = let no : ⊥ = grind (arith, nat_tests) in absurd no
+
+-- the type of a field is the one of its tag and its index, and its tag is one of a field
+field_back : (f : FieldTy) → field_type_of (tag_of (of_field f)) (index_of (of_field f)) ≡ f
+unfolding of_field field_type_of tag_of index_of
+field_back NumField = refl
+field_back (RefField c) = refl
+field_back (ArrRefField k) = refl
+field_back (FunField s) = refl
+
+field_tag : (f : FieldTy) → is_field_tag (tag_of (of_field f)) ≡ true
+unfolding of_field tag_of
+field_tag NumField = refl
+field_tag (RefField c) = refl
+field_tag (ArrRefField k) = refl
+field_tag (FunField s) = refl
+
+-- the type of a field, a static or an element in a file
+pub field_type_means : (t : Tables) → Means (field_type_field t) (IsFieldType t) field_bytes
+field_type_means t = record { whole = whole; back = back }
+  where
+    whole : (f : FieldTy) → IsFieldType t f → (fs : List Field) × Sound (field_type_field t) fs (done f) × (fields_text fs ≡ field_bytes f)
+    whole f h =
+        let ty = of_field f in
+        let ok : (type_fits t (tag_of ty) (index_of ty) && is_field_tag (tag_of ty)) ≡ true = rw (h.condition_12, field_tag f) refl in
+        (Pair (tag_of ty) (index_of ty) ∷ [], (done (field_type_of (tag_of ty) (index_of ty)), (tag_small ty, h.word, ok, refl), ap (λ (z : FieldTy). done z) (field_back f)), append-nil (type_bytes ty))
+
+    back : (fs : List Field) (f : FieldTy) → Sound (field_type_field t) fs (done f) → IsFieldType t f × (fields_text fs ≡ field_bytes f)
+    back [] f s = absurd cc
+    back (Number n ∷ fs) f s = absurd s.1
+    back (Instruction text i ∷ fs) f s = absurd s.1
+    back (Pair tag index ∷ fs) f s =
+        let k = at_end (field_type_of tag index) f fs (subst (λ (z : Grammar FieldTy). Sound z fs (done f)) s.1.3 s.2) in
+        let ok = both (type_fits t tag index) (is_field_tag tag) s.1.2 in
+        let e = field_type_is tag index ok.1 in (
+          subst (λ (z : FieldTy). IsFieldType t z) k.1 (subst (λ (z : Ty). IsType t z) (sym e) (is_type t tag index s.1.1 ok.0)),
+          ap (λ (z : List Field). fields_text (Pair tag index ∷ z)) k.0 ∙ append-nil (to_le_bytes w32 tag ++ to_le_bytes w32 index) ∙ type_text t tag index ok.0 ∙ ap type_bytes (sym e) ∙ ap field_bytes k.1,
+        )

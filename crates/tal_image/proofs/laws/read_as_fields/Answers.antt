@@ -1,0 +1,8 @@
+use Rattle.tal_image.proofs.Bodies.{SomeText}
+use Rattle.tal_image.proofs.WholeFiles.{stands, read}
+use Rattle.tal_image.proofs.laws.read_as_fields.Goals as goal
+
+pub returns : goal.returns
+returns c =
+    let some : SomeText = λ text i s. (c.spelling_length.ensures text i s).0 in
+    λ bytes i. (read some bytes i, stands some bytes i)

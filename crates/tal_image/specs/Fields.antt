@@ -1,0 +1,233 @@
+-- The fields of an image file, part by part.
+use Rattle.std.specs.Prelude.{ℕ, zero, suc, ◌+◌, ◌-◌, Bool, true, ◌&&◌, ◌==◌, List, [], ◌∷◌, ◌++◌, length, Option, Some, None, drop, if◌then◌else◌}
+use Rattle.std.specs.List.{flat_map}
+use Rattle.object_layout.specs.declared.rows.FieldTy.{FieldTy}
+use Rattle.object_layout.specs.declared.rows.FieldTy.TheVariants.{Num as NumField, Ref as RefField, ArrRef as ArrRefField, Fun as FunField}
+use Rattle.object_layout.specs.declared.rows.ClassRow.{ClassRow}
+use Rattle.object_layout.specs.declared.rows.KindRow.{KindRow}
+use Rattle.tal_types.specs.declared.types.Ty.{Ty}
+use Rattle.tal_types.specs.declared.types.Ty.TheVariants.{Num, Ref, Obj, ArrRef, Arr, Fun, Code, Tab, Desc, Junk}
+use Rattle.tal_types.specs.declared.signatures.Sig.{Sig}
+use Rattle.tal_image.specs.declared.fault.ImageFault.{ImageFault}
+use Rattle.tal_image.specs.declared.fault.ImageFault.TheVariants.{Magic, Version, Bad}
+use Rattle.tal_image.specs.declared.parts.Header.{Header}
+use Rattle.tal_image.specs.declared.parts.FunctionPart.{FunctionPart}
+use Rattle.tal_image.specs.declared.parts.MarkPart.{MarkPart}
+use Rattle.tal_image.specs.Image.{ImageParts, ArrayPart, BlockPart}
+use Rattle.tal_image.specs.Conditions.{Tables, heap_fits, stacks_fit, sigs_fit, functions_fit, classes_fit, kinds_fit, statics_fit, arrays_fit, code_fits, blocks_fit, marks_fit, type_fits, length_fits, sig_fits, entry_fits, class_view, parent_fits, inherited_fields, inherited_methods, fields_fit, is_field_tag, methods_fit, method_fits, kind_fits, array_fits, with_array, numbers_given, Spelled, block_fits, slots_fit, number_at, mark_fits, word_fits}
+use Rattle.tal_image.specs.Grammar.{Grammar, done, number, pair, instruction, then_with, many}
+
+-- a number under a condition, with the fault where it breaks that
+abbrev pub field : (ℕ → Bool) → (ℕ → ImageFault) → Grammar ℕ
+field ok fault = number ok fault (λ n. done n)
+
+-- a number under the condition with this number
+abbrev pub checked : (ℕ → Bool) → ℕ → Grammar ℕ
+checked ok condition = field ok (λ at. Bad at condition)
+
+-- so many rows that look at nothing but themselves
+abbrev pub each : {A : Type 0} → ℕ → Grammar A → Grammar (List A)
+each n row = many {S = ℕ} n (λ later kept. row) (λ kept x. kept) 0
+
+-- the tables to which types refer
+abbrev pub tables_of : Header → Tables
+tables_of h = record { sigs = h.sigs; classes = h.classes; kinds = h.kinds }
+
+-- the header
+unfoldable pub header_fields : Grammar Header
+header_fields =
+    then_with (field (λ n. n == 0x49565256) (λ at. Magic)) (λ magic.
+    then_with (field (λ n. n == 1) (λ at. Version)) (λ version.
+    then_with (checked heap_fits 1) (λ heap_words.
+    then_with (checked stacks_fit 2) (λ stacks.
+    then_with (checked sigs_fit 3) (λ sigs.
+    then_with (checked functions_fit 4) (λ functions.
+    then_with (checked classes_fit 5) (λ classes.
+    then_with (checked kinds_fit 6) (λ kinds.
+    then_with (checked statics_fit 7) (λ statics.
+    then_with (checked arrays_fit 8) (λ arrays.
+    then_with (checked code_fits 9) (λ code.
+    then_with (checked blocks_fit 10) (λ blocks.
+    then_with (checked marks_fit 11) (λ marks.
+    done (record {
+      heap_words = heap_words;
+      stacks = stacks;
+      sigs = sigs;
+      functions = functions;
+      classes = classes;
+      kinds = kinds;
+      statics = statics;
+      arrays = arrays;
+      code = code;
+      blocks = blocks;
+      marks = marks;
+    }))))))))))))))
+
+-- the type with a tag and an index
+unfoldable pub type_of : ℕ → ℕ → Ty
+type_of tag index =
+    if tag == 0 then Num
+    else if tag == 1 then Ref index
+    else if tag == 2 then Obj index
+    else if tag == 3 then ArrRef index
+    else if tag == 4 then Arr index
+    else if tag == 5 then Fun index
+    else if tag == 6 then Code index
+    else if tag == 7 then Tab index
+    else if tag == 8 then Desc index
+    else Junk
+
+-- the type of a field, a static or an element with a tag and an index
+unfoldable pub field_type_of : ℕ → ℕ → FieldTy
+field_type_of tag index =
+    if tag == 1 then RefField index
+    else if tag == 3 then ArrRefField index
+    else if tag == 5 then FunField index
+    else NumField
+
+-- a type
+abbrev pub type_field : Tables → Grammar Ty
+type_field t = pair (type_fits t) (λ tag index at. Bad at 12) (λ tag index. done (type_of tag index))
+
+-- the type of a field, a static or an element: condition 12 comes before 18
+abbrev pub field_type_field : Tables → Grammar FieldTy
+field_type_field t =
+    pair (λ tag index. type_fits t tag index && is_field_tag tag) (λ tag index at. Bad at (if type_fits t tag index then 18 else 12))
+    (λ tag index. done (field_type_of tag index))
+
+-- a signature
+unfoldable pub sig_fields : Tables → Grammar Sig
+sig_fields t =
+    then_with (each 7 (type_field t)) (λ params.
+    then_with (type_field t) (λ result.
+    done (record { params = params; result = result })))
+
+-- a function, where so many come after it and so many bytes of the code are left
+unfoldable pub function_fields : Tables → ℕ → ℕ → Grammar FunctionPart
+function_fields t later left =
+    then_with (checked (length_fits later left) 13) (λ len.
+    then_with (checked (sig_fits t) 14) (λ sig.
+    done (record { length = len; sig = sig })))
+
+-- what is left of the code after a function
+abbrev pub after_function : ℕ → FunctionPart → ℕ
+after_function left f = left - f.length
+
+-- a class's parent
+unfoldable pub parent_of : ℕ → Option ℕ
+parent_of zero = None
+parent_of (suc p) = Some p
+
+-- the methods of a class with these inherited slots
+abbrev pub method_list : List FunctionPart → ℕ → List ℕ → Grammar (List ℕ)
+method_list functions n slots = many n (λ later kept. checked (method_fits functions kept) 20) (λ (kept : List ℕ) f. drop 1 kept) slots
+
+-- a class, after these
+unfoldable pub class_fields : Tables → List FunctionPart → List ClassRow → Grammar ClassRow
+class_fields t functions classes =
+    then_with (checked (parent_fits (class_view functions classes)) 16) (λ parent.
+    then_with (checked (fields_fit (inherited_fields (class_view functions classes) parent)) 17) (λ own.
+    then_with (each own (field_type_field t)) (λ fields.
+    then_with (checked (methods_fit (length (inherited_methods (class_view functions classes) parent))) 19) (λ slots.
+    then_with (method_list functions slots (inherited_methods (class_view functions classes) parent)) (λ methods.
+    done (record { parent = parent_of parent; fields = fields; methods = methods }))))))
+
+-- an array kind
+unfoldable pub kind_fields : Tables → Grammar KindRow
+kind_fields t = then_with (field_type_field t) (λ element. done (record { element = element }))
+
+-- a data array, where the statics and the data arrays before it take so many words
+unfoldable pub array_fields : Tables → List KindRow → ℕ → Grammar ArrayPart
+array_fields t kinds used =
+    then_with (checked (kind_fits t) 21) (λ kind.
+    then_with (checked (array_fits used) 22) (λ size.
+    then_with (each (numbers_given kinds kind size) (checked (λ n. true) 22)) (λ ns.
+    done (record { kind = kind; size = size; numbers = ns }))))
+
+-- the instructions of so many bytes; there are not more of them than bytes
+unfoldable pub instructions : ℕ → ℕ → Grammar (List Spelled)
+instructions zero room = done []
+instructions (suc n) zero = done []
+instructions (suc n) (suc room) = instruction (suc room) (λ text i. then_with (instructions n (suc room - length text)) (λ more. done (record { text = text; means = i } ∷ more)))
+
+-- the instructions of functions one after another
+unfoldable pub bodies : List FunctionPart → Grammar (List (List Spelled))
+bodies [] = done []
+bodies (f ∷ fs) = then_with (instructions f.length f.length) (λ body. then_with (bodies fs) (λ more. done (body ∷ more)))
+
+-- the instructions of all functions
+abbrev pub joined : List (List Spelled) → List Spelled
+joined code = flat_map (λ body. body) code
+
+-- the bytes of instructions
+abbrev pub code_bytes : List Spelled → List ℕ
+code_bytes code = flat_map (λ (s : Spelled). s.text) code
+
+-- a block, where its offset is at least this
+unfoldable pub block_fields : Tables → List FunctionPart → List Spelled → ℕ → Grammar BlockPart
+block_fields t functions code least =
+    then_with (checked (block_fits functions code least) 24) (λ offset.
+    then_with (each 7 (type_field t)) (λ types.
+    then_with (checked slots_fit 25) (λ n.
+    then_with (each n (type_field t)) (λ slots.
+    done (record { offset = offset; types = types; slots = slots })))))
+
+-- the least offset of a block, and of a mark, after another
+abbrev pub after_block : ℕ → BlockPart → ℕ
+after_block least b = b.offset + 1
+
+abbrev pub after_mark : ℕ → MarkPart → ℕ
+after_mark least m = m.offset + 1
+
+-- a mark, where its offset is at least this
+unfoldable pub mark_fields : Tables → List FunctionPart → ℕ → List ArrayPart → List Spelled → ℕ → Grammar MarkPart
+mark_fields t functions statics arrays code least =
+    then_with (checked (mark_fits code least) 26) (λ offset.
+    pair (word_fits t functions statics arrays (number_at offset code)) (λ tag index at. Bad at 27) (λ tag index.
+    done (record { offset = offset; tag = tag; index = index })))
+
+-- the image of these parts
+abbrev pub image_of : Header → List Sig → List FunctionPart → List ℕ → List ClassRow → List KindRow → List FieldTy → List ArrayPart → List (List Spelled) → List BlockPart → List MarkPart → ImageParts
+image_of h sigs functions entries classes kinds statics arrays code blocks marks = record {
+  heap_words = h.heap_words;
+  stacks = h.stacks;
+  sigs = sigs;
+  functions = functions;
+  entries = entries;
+  classes = classes;
+  kinds = kinds;
+  statics = statics;
+  arrays = arrays;
+  code = code_bytes (joined code);
+  blocks = blocks;
+  marks = marks;
+}
+
+-- one class more
+abbrev pub with_class : List ClassRow → ClassRow → List ClassRow
+with_class classes c = classes ++ c ∷ []
+
+-- an image, with the instructions of each of its functions
+pub record CodedImage : Type 0 where
+  pub image : ImageParts
+  pub bodies : List (List Spelled)
+
+-- the fields of an image file, with what is kept of the instructions
+unfoldable pub coded_fields : Grammar CodedImage
+coded_fields =
+    then_with header_fields (λ h.
+    then_with (each h.sigs (sig_fields (tables_of h))) (λ sigs.
+    then_with (many h.functions (function_fields (tables_of h)) after_function h.code) (λ functions.
+    then_with (each h.stacks (checked (entry_fits sigs functions) 15)) (λ entries.
+    then_with (many h.classes (λ later classes. class_fields (tables_of h) functions classes) with_class []) (λ classes.
+    then_with (each h.kinds (kind_fields (tables_of h))) (λ kinds.
+    then_with (each h.statics (field_type_field (tables_of h))) (λ statics.
+    then_with (many h.arrays (λ later used. array_fields (tables_of h) kinds used) with_array h.statics) (λ arrays.
+    then_with (bodies functions) (λ code.
+    then_with (many h.blocks (λ later least. block_fields (tables_of h) functions (joined code) least) after_block 0) (λ blocks.
+    then_with (many h.marks (λ later least. mark_fields (tables_of h) functions h.statics arrays (joined code) least) after_mark 0) (λ marks.
+    done (record { image = image_of h sigs functions entries classes kinds statics arrays code blocks marks; bodies = code }))))))))))))
+
+-- the fields of an image file
+unfoldable pub image_fields : Grammar ImageParts
+image_fields = then_with coded_fields (λ coded. done coded.image)

@@ -1,0 +1,69 @@
+-- What the readers' values stand for, and what an image keeps beside its rows.
+use Rattle.std.specs.Prelude.{◌≡◌, ◌≢◌, ℕ, ◌+◌, ◌^◌, ◌<◌, ◌≤◌, List, [], ◌∷◌, length, map, Option, MatchOption, slice_index, slice_index_or}
+use Rattle.object_layout.specs.declared.rows.ClassRow.{ClassRow}
+use Rattle.tal_types.specs.declared.views.Span.{Span}
+use Rattle.tal_image.specs.declared.parts.ArrayPart.{ArrayPart}
+use Rattle.tal_image.specs.declared.reader.TableSizes.{TableSizes}
+use Rattle.tal_image.specs.declared.image_rows.ImageRows.{ImageRows}
+use Rattle.tal_image.specs.declared.image.Image.TheInside.{Inside}
+use Rattle.tal_image.specs.Image.{ImageParts, parent_number}
+use Rattle.tal_image.specs.Conditions.{Tables, code_start}
+use Rattle.tal_image.specs.Formed.{Formed}
+use Rattle.tal_image.specs.Shown.{spans, shapes_of}
+
+-- the sizes of the tables
+abbrev pub tables : TableSizes → Tables
+tables t = record { sigs = t.sigs; classes = t.classes; kinds = t.kinds }
+
+-- the image of these rows
+abbrev pub parts_of : ImageRows → ImageParts
+parts_of r = record {
+  heap_words = r.heap_words;
+  stacks = r.stacks;
+  sigs = r.sigs.items;
+  functions = r.functions.items;
+  entries = r.entries.items;
+  classes = r.classes.items;
+  kinds = r.kinds.items;
+  statics = r.statics.items;
+  arrays = r.arrays.items;
+  code = r.code.items;
+  blocks = r.blocks.items;
+  marks = r.marks.items;
+}
+
+-- how many words a data array takes, with the two before its elements
+abbrev pub array_room : ArrayPart → ℕ
+array_room a = 2 + a.size
+
+-- where data arrays begin that follow one another from a word on, in words
+unfoldable pub array_offsets : ℕ → List ArrayPart → List ℕ
+array_offsets at [] = []
+array_offsets at (a ∷ arrays) = at ∷ array_offsets (at + array_room a) arrays
+
+-- the rows are an image's, and beside them are the table of its classes, where its functions begin, and where its data
+-- arrays begin
+pub record IsKept (a : Inside) : Type 0 where
+  pub formed : Formed (parts_of a.rows)
+  pub shapes : a.shapes ≡ shapes_of (parts_of a.rows)
+  pub starts : a.starts.items ≡ map (λ (s : Span). s.start) (spans code_start a.rows.functions.items)
+  pub offsets : a.offsets.items ≡ array_offsets 0 a.rows.arrays.items
+
+-- the keys of a list rise
+abbrev pub RisesBy : {A : Type 0} → (A → ℕ) → List A → Type 0
+RisesBy {A} key xs = (i j : ℕ) (d : A) → i < j → j < length xs → key (slice_index_or xs i d) < key (slice_index_or xs j d)
+
+-- a place in a list where the key is this number; none where it is so nowhere
+abbrev pub IsAtKey : {A : Type 0} → (A → ℕ) → List A → ℕ → Option ℕ → Type 0
+IsAtKey {A} key xs n at = MatchOption at ((i : ℕ) (d : A) → i < length xs → key (slice_index_or xs i d) ≢ n) (λ i. (i < length xs) × ((d : A) → key (slice_index_or xs i d) ≡ n))
+
+-- the place of the last number that is not above this one; none where all are above it
+abbrev pub IsLastUpTo : List ℕ → ℕ → Option ℕ → Type 0
+IsLastUpTo xs n at = MatchOption at ((k : ℕ) → k < length xs → n < slice_index xs k)
+    (λ i. (i < length xs) × (slice_index xs i ≤ n) × ((k : ℕ) → i < k → k < length xs → n < slice_index xs k))
+
+-- the counts of a class, and its parent's number, have 32 bits
+pub record ClassHasWords (c : ClassRow) : Type 0 where
+  pub parent : parent_number c.parent < 2 ^ 32
+  pub fields : length c.fields < 2 ^ 32
+  pub methods : length c.methods < 2 ^ 32

@@ -1,0 +1,12 @@
+pub mod Image
+pub mod Shown
+pub mod Conditions
+pub mod Formed
+pub mod Grammar
+pub mod Fields
+pub mod Laws
+pub mod Kept
+pub mod Reading
+pub mod ClassReading
+pub mod CodeReading
+pub mod ImageReading

@@ -1,0 +1,20 @@
+use crate::parts::{ArrayPart, BlockPart, FunctionPart, MarkPart};
+use object_layout::{ClassRow, FieldTy, KindRow};
+use tal_types::Sig;
+
+/// The rows of an image as they are read, in the order of the file.
+#[derive(Drop)]
+pub(crate) struct ImageRows {
+    pub heap_words: u32,
+    pub stacks: u32,
+    pub sigs: Vec<Sig>,
+    pub functions: Vec<FunctionPart>,
+    pub entries: Vec<u32>,
+    pub classes: Vec<ClassRow>,
+    pub kinds: Vec<KindRow>,
+    pub statics: Vec<FieldTy>,
+    pub arrays: Vec<ArrayPart>,
+    pub code: Vec<u8>,
+    pub blocks: Vec<BlockPart>,
+    pub marks: Vec<MarkPart>,
+}

@@ -1,0 +1,35 @@
+// What holds of the definitions alone: each law is a function with nothing to do, whose clause is the law.
+ghost use Rattle.tal_image.specs.Laws.{OneMeaning, ReadAsFields, EachIsOne, FormedShapes};
+
+/// What a file stands for is one thing: one image, or one first fault, and not both.
+pub fn one_meaning()
+    ensures { OneMeaning }
+{
+    ia32_code::laws::prefix_law();
+    ia32_code::laws::spelling_length();
+}
+
+/// The file of an image is its fields one after another: whoever reads fields that are sound to the end of a file has read
+/// an image, and of each image's file the fields are sound.
+pub fn read_as_fields()
+    ensures { ReadAsFields }
+{
+    ia32_code::laws::spelling_length();
+}
+
+/// Each file stands for an image or has a first fault, so that by the law of one meaning what a file is told to be is
+/// pinned for every file.
+pub fn each_is_one()
+    ensures { EachIsOne }
+{
+    ia32_code::laws::prefix_law();
+    ia32_code::laws::spelling_length();
+    ia32_code::laws::decoded_law();
+}
+
+/// The classes and array kinds of an image are a table without a fault, and keep the laws of classes.
+pub fn formed_shapes()
+    ensures { FormedShapes }
+{
+    object_layout::laws::class_laws();
+}

@@ -1,0 +1,174 @@
+ghost use Rattle.std.specs.Prelude.{◌≡◌, ◌≤◌, ◌<◌, ℕ, length, slice_get, slice_index, Some};
+ghost use Rattle.tal_image.specs.Conditions.{code_start};
+ghost use Rattle.tal_image.specs.Kept.{RisesBy, IsAtKey, IsLastUpTo};
+ghost use Rattle.tal_image.specs.Shown.{spans, function_in, data_row_in, data_words, array_words};
+
+use crate::image::Image;
+use crate::parts::{ArrayPart, BlockPart, DataRow, MarkPart};
+use object_layout::{FieldTy, Shapes};
+use tal_types::{Context, ImageView, Mark, Sig, Span};
+
+/// Where this number stands among rising ones.
+fn find(rising: &[u32], number: u32) -> Option<usize>
+    requires { RisesBy (λ (n : ℕ). n) rising.now }
+    ensures { IsAtKey (λ (n : ℕ). n) rising.now number result }
+{
+    rising.binary_search(&number).ok()
+}
+
+/// Where the last of rising numbers stands that is not above this one.
+fn find_last(rising: &[u32], number: u32) -> Option<usize>
+    requires { RisesBy (λ (n : ℕ). n) rising.now }
+    ensures { IsLastUpTo rising.now number result }
+{
+    match rising.binary_search(&number) {
+        Ok(at) => Some(at),
+        Err(next) => next.checked_sub(1),
+    }
+}
+
+/// Which block begins at an offset of the code.
+fn find_block(blocks: &[BlockPart], offset: u32) -> Option<usize>
+    requires { RisesBy (λ (b : BlockPart). b.offset) blocks.now }
+    ensures { IsAtKey (λ (b : BlockPart). b.offset) blocks.now offset result }
+{
+    blocks.binary_search_by_key(&offset, |b| b.offset).ok()
+}
+
+/// Which mark is of the instruction that begins at an offset of the code.
+fn find_mark(marks: &[MarkPart], offset: u32) -> Option<usize>
+    requires { RisesBy (λ (m : MarkPart). m.offset) marks.now }
+    ensures { IsAtKey (λ (m : MarkPart). m.offset) marks.now offset result }
+{
+    marks.binary_search_by_key(&offset, |m| m.offset).ok()
+}
+
+/// The number at a place of a list, and 0 past its end.
+fn number_or_zero(numbers: &[u32], at: usize) -> u32
+    ensures { result ≡ slice_index numbers.now at }
+{
+    numbers.get(at).copied().unwrap_or(0)
+}
+
+/// A word of a data array, of which the first two are its descriptor's address and its length; none past its last.
+fn array_word(array: &ArrayPart, word: u32) -> Option<u32>
+    requires kind { array.now.kind < 256 }
+    requires numbers { length array.now.numbers ≤ array.now.size }
+    ensures { result ≡ slice_get (array_words array.now) word }
+{
+    match word {
+        0 => Some(0x280000 + 16 * array.kind),
+        1 => Some(array.size),
+        _ if word - 2 < array.size => {
+            Some(number_or_zero(array.numbers.items(), word as usize - 2))
+        }
+        _ => None,
+    }
+}
+
+impl Image {
+    /// Function `f`, which is there.
+    fn span(&self, f: usize) -> Span
+        requires { f < length self.now.functions }
+        ensures { slice_get (spans code_start self.now.functions) f ≡ Some result }
+    {
+        let row = self.rows.functions[f];
+        let start = self.starts[f];
+        Span {
+            start,
+            end: start + row.length,
+            sig: row.sig,
+        }
+    }
+
+    /// Function `f`: the addresses of its first byte and of the byte behind its last one, and its signature's number;
+    /// none where there is no such function.
+    pub fn function(&self, f: u32) -> Option<Span>
+        ensures { result ≡ function_in self.now f }
+    {
+        let f = f as usize;
+        if f < self.rows.functions.len() {
+            Some(self.span(f))
+        } else {
+            None
+        }
+    }
+
+    /// Data array `d`: the address of its first word, its kind and its length; none where there is no such array.
+    pub fn data_row(&self, d: u32) -> Option<DataRow>
+        ensures { result ≡ data_row_in self.now d }
+    {
+        let array = self.rows.arrays.get(d as usize)?;
+        let offset = self.offsets[d as usize];
+        Some(DataRow {
+            place: 0x300000 + 4 * (self.rows.statics.len() as u32 + offset),
+            kind: array.kind,
+            length: array.size,
+        })
+    }
+
+    /// The first word number `i` of the data arrays, counted from the word after the last static; none past the last
+    /// array.
+    pub fn data_word(&self, i: u32) -> Option<u32>
+        ensures { result ≡ slice_get (data_words self.now) i }
+    {
+        let d = find_last(&self.offsets, i)?;
+        array_word(&self.rows.arrays[d], i - self.offsets[d])
+    }
+}
+
+impl ImageView for Image {
+    ghost use Rattle.tal_image.specs.Shown.{shown};
+
+    ghost shown = { λ i. shown i };
+
+    #[tactic(auto, unfolding(crate::specs::Shown::shown))]
+    fn shapes(&self) -> &Shapes {
+        self.shapes.meets_laws();
+        &self.shapes
+    }
+
+    #[tactic(auto, unfolding(crate::specs::Shown::shown))]
+    fn statics(&self) -> &[FieldTy] {
+        &self.rows.statics
+    }
+
+    #[tactic(auto, unfolding(crate::specs::Shown::shown))]
+    fn sig(&self, s: u32) -> Option<Sig> {
+        self.rows.sigs.get(s as usize).copied()
+    }
+
+    fn function_at(&self, address: u32) -> Option<u32> {
+        let f = find(&self.starts, address)?;
+        Some(self.rows.functions[f].sig)
+    }
+
+    fn function_of(&self, pc: u32) -> Option<Span> {
+        let f = find_last(&self.starts, pc)?;
+        let span = self.span(f);
+        if pc < span.end { Some(span) } else { None }
+    }
+
+    fn block_at(&self, pc: u32) -> Option<Context> {
+        let offset = pc.checked_sub(0x100000)?;
+        let at = find_block(&self.rows.blocks, offset)?;
+        let block = &self.rows.blocks[at];
+        Some(Context::plain(&block.types, block.slots.items()))
+    }
+
+    fn mark_at(&self, pc: u32) -> Option<Mark> {
+        let offset = pc.checked_sub(0x100000)?;
+        let at = find_mark(&self.rows.marks, offset)?;
+        let mark = self.rows.marks[at];
+        Some(Mark {
+            tag: mark.tag,
+            index: mark.index,
+        })
+    }
+
+    #[tactic(auto, unfolding(crate::specs::Shown::shown))]
+    fn data_kind(&self, d: u32) -> Option<u32> {
+        let array = self.rows.arrays.get(d as usize)?;
+        Some(array.kind)
+    }
+}
