@@ -1,37 +1,69 @@
--- What a run of an accepted image rests on: its instructions, one after another, and the contexts before them.
-use Rattle.std.specs.Prelude.{◌≡◌, ◌≢◌, ℕ, ◌+◌, ◌-◌, ◌<◌, ◌≤◌, length, drop, Some, None}
+-- What a run of an accepted image rests on: its instructions, and where runs go from them.
+use Rattle.std.specs.Prelude.{◌≡◌, ℕ, ◌+◌, ◌-◌, ◌<◌, ◌≤◌, ◌^◌, true, length, drop, Option, Some, None, IsSome, slice_get}
+use Rattle.std.specs.Option.{option_and_then}
 use Rattle.ia32_code.specs.Front.{front_of}
-use Rattle.tal_checker.specs.Code.{CodeRow, rows_of, code_start}
-use Rattle.tal_checker.specs.Small.{IsSmall}
-use Rattle.tal_checker.specs.Contexts.{Facts, Live, entry_facts}
-use Rattle.tal_checker.specs.Forms.{Refused, form_of}
-use Rattle.tal_checker.specs.Rules.{RuleFails, falling}
-use Rattle.tal_checker.specs.Image.{ImageParts, Formed}
-use Rattle.tal_checker.specs.WellTyped.{WellTyped, row_in, At}
+use Rattle.tal_types.specs.declared.signatures.Sig.{Sig}
+use Rattle.tal_types.specs.declared.views.Span.{Span}
+use Rattle.tal_types.specs.Contexts.{LiveContext, ContextView, Live, ContextBelow, entry}
+use Rattle.tal_flow.specs.Rules.{next_of, Branches, Target}
+use Rattle.tal_flow.specs.Strongest.{Placed, rule_at, falls_from, placed_at}
+use Rattle.tal_image.specs.Image.{ImageParts}
+use Rattle.tal_image.specs.Conditions.{code_start, starts_stack}
+use Rattle.tal_image.specs.Shown.{shown, function_in}
+use Rattle.tal_checker.specs.Instructions.{instructions}
+use Rattle.tal_checker.specs.WellTyped.{WellTyped, strongest_at}
 
--- the code begins with an instruction, and all registers are junk before it
-abbrev pub BeginsAtStart : Type 0
-BeginsAtStart = (image : ImageParts) → Formed image → (row : CodeRow) × (row_in (rows_of image.code) code_start ≡ Some row) × (At image code_start ≡ Live entry_facts)
+-- the instruction at an address
+abbrev pub instruction_in : ImageParts → ℕ → Option Placed
+instruction_in image pc = placed_at (instructions image.code) pc
 
--- an instruction at an address is what the code spells there, lies within the code, and is of the small form
-pub record IsSpelledAt (image : ImageParts) (p : ℕ) (row : CodeRow) : Type 0 where
-  pub address : row.address ≡ p
-  pub front : front_of (drop (p - code_start) image.code) ≡ Some (row.inst, row.next - p)
-  pub longer : p < row.next
-  pub after_start : code_start ≤ p
-  pub before_end : row.next ≤ code_start + length image.code
-  pub small : IsSmall row.inst
+-- the signature of the function that has the byte at an address
+unfoldable pub signature_at : ImageParts → ℕ → Option Sig
+signature_at image pc = option_and_then (λ (span : Span). (shown image).sig span.sig) ((shown image).function_of pc)
 
--- each instruction of an image stands so
-abbrev pub AreSpelled : Type 0
-AreSpelled = (image : ImageParts) → Formed image → (p : ℕ) (row : CodeRow) → row_in (rows_of image.code) p ≡ Some row → IsSpelledAt image p row
+-- an instruction at an address is what the code spells there, and lies within the code and within a function
+pub record IsSpelledAt (image : ImageParts) (pc : ℕ) (x : Placed) : Type 0 where
+  pub address : x.pc ≡ pc
+  pub front : front_of (drop (pc - code_start) image.code) ≡ Some (x.inst, x.len)
+  pub some_bytes : 0 < x.len
+  pub after_start : code_start ≤ pc
+  pub before_end : pc + x.len ≤ code_start + length image.code
+  pub in_function : IsSome (signature_at image pc)
 
--- no rule fails at an instruction of an accepted image, in the strongest context there
-abbrev pub NoRuleFails : Type 0
-NoRuleFails = (image : ImageParts) → WellTyped image → (p : ℕ) (row : CodeRow) → row_in (rows_of image.code) p ≡ Some row → (RuleFails image (At image p) row ≡ None) × (form_of row.inst ≢ Refused)
+-- a run that comes from one address to another with this known finds an instruction of the same function there, whose
+-- strongest context is above what it knows
+pub record Arrives (image : ImageParts) (from to : ℕ) (c : ContextView) : Type 0 where
+  pub placed : Placed
+  pub here : instruction_in image to ≡ Some placed
+  pub known : ContextBelow (shown image).shapes c (strongest_at image to)
+  pub stays : (shown image).function_of to ≡ (shown image).function_of from
 
--- where an instruction of an accepted image falls, one stands after it, and what falls is the strongest context there
-abbrev pub FallsToNext : Type 0
-FallsToNext = (image : ImageParts) → WellTyped image → (p : ℕ) (row : CodeRow) (before after : Facts) → row_in (rows_of image.code) p ≡ Some row
-    → At image p ≡ Live before → falling before (form_of row.inst) ≡ Live after
-    → (next : CodeRow) × (row_in (rows_of image.code) row.next ≡ Some next) × (At image row.next ≡ Live after)
+-- a function of the signature begins at an address, and its instructions there know what the signature says
+pub record Begins (image : ImageParts) (address : ℕ) (sig : Sig) : Type 0 where
+  pub placed : Placed
+  pub here : instruction_in image address ≡ Some placed
+  pub known : strongest_at image address ≡ entry sig
+  pub signature : signature_at image address ≡ Some sig
+
+-- what a run of an accepted image rests on
+pub record RunsOn (image : ImageParts) : Type 0 where
+  -- each instruction is spelled by the code, and no rule fails at it
+  pub spelled : (pc : ℕ) (x : Placed) → instruction_in image pc ≡ Some x → IsSpelledAt image pc x
+  pub none_fails : (pc : ℕ) (x : Placed) → instruction_in image pc ≡ Some x → rule_at (shown image) (strongest_at image pc) x ≡ None
+  -- where a run falls through, and where it branches, it arrives
+  pub falls : (pc : ℕ) (x : Placed) (c d : LiveContext) → instruction_in image pc ≡ Some x → strongest_at image pc ≡ Live c
+      → falls_from (shown image) (Live c) x ≡ Live d → Arrives image pc (next_of x.pc x.len) (Live d)
+  pub branches : (pc : ℕ) (x : Placed) (c d : LiveContext) (to : ℕ) → instruction_in image pc ≡ Some x → strongest_at image pc ≡ Live c
+      → Branches (shown image) (Live c) x.pc x.inst x.len ≡ Live d → Target x.pc x.inst x.len ≡ Some to → Arrives image pc to (Live d)
+  -- a call comes to a function's beginning, and each stack begins at one
+  pub calls : (address g : ℕ) (sig : Sig) → (shown image).function_at address ≡ Some g → (shown image).sig g ≡ Some sig → Begins image address sig
+  pub signatures : (address g : ℕ) → (shown image).function_at address ≡ Some g → IsSome ((shown image).sig g)
+  pub stacks : (s f : ℕ) → slice_get image.entries s ≡ Some f
+      → (span : Span) × (sig : Sig) × (function_in image f ≡ Some span) × Begins image span.start sig × (starts_stack sig ≡ true)
+  pub entries : length image.entries ≡ image.stacks
+  -- addresses of code do not wrap
+  pub room : code_start + length image.code < 2 ^ 32
+
+-- each accepted image has this
+abbrev pub AcceptedRuns : Type 0
+AcceptedRuns = (image : ImageParts) → WellTyped image → RunsOn image

@@ -1,60 +1,43 @@
--- Well typed images, the strongest contexts, and the first place where a rule fails.
-use Rattle.std.specs.Prelude.{◌≡◌, ℕ, ◌<◌, ◌==◌, List, [], ◌∷◌, Option, Some, None, if◌then◌else◌, ◌↔◌}
-use Rattle.tal_checker.specs.Contexts.{ContextView, Dead, Live, ContextBelow, entry_facts}
-use Rattle.tal_checker.specs.Code.{CodeRow, rows_of, code_start}
-use Rattle.tal_checker.specs.Rules.{RuleFails, falls_to}
-use Rattle.tal_checker.specs.Image.{ImageParts, Formed}
+-- Well typed images, and the first place where a rule fails.
+use Rattle.std.specs.Prelude.{◌≡◌, ℕ, ◌<◌, ◌⊎◌, List, Some, None, ◌↔◌}
+use Rattle.tal_types.specs.Contexts.{ContextView, Dead}
+use Rattle.tal_flow.specs.Strongest.{Placed, At, contexts, rule_at, placed_at, NoneFails, Joined}
+use Rattle.tal_image.specs.Image.{ImageParts}
+use Rattle.tal_image.specs.Formed.{Formed}
+use Rattle.tal_image.specs.Shown.{shown}
+use Rattle.tal_checker.specs.Instructions.{instructions}
 
--- the context at an instruction: that of the signature at a function's first one, else what the one before hands on
-unfoldable pub start : ℕ → ContextView → ContextView
-start address handed_on = if address == code_start then Live entry_facts else handed_on
-
--- no rule fails at any instruction in its context
-abbrev pub NoneFails : ImageParts → List CodeRow → List ContextView → Type 0
-NoneFails image [] contexts = Unit {0}
-NoneFails image (row ∷ rows) [] = ⊥
-NoneFails image (row ∷ rows) (c ∷ contexts) = (RuleFails image c row ≡ None) × NoneFails image rows contexts
-
--- each context is above what must hold there, which what falls to it hands on
-abbrev pub Joined : List CodeRow → List ContextView → ContextView → Type 0
-Joined [] contexts handed_on = Unit {0}
-Joined (row ∷ rows) [] handed_on = ⊥
-Joined (row ∷ rows) (c ∷ contexts) handed_on = ContextBelow (start row.address handed_on) c × Joined rows contexts (falls_to c row)
-
--- the image is formed, and there are contexts, one for each instruction, that join and in which no rule fails
+-- The image is formed, and there are contexts, one for each instruction, such that: at a function's first instruction the
+-- context is above that of the signature, at a block above the annotation, elsewhere above what falls to it; and no rule
+-- fails at any instruction in its context.
 pub record WellTyped (image : ImageParts) : Type 0 where
   pub formed : Formed image
-  pub contexts : List ContextView
-  pub none_fails : NoneFails image (rows_of image.code) contexts
-  pub joined : Joined (rows_of image.code) contexts Dead
-
--- the strongest contexts, one for each instruction
-abbrev pub strongest : List CodeRow → ContextView → List ContextView
-strongest [] handed_on = []
-strongest (row ∷ rows) handed_on = start row.address handed_on ∷ strongest rows (falls_to (start row.address handed_on) row)
-
--- the instruction at an address
-unfoldable pub row_in : List CodeRow → ℕ → Option CodeRow
-row_in [] address = None
-row_in (row ∷ rows) address = (if row.address == address then Some row else row_in rows address)
-
--- the strongest context at an address among these instructions, after what is handed on to the first
-unfoldable pub context_in : List CodeRow → ContextView → ℕ → ContextView
-context_in [] handed_on address = Dead
-context_in (row ∷ rows) handed_on address =
-    (if row.address == address then start row.address handed_on else context_in rows (falls_to (start row.address handed_on) row) address)
+  pub contexts_are : List ContextView
+  pub none_fails : NoneFails (shown image) (instructions image.code) contexts_are
+  pub joined : Joined (shown image) (instructions image.code) contexts_are Dead
 
 -- the strongest context at an address
-abbrev pub At : ImageParts → ℕ → ContextView
-At image address = context_in (rows_of image.code) Dead address
+unfoldable pub strongest_at : ImageParts → ℕ → ContextView
+strongest_at image pc = At (shown image) (instructions image.code) pc
 
--- the law of the strongest context
+-- the strongest contexts, one for each instruction
+unfoldable pub strongest : ImageParts → List ContextView
+strongest image = contexts (shown image) (instructions image.code) Dead
+
+-- the law of the strongest context: no rule fails in the strongest contexts exactly where the image is well typed
 abbrev pub StrongestDecides : Type 0
-StrongestDecides = (image : ImageParts) → Formed image → (WellTyped image ↔ NoneFails image (rows_of image.code) (strongest (rows_of image.code) Dead))
+StrongestDecides = (image : ImageParts) → Formed image → (WellTyped image ↔ NoneFails (shown image) (instructions image.code) (strongest image))
 
 -- A rule fails at this address, the least one where any does, and this is the least that fails there.
 pub record FirstRefusal (image : ImageParts) (address rule : ℕ) : Type 0 where
-  pub row : CodeRow
-  pub here : row_in (rows_of image.code) address ≡ Some row
-  pub fails : RuleFails image (At image address) row ≡ Some rule
-  pub earlier : (before : ℕ) (other : CodeRow) → before < address → row_in (rows_of image.code) before ≡ Some other → RuleFails image (At image before) other ≡ None
+  pub placed : Placed
+  pub here : placed_at (instructions image.code) address ≡ Some placed
+  pub fails : rule_at (shown image) (strongest_at image address) placed ≡ Some rule
+  pub earlier : (before : ℕ) (other : Placed) → before < address → placed_at (instructions image.code) before ≡ Some other
+      → rule_at (shown image) (strongest_at image before) other ≡ None
+
+-- an image has one first refusal at most, and none where it is well typed; a formed image is well typed or has one
+pub record OneRefusal : Type 0 where
+  pub one : (image : ImageParts) (a b r s : ℕ) → FirstRefusal image a r → FirstRefusal image b s → (a ≡ b) × (r ≡ s)
+  pub not_typed : (image : ImageParts) (a r : ℕ) → FirstRefusal image a r → WellTyped image → ⊥
+  pub some : (image : ImageParts) → Formed image → WellTyped image ⊎ ((address : ℕ) × (rule : ℕ) × FirstRefusal image address rule)

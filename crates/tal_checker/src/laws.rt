@@ -1,50 +1,38 @@
 // What holds of the definitions alone: each law is a function with nothing to do, whose clause is the law.
-ghost use Rattle.tal_checker.specs.FileLaws.{OneMeaning};
-ghost use Rattle.tal_checker.specs.Refusals.{OneRefusal};
-ghost use Rattle.tal_checker.specs.WellTyped.{StrongestDecides};
-ghost use Rattle.tal_checker.specs.Running.{BeginsAtStart, AreSpelled, NoRuleFails, FallsToNext};
-
-/// What a file stands for is one thing: one image, or one first fault, and not both.
-pub fn one_meaning()
-    ensures { OneMeaning }
-{
-    ia32_code::laws::prefix_law();
-}
+ghost use Rattle.tal_checker.specs.Frames.{RowsByAddress};
+ghost use Rattle.tal_checker.specs.WellTyped.{StrongestDecides, OneRefusal};
+ghost use Rattle.tal_checker.specs.Running.{AcceptedRuns};
 
 /// The law of the strongest context: an image is well typed exactly where no rule fails in the strongest contexts.
 pub fn strongest_decides()
     ensures { StrongestDecides }
-{}
+{
+    tal_image::laws::formed_shapes();
+    tal_flow::laws::strongest_contexts();
+}
 
-/// An image is refused at one address by one rule, or it is well typed, and not both.
+/// A formed image is refused at one address by one rule, or it is well typed, and not both.
 pub fn one_refusal()
     ensures { OneRefusal }
+{
+    strongest_decides();
+    tal_flow::laws::strongest_contexts();
+}
+
+/// The rows of an image's frames by their addresses: one exactly where an instruction begins, by the strongest context there.
+pub fn rows_by_address()
+    ensures { RowsByAddress }
 {}
 
-/// The code of an image begins with an instruction, before which all registers are junk.
-pub fn begins_at_start()
-    ensures { BeginsAtStart }
+/// What a run of an accepted image rests on: its instructions are spelled by the code, no rule fails at one, and wherever a
+/// run falls, branches or calls, it arrives at an instruction whose strongest context is above what it knows.
+pub fn accepted_runs()
+    ensures { AcceptedRuns }
 {
+    strongest_decides();
+    tal_flow::laws::strongest_contexts();
+    tal_types::laws::context_below_tests_the_order();
+    tal_types::laws::contexts_are_ordered();
     ia32_code::laws::front_law();
-}
-
-/// The instructions of an image are what its code spells at their addresses.
-pub fn are_spelled()
-    ensures { AreSpelled }
-{
-    ia32_code::laws::front_law();
-}
-
-/// No rule fails at an instruction of an accepted image, in the strongest context there.
-pub fn no_rule_fails()
-    ensures { NoRuleFails }
-{
-    ia32_code::laws::front_law();
-}
-
-/// An instruction of an accepted image that falls falls to the next one, in the strongest context there.
-pub fn falls_to_next()
-    ensures { FallsToNext }
-{
-    ia32_code::laws::front_law();
+    ia32_code::laws::spelling_length();
 }

@@ -1,27 +1,22 @@
-// Which images are run: the image file, and the checker of its code.
+// The checker: an image is accepted exactly where its annotations satisfy the typing rules.
 //
-// `Image::read` gives the image that a file stands for, or the first fault of the file. `check` accepts an image as a
-// `Checked` one where its code is well typed, and else answers the least address where a typing rule fails.
+// `check` goes over the code once, with one context, and accepts the image as a `Checked` one, which holds the image and a
+// row of its frames for each instruction; or it answers the least address where a rule of typing fails, and the least rule
+// that fails there.
 //
-// `FileOf`, `ImageOf` and `FirstFault` (in specs/) say what a file stands for and what is wrong with it. `WellTyped` says
-// what is accepted, and `FirstRefusal` where it is refused. So far an image has one function, over numbers in registers.
+// `WellTyped` (in specs/) says what is accepted, `FirstRefusal` where an image is refused, `frames_of` what the rows are.
+// The module `laws` has the law of the strongest context, that an image has one answer, and `RunsOn`: what a run of an
+// accepted image rests on.
 #![tactic(auto)]
 
+mod answer;
 mod checking;
-mod condition;
-mod context;
-mod cursor;
-mod fault;
-mod image;
+mod code;
+mod frames;
 pub mod laws;
-mod rules;
-mod small_front;
-mod types;
 
-pub use checking::{CheckAnswer, Checked, check};
-pub use fault::ImageFault;
-pub use image::Image;
-pub use types::Ty;
+pub use answer::CheckAnswer;
+pub use checking::{Checked, check};
 
 #[cfg(test)]
 mod tests;

@@ -1,12 +1,20 @@
+ghost use Rattle.std.specs.Prelude.{◌<◌, ◌^◌, length};
+
 use super::*;
+use frame_tables::FrameTable;
 use std::alloc::{AllocError, Global};
-use std::test::*;
+use std::test::Fail;
+use tal_image::Image;
+use tal_types::FrameRow;
 
-/// The header of an image file of 64 heap words and two stacks, up to the length of the code.
-const HEADER: [u32; 10] = [0x4956_5256, 1, 64, 2, 1, 1, 0, 0, 0, 0];
-
-/// The tags of the signature.
-const TAGS: [u32; 8] = [9, 9, 9, 9, 9, 9, 9, 0];
+/// The tables of an image beside its one signature, its one function and its two entries: how many classes, array kinds,
+/// data arrays, blocks and marks it has, the numbers of the first three of these, and those of the blocks and marks.
+#[derive(Clone, Copy)]
+struct Tables<'a> {
+    counts: [u32; 5],
+    before: &'a [u32],
+    after: &'a [u32],
+}
 
 fn push_numbers(file: &mut Vec<u8>, numbers: &[u32]) -> Result<(), AllocError> {
     for number in numbers {
@@ -15,133 +23,146 @@ fn push_numbers(file: &mut Vec<u8>, numbers: &[u32]) -> Result<(), AllocError> {
     Ok(())
 }
 
-/// The file of the image with this code.
-fn file_of(alloc: Global, code: &[u8]) -> Result<Vec<u8>, AllocError> {
-    let length = if code.len() < 1000 {
-        code.len() as u32
-    } else {
-        0
-    };
+/// The file of the image with these tables and this code. The seven parameters of its signature are junk, and the result is
+/// a number.
+fn file_of(alloc: Global, tables: &Tables, code: &[u8]) -> Result<Vec<u8>, AllocError>
+    requires { length code.now < 2 ^ 32 }
+{
+    let length = code.len() as u32;
+    let [classes, kinds, arrays, blocks, marks] = tables.counts;
     let mut file = Vec::new(alloc);
-    push_numbers(&mut file, &HEADER)?;
-    push_numbers(&mut file, &[length, 0, 0])?;
-    for tag in &TAGS {
-        push_numbers(&mut file, &[*tag, 0])?;
-    }
+    push_numbers(&mut file, &[0x4956_5256, 1, 64, 2, 1, 1])?;
+    push_numbers(
+        &mut file,
+        &[classes, kinds, 0, arrays, length, blocks, marks],
+    )?;
+    push_numbers(&mut file, &[9, 0, 9, 0, 9, 0, 9, 0, 9, 0, 9, 0, 9, 0, 0, 0])?;
     push_numbers(&mut file, &[length, 0, 0, 0])?;
+    push_numbers(&mut file, tables.before)?;
     file.extend_from_slice(code)?;
+    push_numbers(&mut file, tables.after)?;
     Ok(file)
 }
 
-/// The fault of a file that is none of an image.
-fn fault_of(alloc: Global, file: &[u8]) -> Option<ImageFault> {
-    Image::read(alloc, file).err()
+/// Where the image with these tables and this code is refused, by which rule.
+fn refusal(alloc: Global, tables: &Tables, code: &[u8]) -> Result<Option<CheckAnswer>, Fail>
+    requires { length code.now < 2 ^ 32 }
+{
+    let file = file_of(alloc, tables, code)?;
+    let image = Image::read(alloc, &file)?;
+    Ok(check(alloc, image).err())
 }
 
 #[test]
-fn an_image_is_what_its_file_says(rt: HostRuntime) -> Result<(), Fail> {
-    let code = [0xB8, 7, 0, 0, 0, 0xC3];
-    let file = file_of(rt.alloc(), &code)?;
-    assert_eq!(rt; file.len(), 138);
-    let image = Image::read(rt.alloc(), &file)?;
-    assert_eq!(rt; image.heap_words(), 64);
-    assert_eq!(rt; image.stacks(), 2);
-    assert_eq!(rt; image.code(), code.as_slice());
-    let checked = check(rt.alloc(), image)?;
-    assert_eq!(rt; checked.image().code(), code.as_slice());
-    Ok(())
-}
-
-#[test]
-fn faults_stand_at_their_fields(rt: HostRuntime) -> Result<(), Fail> {
-    let rows: [(&[u8], ImageFault); 8] = [
-        (&[0x90, 0xC3], ImageFault::NotBuilt { at: 132 }),
-        (&[0x01, 0x00, 0xC3], ImageFault::NotBuilt { at: 132 }),
-        (&[0x01, 0x05], ImageFault::NotBuilt { at: 132 }),
-        (&[0xC3, 0x0F], ImageFault::NotBuilt { at: 133 }),
-        (&[0xC3, 0x83], ImageFault::NotBuilt { at: 133 }),
-        (&[0xC3, 0xB8], ImageFault::Short { at: 134 }),
-        (&[0xC3, 0x01], ImageFault::Short { at: 134 }),
-        (&[], ImageFault::NotBuilt { at: 40 }),
+fn code_alone_is_refused_at_the_least_address(rt: HostRuntime) -> Result<(), Fail> {
+    let tables = Tables {
+        counts: [0, 0, 0, 0, 0],
+        before: &[],
+        after: &[],
+    };
+    let rows: [(&[u8], u32, u8); 4] = [
+        (&[0xC3], 0x10_0000, 13),
+        (&[0x01, 0xC8, 0xC3], 0x10_0000, 5),
+        (&[0xB8, 0, 0, 0, 0, 0x8B, 0x00, 0xC3], 0x10_0005, 3),
+        (&[0xEB, 0x01, 0xB8, 0, 0, 0, 0, 0xC3], 0x10_0000, 14),
     ];
-    for (code, fault) in rows {
-        let file = file_of(rt.alloc(), code)?;
-        assert_eq!(rt; fault_of(rt.alloc(), &file), Some(fault), "{code:?}");
+    for (code, address, rule) in rows {
+        let answer = refusal(rt.alloc(), &tables, code)?;
+        assert_eq!(rt;
+            answer,
+            Some(CheckAnswer::Refused { address, rule }),
+            "{code:?}"
+        );
     }
     Ok(())
 }
 
+/// An array kind of numbers, a data array of 5, 6 and 7, a mark for it at 5, and a block where EAX holds a number.
+const BLOCK_AT_24: [u32; 19] = [24, 0, 0, 9, 0, 9, 0, 9, 0, 9, 0, 9, 0, 9, 0, 0, 5, 10, 0];
+
+const BLOCK_AT_25: [u32; 19] = [25, 0, 0, 9, 0, 9, 0, 9, 0, 9, 0, 9, 0, 9, 0, 0, 5, 10, 0];
+
 #[test]
-fn a_changed_file_has_its_first_fault(rt: HostRuntime) -> Result<(), Fail> {
-    let code = [0xB8, 7, 0, 0, 0, 0xC3];
-    let rows: [(usize, u8, ImageFault); 12] = [
-        (0, 0x57, ImageFault::Magic),
-        (4, 9, ImageFault::Version),
-        (8, 66, ImageFault::NotBuilt { at: 8 }),
-        (12, 1, ImageFault::NotBuilt { at: 12 }),
-        (16, 2, ImageFault::NotBuilt { at: 16 }),
-        (36, 1, ImageFault::NotBuilt { at: 36 }),
-        (48, 1, ImageFault::NotBuilt { at: 48 }),
-        (52, 0, ImageFault::NotBuilt { at: 52 }),
-        (112, 1, ImageFault::NotBuilt { at: 108 }),
-        (116, 5, ImageFault::NotBuilt { at: 116 }),
-        (128, 1, ImageFault::NotBuilt { at: 128 }),
-        (132, 0x0F, ImageFault::NotBuilt { at: 132 }),
+fn a_load_needs_its_index_compared_with_the_length(rt: HostRuntime) -> Result<(), Fail> {
+    let tables = Tables {
+        counts: [0, 1, 1, 1, 1],
+        before: &[0, 0, 0, 3, 5, 6, 7],
+        after: &BLOCK_AT_24,
+    };
+    let code = [
+        0xB8, 0, 0, 0, 0, 0xBB, 0, 0, 0x30, 0, 0xB9, 2, 0, 0, 0, 0x3B, 0x4B, 0x04, 0x73, 0x04,
+        0x8B, 0x44, 0x8B, 0x08, 0xC3,
     ];
-    for (at, byte, fault) in rows {
-        let mut file = file_of(rt.alloc(), &code)?;
-        if at < file.len() {
-            file[at] = byte;
-        }
-        assert_eq!(rt; fault_of(rt.alloc(), &file), Some(fault), "{at}");
-    }
-    Ok(())
-}
+    assert_eq!(rt; refusal(rt.alloc(), &tables, &code)?, None);
 
-#[test]
-fn a_file_that_is_too_short_or_too_long(rt: HostRuntime) -> Result<(), Fail> {
-    let mut file = file_of(rt.alloc(), &[0xB8, 7, 0, 0, 0, 0xC3])?;
-    for length in [0, 3, 51, 60, 131, 132, 137] {
-        let at = length as u32;
-        if length <= file.len() {
-            assert_eq!(rt;
-                fault_of(rt.alloc(), &file[..length]),
-                Some(ImageFault::Short { at })
-            );
-        }
-    }
-    file.push(0)?;
+    let raised = Tables {
+        counts: [0, 1, 1, 1, 1],
+        before: &[0, 0, 0, 3, 5, 6, 7],
+        after: &BLOCK_AT_25,
+    };
+    let code = [
+        0xB8, 0, 0, 0, 0, 0xBB, 0, 0, 0x30, 0, 0xB9, 2, 0, 0, 0, 0x3B, 0x4B, 0x04, 0x73, 0x05,
+        0x41, 0x8B, 0x44, 0x8B, 0x08, 0xC3,
+    ];
+    let answer = refusal(rt.alloc(), &raised, &code)?;
     assert_eq!(rt;
-        fault_of(rt.alloc(), &file),
-        Some(ImageFault::Rest { at: 138 })
+        answer,
+        Some(CheckAnswer::Refused {
+            address: 0x10_0015,
+            rule: 3
+        })
     );
     Ok(())
 }
 
+/// A class with one field, which is a number, and a class below it with one number more.
+const TWO_CLASSES: [u32; 10] = [0, 1, 0, 0, 0, 1, 1, 0, 0, 0];
+
+/// A block at 29 of junk alone, a mark at 0 for the table of class 1, and one at 16 for that of class 0.
+const JUNK_AT_29: [u32; 22] = [
+    29, 9, 0, 9, 0, 9, 0, 9, 0, 9, 0, 9, 0, 9, 0, 0, 0, 7, 1, 16, 7, 0,
+];
+
 #[test]
-fn refusals_stand_at_the_least_address(rt: HostRuntime) -> Result<(), Fail> {
-    let rows: [(&[u8], Option<(u32, u8)>); 8] = [
-        (
-            &[0xB8, 5, 0, 0, 0, 0xB9, 2, 0, 0, 0, 0x01, 0xC8, 0xC3],
-            None,
-        ),
-        (&[0x01, 0xC8, 0xC3], Some((0x10_0000, 5))),
-        (&[0xC3], Some((0x10_0000, 13))),
-        (&[0x01, 0xE4, 0xC3], Some((0x10_0000, 2))),
-        (&[0xBC, 0, 0, 0, 0, 0xC3], Some((0x10_0000, 2))),
-        (&[0xB8, 5, 0, 0, 0], Some((0x10_0000, 17))),
-        (
-            &[0xB8, 5, 0, 0, 0, 0x03, 0xC3, 0x03, 0xC1, 0xC3],
-            Some((0x10_0005, 5)),
-        ),
-        (&[0xB8, 5, 0, 0, 0, 0xC3, 0x01, 0xC8], None),
+fn a_test_of_the_class_keeps_the_lower_one(rt: HostRuntime) -> Result<(), Fail> {
+    let tables = Tables {
+        counts: [2, 0, 0, 1, 2],
+        before: &TWO_CLASSES,
+        after: &JUNK_AT_29,
+    };
+    let code = [
+        0xB8, 0, 0x01, 0x20, 0, 0xE8, 0xF6, 0x0F, 0xF0, 0xFF, 0x85, 0xC0, 0x74, 0x0F, 0x8B, 0x08,
+        0x81, 0x79, 0x0C, 0, 0, 0x20, 0, 0x75, 0x04, 0x8B, 0x40, 0x08, 0xC3, 0xB8, 0, 0, 0, 0,
+        0xC3,
     ];
-    for (code, refusal) in rows {
-        let file = file_of(rt.alloc(), code)?;
-        let image = Image::read(rt.alloc(), &file)?;
-        let answer = check(rt.alloc(), image).err();
-        let expected = refusal.map(|(address, rule)| CheckAnswer::Refused { address, rule });
-        assert_eq!(rt; answer, expected, "{code:?}");
+    assert_eq!(rt; refusal(rt.alloc(), &tables, &code)?, None);
+    Ok(())
+}
+
+#[test]
+fn code_without_references_has_one_row(rt: HostRuntime) -> Result<(), Fail> {
+    let tables = Tables {
+        counts: [0, 0, 0, 0, 0],
+        before: &[],
+        after: &[],
+    };
+    let file = file_of(rt.alloc(), &tables, &[0xB8, 7, 0, 0, 0, 0xC3])?;
+    let image = Image::read(rt.alloc(), &file)?;
+    let checked = check(rt.alloc(), image)?;
+    assert_eq!(rt; checked.image().code().len(), 6);
+    let frames: &FrameTable = checked.frames();
+    assert_eq!(rt; frames.distinct(), 1);
+    let empty = FrameRow {
+        regs: 0,
+        slots: 0,
+        refs: 0,
+    };
+    for (pc, row) in [
+        (0x10_0000, Some(empty)),
+        (0x10_0001, None),
+        (0x10_0005, Some(empty)),
+    ] {
+        assert_eq!(rt; frames.row(pc), row, "at {pc:X}");
     }
     Ok(())
 }

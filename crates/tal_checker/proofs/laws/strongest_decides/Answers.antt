@@ -1,5 +1,5 @@
-use Rattle.tal_checker.proofs.StrongestContexts.{strongest_law}
+use Rattle.tal_checker.proofs.StrongestLaw.{strongest_law}
 use Rattle.tal_checker.proofs.laws.strongest_decides.Goals as goal
 
 pub returns : goal.returns
-returns c = λ image f. strongest_law image f
+returns c = strongest_law c.formed_shapes.ensures c.strongest_contexts.ensures.exactly

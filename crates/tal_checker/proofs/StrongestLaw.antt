@@ -1,0 +1,76 @@
+-- The law of the strongest context, for images.
+use Rattle.std.specs.Prelude.{if◌then◌else◌, ◌==◌, ◌↔◌}
+use Rattle.std.proofs.Common.{◌≡◌, ℕ, ◌+◌, inl, inr, Bool, true, false, Some, None, List, [], ◌∷◌, sym, subst, ◌∙◌}
+use Rattle.std.proofs.lemmas.Option.{none-some, same_Some}
+use Rattle.object_layout.specs.Laws.{ClassLaws}
+use Rattle.tal_types.specs.Contexts.{ContextView, Dead, plain}
+use Rattle.tal_types.specs.Shown.{ShownImage}
+use Rattle.tal_flow.specs.Strongest.{Placed, rule_at, contexts, At, NoneFails, Joined, placed_at, HasOneHead, BlocksHaveOneHead}
+use Rattle.tal_image.specs.Conditions.{code_start}
+use Rattle.tal_image.specs.declared.parts.BlockPart.{BlockPart}
+use Rattle.tal_image.specs.Image.{ImageParts}
+use Rattle.tal_image.specs.Shown.{shown, block_in}
+use Rattle.tal_checker.specs.Passing.{RefusedIn}
+use Rattle.tal_image.specs.Laws.{FormedShapes}
+use Rattle.tal_checker.specs.Instructions.{instructions}
+use Rattle.tal_checker.specs.WellTyped.{WellTyped, strongest, strongest_at, FirstRefusal, OneRefusal, StrongestDecides}
+use Rattle.tal_checker.proofs.PlacedLists.{Ordered}
+use Rattle.tal_checker.proofs.CodeInstructions.{placed-ordered}
+use Rattle.tal_checker.proofs.FirstRefusals.{one_refused, decided}
+
+-- a block's annotation knows of no heads
+block-head : (pc : ℕ) (bs : List BlockPart) (c : ContextView) → block_in pc bs ≡ Some c → HasOneHead c
+unfolding block_in plain
+block-head pc [] c e = absurd cc
+block-head pc (b ∷ bs) c e = go (code_start + b.offset == pc) e (λ k. block-head pc bs c k)
+  where
+    go : (t : Bool) → (if t then Some (plain b.types b.slots) else block_in pc bs) ≡ Some c → (block_in pc bs ≡ Some c → HasOneHead c) → HasOneHead c
+    go true e more = subst HasOneHead (same_Some (plain b.types b.slots) c e) (λ t r q h k. absurd cc)
+    go false e more = more e
+
+pub image-heads : (image : ImageParts) → BlocksHaveOneHead (shown image)
+unfolding shown
+image-heads image pc c e = block-head pc image.blocks c e
+
+-- the contexts of the flow's law, for each list of instructions
+abbrev pub ServeExactly : Type 0
+ServeExactly = (v : ShownImage) → ClassLaws v.shapes → BlocksHaveOneHead v → (xs : List Placed) → ((cs : List ContextView) × NoneFails v xs cs × Joined v xs cs Dead) ↔ NoneFails v xs (contexts v xs Dead)
+
+pub strongest_law : FormedShapes → ServeExactly → StrongestDecides
+unfolding strongest shown
+strongest_law laws exactly image f =
+    let l = exactly (shown image) (laws image f) (image-heads image) (instructions image.code) in (
+      λ w. l.0 (w.contexts_are, w.none_fails, w.joined),
+      λ n. let s = l.1 n in record { formed = f; contexts_are = s.0; none_fails = s.1; joined = s.2 },
+    )
+
+-- a first refusal of an image is one of its instructions, and the other way round
+pub of-refused : (image : ImageParts) (address rule : ℕ) → RefusedIn (shown image) (instructions image.code) Dead address rule → FirstRefusal image address rule
+unfolding strongest_at At
+of-refused image address rule r = record { placed = r.placed; here = r.here; fails = r.fails; earlier = r.earlier }
+
+to-refused : (image : ImageParts) (address rule : ℕ) → FirstRefusal image address rule → RefusedIn (shown image) (instructions image.code) Dead address rule
+unfolding strongest_at At
+to-refused image address rule r = record { placed = r.placed; here = r.here; fails = r.fails; earlier = r.earlier }
+
+-- the instructions of code stand in order
+code-ordered : (code : List ℕ) → Ordered (instructions code)
+unfolding instructions
+code-ordered code = placed-ordered code 0 code_start
+
+-- no rule fails at an instruction, in its strongest context
+abbrev pub RowsPass : Type 0
+RowsPass = (v : ShownImage) (xs : List Placed) (pc : ℕ) (x : Placed) → NoneFails v xs (contexts v xs Dead) → placed_at xs pc ≡ Some x → rule_at v (At v xs pc) x ≡ None
+
+-- no rule fails at an instruction of an image that is well typed
+pub none_fails : StrongestDecides → RowsPass → (image : ImageParts) → WellTyped image → (pc : ℕ) (x : Placed) → placed_at (instructions image.code) pc ≡ Some x → rule_at (shown image) (strongest_at image pc) x ≡ None
+unfolding strongest strongest_at
+none_fails decides pass image w pc x e = pass (shown image) (instructions image.code) pc x ((decides image w.formed).0 w) e
+
+pub one_answer : StrongestDecides → RowsPass → OneRefusal
+unfolding strongest
+one_answer decides pass = record {
+  one = λ image a b r s f g. one_refused (shown image) (instructions image.code) Dead a b r s (to-refused image a r f) (to-refused image b s g);
+  not_typed = λ image a r f w. none-some r (sym (none_fails decides pass image w a f.placed f.here) ∙ f.fails);
+  some = λ image f. elim (decided (shown image) (instructions image.code) Dead (code-ordered image.code)) [ inl n ↦ inl ((decides image f).1 n) | inr r ↦ inr (r.0, r.1, of-refused image r.0 r.1 r.2) ];
+}

@@ -1,0 +1,13 @@
+use Rattle.tal_checker.proofs.Arriving.{accepted_runs}
+use Rattle.tal_checker.proofs.laws.accepted_runs.Goals as goal
+
+pub returns : goal.returns
+returns c = accepted_runs (record {
+  front = c.front_law.ensures;
+  long = c.spelling_length.ensures;
+  decides = c.strongest_decides.ensures;
+  rows = c.strongest_contexts.ensures.rows;
+  next = c.strongest_contexts.ensures.next;
+  told = c.context_below_tests_the_order.ensures.told;
+  reflexive = c.contexts_are_ordered.ensures.reflexive;
+})

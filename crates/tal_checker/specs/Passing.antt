@@ -1,0 +1,27 @@
+-- What going over code finds, by what typing sees of an image.
+use Rattle.std.specs.Prelude.{◌≡◌, ℕ, ◌<◌, List, Some, None}
+use Rattle.tal_types.specs.Contexts.{ContextView, Dead}
+use Rattle.tal_types.specs.Shown.{ShownImage}
+use Rattle.tal_flow.specs.Strongest.{Placed, rule_at, contexts, at_in, NoneFails, placed_at}
+use Rattle.frame_tables.specs.FrameRows.{RowAt}
+use Rattle.tal_checker.specs.declared.answer.CheckAnswer.{CheckAnswer}
+use Rattle.tal_checker.specs.declared.answer.CheckAnswer.TheVariants.{Refused, NoMemory}
+use Rattle.tal_checker.specs.Instructions.{instructions}
+use Rattle.tal_checker.specs.Frames.{rows_of}
+
+-- the least address among these instructions where a rule fails, and the least rule there, where c falls to the first
+pub record RefusedIn (v : ShownImage) (xs : List Placed) (c : ContextView) (address rule : ℕ) : Type 0 where
+  pub placed : Placed
+  pub here : placed_at xs address ≡ Some placed
+  pub fails : rule_at v (at_in v xs c address) placed ≡ Some rule
+  pub earlier : (before : ℕ) (other : Placed) → before < address → placed_at xs before ≡ Some other → rule_at v (at_in v xs c before) other ≡ None
+
+-- no rule fails in the code, and these are the rows of its frames
+pub record Passed (v : ShownImage) (code : List ℕ) (frames : List RowAt) : Type 0 where
+  pub none_fails : NoneFails v (instructions code) (contexts v (instructions code) Dead)
+  pub rows : frames ≡ rows_of (instructions code) (contexts v (instructions code) Dead)
+
+-- what an answer says of the code that was gone over
+abbrev pub Refuses : ShownImage → List ℕ → CheckAnswer → Type 0
+Refuses v code (Refused address rule) = RefusedIn v (instructions code) Dead address rule
+Refuses v code NoMemory = Unit {0}
