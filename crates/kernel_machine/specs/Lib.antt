@@ -1,4 +1,5 @@
-pub mod Arithmetic
+pub mod Built
+pub mod Outside
 pub mod Values
 pub mod States
 pub mod Effects

@@ -1,6 +1,6 @@
 -- When a machine stands for a state of the typed machine, and when it follows a journal.
 use Rattle.std.specs.Prelude.{◌≡◌, ℕ, List, [], length, Option, Some, None}
-use Rattle.tal_checker.specs.Image.{ImageParts}
+use Rattle.tal_image.specs.Image.{ImageParts}
 use Rattle.tal_checker.specs.WellTyped.{WellTyped}
 use Rattle.device_model.specs.declared.events.Event.{Event}
 use Rattle.stack_states.specs.declared.journal_entry.Entry.{Entry}
@@ -10,6 +10,7 @@ use Rattle.kernel_machine.specs.declared.turn.Turn.{Turn}
 use Rattle.kernel_machine.specs.declared.turn.Turn.TheVariants as turn
 use Rattle.kernel_machine.specs.declared.run_end.RunEnd.{RunEnd}
 use Rattle.kernel_machine.specs.declared.run_end.RunEnd.TheVariants as run_end
+use Rattle.kernel_machine.specs.Built.{IsBuilt}
 use Rattle.kernel_machine.specs.States.{State}
 use Rattle.kernel_machine.specs.Turns.{Run, LegalRun, Answer}
 use Rattle.kernel_machine.specs.Typing.{Typed}
@@ -42,9 +43,10 @@ pub record Follows (machine : MachineView) (entries : List Entry) : Type 0 where
   pub entries_are : run.entries ≡ entries
   pub stands : Stands machine run.state
 
--- what every machine keeps: its image is well typed, and it stands for a typed state
+-- what every machine keeps: its image is well typed and of the form that runs, and it stands for a typed state
 pub record Lawful (machine : MachineView) : Type 0 where
   pub well_typed : WellTyped machine.image
+  pub built : IsBuilt machine.image
   pub state : State
   pub typed : Typed machine.image state
   pub stands : Stands machine state

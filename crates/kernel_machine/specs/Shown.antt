@@ -6,7 +6,7 @@ use Rattle.stack_states.specs.declared.flag_bits.FlagBits.{FlagBits}
 use Rattle.stack_states.specs.declared.stack_state.StackState.{StackState}
 use Rattle.stack_states.specs.declared.stack_state.StackState.TheVariants.{Empty, Running}
 use Rattle.kernel_machine.specs.Values.{Value, Word}
-use Rattle.kernel_machine.specs.States.{State, Stack, StackMode, EmptyStack, RunningStack}
+use Rattle.kernel_machine.specs.States.{State, Stack, StackMode, EmptyStack, RunningStack, values_of}
 
 -- a stack's state, and its words from the top to the bottom
 pub record ShownStack : Type 0 where
@@ -34,6 +34,10 @@ stack_pointer stack depth = upper_end stack - 4 * depth
 abbrev pub register_words : (Reg → Value) → ℕ → List ℕ
 register_words regs esp = Word (regs Eax) ∷ Word (regs Ecx) ∷ Word (regs Edx) ∷ Word (regs Ebx) ∷ esp ∷ Word (regs Ebp) ∷ Word (regs Esi) ∷ Word (regs Edi) ∷ []
 
+-- ESP of a state, whose running stack is stack 0 so far
+abbrev pub esp_of : State → ℕ
+esp_of s = stack_pointer 0 (length (values_of s))
+
 abbrev pub shown_state : StackMode → StackState
 shown_state EmptyStack = Empty
 shown_state RunningStack = Running
@@ -41,15 +45,10 @@ shown_state RunningStack = Running
 abbrev pub shown_stack : Stack → ShownStack
 shown_stack k = record { state = shown_state k.mode; words = map Word k.values }
 
--- the depth of the running stack, which is stack 0 so far
-abbrev pub running_depth : List Stack → ℕ
-running_depth [] = 0
-running_depth (k ∷ ks) = length k.values
-
 -- the words that a state shows
 unfoldable pub shown_of : State → ShownWords
 shown_of s = record {
-  regs = register_words s.regs (stack_pointer 0 (running_depth s.stacks));
+  regs = register_words s.regs (esp_of s);
   flags = s.flags;
   place = s.place;
   stacks = map shown_stack s.stacks;

@@ -1,24 +1,32 @@
 ghost use Rattle.std.specs.Prelude.{◌≡◌, ◌≢◌, ◌≤◌, ◌<◌, ◌+◌, [], Some, None, IsSome, IfOk, is_some, length};
-ghost use Rattle.tal_checker.specs.Code.{code_start};
+ghost use Rattle.ia32_code.specs.Canonical.{Canonical};
 ghost use Rattle.device_model.specs.EventFile.{InOrder};
+ghost use Rattle.tal_image.specs.Conditions.{code_start};
+ghost use Rattle.kernel_machine.specs.Built.{IsBuilt};
 ghost use Rattle.kernel_machine.specs.Machine.{MachineView, Follows, turn_of, end_of};
+ghost use Rattle.kernel_machine.specs.States.{entry_place};
 ghost use Rattle.kernel_machine.specs.Turns.{inst_at};
-ghost use Rattle.kernel_machine.specs.Words.{next_words};
+ghost use Rattle.kernel_machine.specs.Words.{Steps};
 
-use crate::cpu::{Cpu, Step, execute};
 use crate::ending::Ending;
 use crate::journal::Journal;
-use crate::laws::words_stand;
+use crate::laws::{first_is_typed, runs_go_on, turns_keep_typing};
 use crate::run_end::RunEnd;
 use crate::shown::Shown;
+use crate::stack_words::StackWords;
+use crate::stepping::advance;
 use crate::turn::Turn;
 use device_model::Event;
+use ia32_code::laws::canonical_is_none;
 use ia32_code::{Decoded, Inst, decode};
+use ia32_step::Cpu;
 use no_memory::NoMemory;
 use stack_states::{FlagBits, StackState};
 use std::alloc::Global;
 use std::marker::Model;
-use tal_checker::{Checked, Image};
+use tal_checker::Checked;
+use tal_checker::laws::accepted_runs;
+use tal_image::Image;
 
 /// The address of the first code byte.
 const CODE_START: u32 = 0x100000;
@@ -43,8 +51,8 @@ pub struct Machine {
     cpu: Cpu,
     turns: u32,
     ending: Option<Ending>,
-    /// The words of stack 0, which alone runs so far, from the top.
-    stack: Vec<u32>,
+    /// The memory of stack 0, which alone runs so far.
+    stack: StackWords,
     cells: Vec<u16>,
 }
 
@@ -54,22 +62,36 @@ impl Model for Machine {
 
     ghost Value = { MachineView };
 
-    ghost view = { λ m. viewed m.checked.image m.events.items m.cpu m.turns m.ending m.stack.items m.cells.items };
+    ghost view = { λ m. viewed m.checked.image m.events.items m.cpu m.turns m.ending m.stack m.cells.items };
 
-    ghost invariant = { λ m. Lawful (viewed m.checked.image m.events.items m.cpu m.turns m.ending m.stack.items m.cells.items) };
+    ghost invariant = { λ m. Lawful (viewed m.checked.image m.events.items m.cpu m.turns m.ending m.stack m.cells.items) };
+}
+
+// Where stack 0 begins.
+#[tactic(auto, unfolding(crate::specs::States::entry_place))]
+fn entry_place(image: &Image) -> u32
+    ensures { result ≡ entry_place image.now 0 }
+{
+    match image.function(image.entry(0).unwrap_or(0)) {
+        Some(span) => span.start,
+        None => 0,
+    }
 }
 
 // The instruction at an address, and the length of its spelling.
 #[tactic(auto, unfolding(crate::specs::Turns::inst_at))]
-fn inst_in(image: &Image, pc: u32) -> (Inst, u32)
+fn inst_in(image: &Image, pc: u32) -> (Inst, u8)
     requires low { code_start ≤ pc }
     requires inside { pc ≤ code_start + length image.now.code }
     requires whole { IsSome (inst_at image.now pc) }
-    ensures { inst_at image.now pc ≡ Some result }
+    ensures here { inst_at image.now pc ≡ Some result }
+    ensures spelled { Canonical result.0 ≢ None }
 {
+    // What is spelled has a canonical spelling.
+    canonical_is_none();
     let (_, rest) = image.code().split_at((pc - CODE_START) as usize);
     match decode(rest) {
-        Decoded::One { inst, len } => (inst, len as u32),
+        Decoded::One { inst, len } => (inst, len),
         Decoded::Short | Decoded::Unknown => unreachable!(),
     }
 }
@@ -77,19 +99,21 @@ fn inst_in(image: &Image, pc: u32) -> (Inst, u32)
 impl Machine {
     /// A machine before its first turn: stack 0 runs at its function, with all registers 0 and all flags clear.
     ///
-    /// The events' turns are 1 to 50000000 and do not fall. After `NoMemory` the image and the events are given up.
+    /// The events' turns are 1 to 50000000 and do not fall, and the image is of the form that runs. After `NoMemory` the
+    /// image and the events are given up.
     pub fn new(alloc: Global, checked: Checked, events: Vec<Event>) -> Result<Machine, NoMemory>
-        requires { InOrder events.items }
+        requires ordered { InOrder events.items }
+        requires built { IsBuilt checked.image }
         ensures follows { IfOk result (λ m. Follows m []) }
         ensures image { IfOk result (λ m. m.image ≡ checked.image) }
         ensures events { IfOk result (λ m. m.events ≡ events.items) }
         ensures turns { IfOk result (λ m. m.turns ≡ 0) }
         ensures ending { IfOk result (λ m. m.ending ≡ None) }
     {
-        // The image is well typed.
-        let _image = checked.image();
-        words_stand();
-        let stack = vec![in alloc; 0u32; 1]?;
+        accepted_runs();
+        first_is_typed();
+        let pc = entry_place(checked.image());
+        let stack = StackWords::new(alloc)?;
         let cells = vec![in alloc; BLANK; CELLS]?;
         let flags = FlagBits {
             carry: false,
@@ -100,7 +124,7 @@ impl Machine {
         let cpu = Cpu {
             regs: [0, 0, 0, 0, FIRST_ESP, 0, 0, 0],
             flags,
-            pc: CODE_START,
+            pc,
         };
         Ok(Machine {
             checked,
@@ -129,7 +153,8 @@ impl Machine {
         ensures journal { journal.new ≡ journal.old }
         ensures answer { result ≡ turn_of self.new.ending }
     {
-        words_stand();
+        accepted_runs();
+        runs_go_on();
         if self.ending.is_none() {
             self.step();
         }
@@ -170,15 +195,13 @@ impl Machine {
     fn step(&mut self)
         requires on { self.old.ending ≡ None }
         requires turns { self.old.turns < 50000000 }
-        ensures { next_words self.old ≡ Some self.new }
+        ensures { Steps self.old self.new }
     {
-        words_stand();
+        accepted_runs();
+        turns_keep_typing();
         let (inst, len) = inst_in(self.checked.image(), self.cpu.pc);
         self.turns += 1;
-        match execute(&mut self.cpu, inst, len) {
-            Step::Next => {}
-            Step::Return => self.ending = Some(Ending::Halted(self.cpu.regs[0])),
-        }
+        self.ending = advance(&mut self.cpu, &mut self.stack, &inst, len);
     }
 
     // Whether there is an end.
@@ -218,7 +241,11 @@ impl Shown for Machine {
     }
 
     fn stack_words(&self, stack: u32) -> &[u32] {
-        if stack == 0 { &self.stack } else { &[] }
+        if stack == 0 {
+            self.stack.from(self.cpu.regs[4])
+        } else {
+            &[]
+        }
     }
 
     fn statics(&self) -> &[u32] {

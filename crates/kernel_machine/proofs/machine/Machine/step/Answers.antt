@@ -1,34 +1,27 @@
-use Rattle.std.proofs.Common.{sym, ◌∙◌}
-use Rattle.kernel_machine.proofs.WordsForValues.{turn_on, turn_back}
+use Rattle.std.proofs.Common.{ap, ◌∙◌}
+use Rattle.kernel_machine.proofs.WordsTurns.{inst_here, leads_on, steps_on, steps_lawful}
 use Rattle.kernel_machine.proofs.machine.Machine.step.Goals as goal
 
 pub inst_in-inst-requires-clause-low : goal.inst_in-inst-requires-clause-low
-inst_in-inst-requires-clause-low c = (c.words_stand.ensures.here _ c.self.invariant).low
+inst_in-inst-requires-clause-low c = (inst_here c.accepted_runs.ensures _ c.self.invariant).low
 
 pub inst_in-inst-requires-clause-inside : goal.inst_in-inst-requires-clause-inside
-inst_in-inst-requires-clause-inside c = rw c.image.ensures.value (c.words_stand.ensures.here _ c.self.invariant).inside
+inst_in-inst-requires-clause-inside c = rw c.image.ensures.value (inst_here c.accepted_runs.ensures _ c.self.invariant).inside
 
 pub inst_in-inst-requires-clause-whole : goal.inst_in-inst-requires-clause-whole
-inst_in-inst-requires-clause-whole c = rw c.image.ensures.value (c.words_stand.ensures.here _ c.self.invariant).whole
+inst_in-inst-requires-clause-whole c = rw c.image.ensures.value (inst_here c.accepted_runs.ensures _ c.self.invariant).whole
 
-pub execute-requires-clause-built : goal.execute-requires-clause-built
-execute-requires-clause-built c = (c.words_stand.ensures.here _ c.self.invariant).built _ _ (rw c.image.ensures.value at c.inst_in-inst.ensures)
-
-pub execute-requires-clause-room : goal.execute-requires-clause-room
-execute-requires-clause-room c = (c.words_stand.ensures.here _ c.self.invariant).room _ _ (rw c.image.ensures.value at c.inst_in-inst.ensures)
+pub advance-self-inside-requires-clause-runs : goal.advance-self-inside-requires-clause-runs
+advance-self-inside-requires-clause-runs c = leads_on c.turns_keep_typing.ensures _ _ _ _ _ _ _ c.self.invariant (ap (λ v. v.ending) c.self.view_is ∙ c.requires.on)
+    _ _ (rw c.image.ensures.value at c.inst_in-inst.ensures.here)
 
 pub invariant_of-self : goal.invariant_of-self
-invariant_of-self c = (c.words_stand.ensures.turn _ _ c.self.invariant
-    (turn_on _ _ _ c.execute.new.cpu (rw c.image.ensures.value at c.inst_in-inst.ensures) c.execute.ensures.cpu (sym c.execute.ensures.step ∙ c.in-Next.is))).lawful
+invariant_of-self c = steps_lawful _ _ c.self.invariant
+    (steps_on c.turns_keep_typing.ensures _ _ _ _ _ _ _ _ _ _ c.self.invariant (ap (λ v. v.ending) c.self.view_is ∙ c.requires.on)
+    _ _ (rw c.image.ensures.value at c.inst_in-inst.ensures.here) c.advance-self-inside.ensures)
+    c.self.invariant.cells
 
-pub invariant_of-self-in-Return : goal.invariant_of-self-in-Return
-invariant_of-self-in-Return c = (c.words_stand.ensures.turn _ _ c.self.invariant
-    (turn_back _ _ _ c.execute.new.cpu (rw c.image.ensures.value at c.inst_in-inst.ensures) c.execute.ensures.cpu (sym c.execute.ensures.step ∙ c.in-Return.is))).lawful
-
-pub returns-in-Next : goal.returns-in-Next
-returns-in-Next c = rw (← c.self.view_is)
-    (turn_on _ _ _ c.execute.new.cpu (rw c.image.ensures.value at c.inst_in-inst.ensures) c.execute.ensures.cpu (sym c.execute.ensures.step ∙ c.in-Next.is))
-
-pub returns-in-Return : goal.returns-in-Return
-returns-in-Return c = rw (← c.self.view_is)
-    (turn_back _ _ _ c.execute.new.cpu (rw c.image.ensures.value at c.inst_in-inst.ensures) c.execute.ensures.cpu (sym c.execute.ensures.step ∙ c.in-Return.is))
+pub returns : goal.returns
+returns c = rw (← c.self.view_is)
+    (steps_on c.turns_keep_typing.ensures _ _ _ _ _ _ _ _ _ _ c.self.invariant (ap (λ v. v.ending) c.self.view_is ∙ c.requires.on)
+    _ _ (rw c.image.ensures.value at c.inst_in-inst.ensures.here) c.advance-self-inside.ensures)

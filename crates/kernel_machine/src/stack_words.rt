@@ -1,0 +1,76 @@
+ghost use Rattle.std.specs.Prelude.{◌≡◌, ◌≤◌, [], ◌∷◌, IfOk, length, drop};
+ghost use Rattle.kernel_machine.specs.Words.{word_number};
+
+use ia32_step::Bus;
+use no_memory::NoMemory;
+use std::alloc::Global;
+use std::marker::Model;
+
+/// The lowest address of stack 0.
+pub(crate) const STACK_START: u32 = 0x400000;
+
+/// The address above stack 0.
+pub(crate) const STACK_END: u32 = 0x404000;
+
+/// The words of stack 0, from its lowest address.
+#[derive(Drop)]
+pub(crate) struct StackWords {
+    words: Vec<u32>,
+}
+
+impl Model for StackWords {
+    ghost use Rattle.std.specs.Prelude.{◌≡◌, ℕ, List, length};
+
+    ghost Value = { List ℕ };
+
+    ghost view = { λ s. s.words.items };
+
+    ghost invariant = { λ s. length s.words.items ≡ 4096 };
+}
+
+impl StackWords {
+    /// A stack of words that are all 0.
+    pub(crate) fn new(alloc: Global) -> Result<StackWords, NoMemory>
+        ensures { IfOk result (λ s. drop 4095 s ≡ 0 ∷ []) }
+    {
+        let words = vec![in alloc; 0u32; 4096]?;
+        Ok(StackWords { words })
+    }
+
+    /// There are 4096 words: a fact for the proofs.
+    pub(crate) fn whole(&self)
+        ensures { length self.now ≡ 4096 }
+    {
+        let _words = &self.words;
+    }
+
+    /// The words from an address up.
+    pub(crate) fn from(&self, address: u32) -> &[u32]
+        requires low { 0x400000 ≤ address }
+        requires high { address ≤ 0x404000 }
+        ensures { result.now ≡ drop (word_number address) self.now }
+    {
+        let (_below, above) = self.words.split_at(((address - STACK_START) / 4) as usize);
+        above
+    }
+}
+
+impl Bus for StackWords {
+    ghost use Rattle.kernel_machine.specs.Words.{is_stack_word, memory_of};
+
+    ghost is_mapped = { λ s. is_stack_word };
+
+    ghost word_at = { memory_of };
+
+    fn mapped(&self, address: u32) -> bool {
+        STACK_START <= address && address < STACK_END && address % 4 == 0
+    }
+
+    fn load(&self, address: u32) -> u32 {
+        self.words[((address - STACK_START) / 4) as usize]
+    }
+
+    fn store(&mut self, address: u32, word: u32) {
+        self.words[((address - STACK_START) / 4) as usize] = word;
+    }
+}

@@ -1,0 +1,103 @@
+ghost use Rattle.std.specs.Prelude.{◌≡◌, ◌≢◌, ℕ, ◌+◌, ◌-◌, ◌<◌, ◌≤◌, ◌%◌, ◌^◌, ◌==◌, if◌then◌else◌, None, true, false, length, slice_set};
+ghost use Rattle.ia32_code.specs.Canonical.{Canonical};
+ghost use Rattle.tal_flow.specs.Rules.{next_of};
+ghost use Rattle.tal_image.specs.Image.{ImageParts};
+ghost use Rattle.kernel_machine.specs.States.{State};
+ghost use Rattle.kernel_machine.specs.Words.{top, pushes, overflows, Runs, Leads, Left, Leaves, is_stack_word, memory_of, came_back, halted_by};
+
+use crate::ending::Ending;
+use crate::stack_words::{STACK_START, StackWords};
+use ia32_code::Inst;
+use ia32_step::{Bus, Cpu, Effect, exec};
+
+const EAX: usize = 0;
+
+const ESP: usize = 4;
+
+/// The vector of the stack fault.
+const STACK_FAULT: u8 = 12;
+
+fn pushes(inst: &Inst) -> bool
+    ensures { result ≡ pushes inst.now }
+{
+    matches!(inst, Inst::Push(_) | Inst::CallRel(_) | Inst::CallAt(_))
+}
+
+// Whether the instruction pushes a word, and there is no room for one.
+fn overflows(inst: &Inst, cpu: &Cpu) -> bool
+    ensures { result ≡ overflows inst.now cpu.now }
+{
+    pushes(inst) && cpu.regs[ESP] == STACK_START
+}
+
+// Runs an instruction that has room for what it pushes. What it leaves is the caller's.
+fn execute(cpu: &mut Cpu, stack: &mut StackWords, inst: &Inst, len: u8) -> Effect
+    requires spelled { Canonical inst.now ≢ None }
+    requires runs { Runs inst.now len cpu.old stack.old }
+    requires room { overflows inst.now cpu.old ≡ false }
+    ensures { (image : ImageParts) (s t : State) → Leads image inst.now len cpu.old stack.old s t
+        → Left result (next_of s.place len) cpu.new stack.new s t }
+{
+    stack.whole();
+    let effect = exec(cpu, stack, inst, len);
+    stack.whole();
+    effect
+}
+
+// Pushes the address after a call, and goes to the function.
+fn enter(cpu: &mut Cpu, stack: &mut StackWords, target: u32, next: u32)
+    requires low { 4 ≤ top cpu.old }
+    requires room { is_stack_word (top cpu.old - 4) ≡ true }
+    ensures regs { cpu.new.regs ≡ slice_set cpu.old.regs 4 (top cpu.old - 4) }
+    ensures flags { cpu.new.flags ≡ cpu.old.flags }
+    ensures place { cpu.new.pc ≡ target }
+    ensures words { (a : ℕ) → memory_of stack.new a ≡ (if a == top cpu.old - 4 then next else memory_of stack.old a) }
+    ensures before { length stack.old ≡ 4096 }
+    ensures after { length stack.new ≡ 4096 }
+{
+    stack.whole();
+    let top = cpu.regs[ESP] - 4;
+    stack.store(top, next);
+    stack.whole();
+    cpu.regs[ESP] = top;
+    cpu.pc = target;
+}
+
+// Goes back to the place on top of the stack. At the end word the run is halted.
+fn leave(cpu: &mut Cpu, stack: &StackWords) -> Option<Ending>
+    requires { is_stack_word (top cpu.old) ≡ true }
+    ensures cpu { cpu.new ≡ came_back (memory_of stack.now (top cpu.old)) cpu.old }
+    ensures end { result ≡ halted_by (memory_of stack.now (top cpu.old)) cpu.old }
+{
+    let top = cpu.regs[ESP];
+    let place = stack.load(top);
+    if place == 0 {
+        return Some(Ending::Halted(cpu.regs[EAX]));
+    }
+    cpu.regs[ESP] = top + 4;
+    cpu.pc = place;
+    None
+}
+
+/// Runs an instruction that is spelled with `len` bytes; the end, where it comes to one.
+///
+/// Where the words stand for a typed state that the instruction leads on, they stand for the state after it.
+pub(crate) fn advance(cpu: &mut Cpu, stack: &mut StackWords, inst: &Inst, len: u8) -> Option<Ending>
+    requires spelled { Canonical inst.now ≢ None }
+    requires runs { Runs inst.now len cpu.old stack.old }
+    ensures { (image : ImageParts) (s t : State) → Leads image inst.now len cpu.old stack.old s t → Leaves cpu.new stack.new result s t }
+{
+    if overflows(inst, cpu) {
+        return Some(Ending::KernelFault(STACK_FAULT));
+    }
+    let next = cpu.pc.wrapping_add(len as u32);
+    match execute(cpu, stack, inst, len) {
+        Effect::Next => None,
+        Effect::Fault(vector) => Some(Ending::KernelFault(vector)),
+        Effect::Call(target) => {
+            enter(cpu, stack, target, next);
+            None
+        }
+        Effect::Return => leave(cpu, stack),
+    }
+}
