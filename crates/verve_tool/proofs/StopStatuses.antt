@@ -5,7 +5,7 @@ use Rattle.std.proofs.lemmas.List.{append-nil}
 use Rattle.verve_tool.specs.Stops.{status_of, IsUnread, IsUnwritten}
 use Rattle.verve_tool.specs.declared.status.Status.TheVariants as status
 use Rattle.verve_tool.specs.declared.stop.Stop.{Stop}
-use Rattle.verve_tool.specs.declared.stop.Stop.TheVariants.{Usage, Read, Write, Long, Image, Refused, Events, NoMemory}
+use Rattle.verve_tool.specs.declared.stop.Stop.TheVariants.{Usage, Read, Write, Long, Image, Refused, Form, Events, NoMemory}
 
 -- a file was not read
 pub unread-status : (s : Stop) → IsUnread s → status_of s ≡ status.ReadFault
@@ -15,6 +15,7 @@ unread-status Write h = absurd h
 unread-status (Long name) h = absurd h
 unread-status (Image name f) h = absurd h
 unread-status (Refused address rule) h = absurd h
+unread-status (Form name at) h = absurd h
 unread-status (Events name) h = absurd h
 unread-status NoMemory h = absurd h
 
@@ -26,6 +27,7 @@ unwritten-status (Read name) h = absurd h
 unwritten-status (Long name) h = absurd h
 unwritten-status (Image name f) h = absurd h
 unwritten-status (Refused address rule) h = absurd h
+unwritten-status (Form name at) h = absurd h
 unwritten-status (Events name) h = absurd h
 unwritten-status NoMemory h = absurd h
 

@@ -26,6 +26,13 @@ four_words (w ∷ x ∷ y ∷ []) a b c d len h0 h1 h2 h3 = let bad : ⊥ = omeg
 four_words (w ∷ x ∷ y ∷ z ∷ []) a b c d len h0 h1 h2 h3 = cc
 four_words (w ∷ x ∷ y ∷ z ∷ v ∷ rest) a b c d len h0 h1 h2 h3 = let bad : ⊥ = omega arith in absurd bad
 
+-- two words are the list of them
+pub two_words : (words : List (String Global)) (a b : String Global) → length words ≡ 2 → a ≡ get_or words 0 a → b ≡ get_or words 1 b → words ≡ a ∷ b ∷ []
+two_words [] a b len h0 h1 = let bad : ⊥ = omega arith in absurd bad
+two_words (w ∷ []) a b len h0 h1 = let bad : ⊥ = omega arith in absurd bad
+two_words (w ∷ x ∷ []) a b len h0 h1 = cc
+two_words (w ∷ x ∷ y ∷ rest) a b len h0 h1 = let bad : ⊥ = omega arith in absurd bad
+
 -- two texts that `!=` told apart
 pub told_apart : (xs ys : List ℕ) (b : Bool) → xs ≡ ys → b ≡ true → b ≡ not (bytes_eq xs ys) → ⊥
 told_apart xs ys b same t is = true≢false (sym t ∙ is ∙ (rw ((bytes_eq-Decides xs ys).1 same) refl))

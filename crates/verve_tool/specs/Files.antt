@@ -1,12 +1,14 @@
--- What the two files of a run hold, and what that decides.
+-- What the files of a command hold, and what that decides.
 use Rattle.std.specs.Prelude.{◌≡◌, ◌≢◌, ◌<◌, ◌≤◌, ℕ, List, [], length, Option}
 use Rattle.outside.specs.FileMaps.{FileMap, Gives}
-use Rattle.tal_checker.specs.Image.{ImageParts, ImageOf}
-use Rattle.tal_checker.specs.Fields.{FirstFault}
+use Rattle.tal_image.specs.Image.{ImageParts}
+use Rattle.tal_image.specs.Formed.{ImageOf}
+use Rattle.tal_image.specs.Laws.{FirstFault}
+use Rattle.tal_image.specs.declared.fault.ImageFault.{ImageFault}
+use Rattle.tal_image.specs.declared.fault.ImageFault.TheVariants as fault
 use Rattle.tal_checker.specs.WellTyped.{WellTyped, FirstRefusal}
-use Rattle.tal_checker.specs.declared.fault.ImageFault.{ImageFault}
-use Rattle.tal_checker.specs.declared.fault.ImageFault.TheVariants as fault
-use Rattle.verve_tool.specs.Words.{RunWords}
+use Rattle.kernel_machine.specs.Built.{IsBuilt, FirstOutside}
+use Rattle.verve_tool.specs.Words.{RunWords, Request, Run, Check, image_name}
 
 -- an image file has at most 4 MiB
 abbrev pub image_most : ℕ
@@ -24,67 +26,72 @@ IsWithin most bytes = length bytes ≤ most
 abbrev pub IsTooLong : ℕ → List ℕ → Type 0
 IsTooLong most bytes = most < length bytes
 
--- both files were read, and neither is too long
-pub record FilesRead (told : Option FileMap) (run : RunWords) (image_bytes event_bytes : List ℕ) : Type 0 where
-  pub image_read : Gives told run.image image_most image_bytes
-  pub image_within : IsWithin image_most image_bytes
-  pub events_read : Gives told run.events events_most event_bytes
-  pub events_within : IsWithin events_most event_bytes
+-- a file was read, and is not too long
+pub record FileRead (told : Option FileMap) (name : List ℕ) (most : ℕ) (bytes : List ℕ) : Type 0 where
+  pub read : Gives told name most bytes
+  pub within : IsWithin most bytes
 
--- the files are a well typed image and no events
-pub record Loaded (told : Option FileMap) (run : RunWords) (image : ImageParts) : Type 0 where
+-- the files that a command names were read, and none is too long: the image's with these bytes, and a run's events with those
+abbrev pub FilesRead : Option FileMap → Request → List ℕ → List ℕ → Type 0
+FilesRead told (Run run) image_bytes event_bytes = FileRead told run.image image_most image_bytes × FileRead told run.events events_most event_bytes
+FilesRead told (Check image) image_bytes event_bytes = FileRead told image image_most image_bytes × (event_bytes ≡ [])
+
+-- a well typed image stands for the image file
+pub record TypedImage (told : Option FileMap) (request : Request) (image : ImageParts) : Type 0 where
   pub image_bytes : List ℕ
   pub event_bytes : List ℕ
-  pub files : FilesRead told run image_bytes event_bytes
+  pub files : FilesRead told request image_bytes event_bytes
   pub stands : ImageOf image_bytes image
   pub well_typed : WellTyped image
-  pub no_events : event_bytes ≡ []
 
--- A file that was read is too long: the image's, or else the events'.
-pub record LongImage (told : Option FileMap) (run : RunWords) : Type 0 where
-  pub image_bytes : List ℕ
-  pub image_read : Gives told run.image image_most image_bytes
-  pub long : IsTooLong image_most image_bytes
+-- the files of a run are a well typed image of the form that runs, and no events
+pub record Loaded (told : Option FileMap) (run : RunWords) (image : ImageParts) : Type 0 where
+  pub typed : TypedImage told (Run run) image
+  pub built : IsBuilt image
+  pub no_events : typed.event_bytes ≡ []
+
+-- A file that was read is too long: the image's, or else a run's events'.
+pub record LongImage (told : Option FileMap) (name : List ℕ) : Type 0 where
+  pub bytes : List ℕ
+  pub read : Gives told name image_most bytes
+  pub long : IsTooLong image_most bytes
 
 pub record LongEvents (told : Option FileMap) (run : RunWords) : Type 0 where
   pub image_bytes : List ℕ
   pub event_bytes : List ℕ
-  pub image_read : Gives told run.image image_most image_bytes
-  pub image_within : IsWithin image_most image_bytes
-  pub events_read : Gives told run.events events_most event_bytes
+  pub image_read : FileRead told run.image image_most image_bytes
+  pub read : Gives told run.events events_most event_bytes
   pub long : IsTooLong events_most event_bytes
 
+abbrev pub HasLongEvents : Option FileMap → Request → Type 0
+HasLongEvents told (Run run) = LongEvents told run
+HasLongEvents told (Check image) = ⊥
+
 -- no image stands for the image file, and this is its first fault
-pub record FaultyImage (told : Option FileMap) (run : RunWords) (f : ImageFault) : Type 0 where
+pub record FaultyImage (told : Option FileMap) (request : Request) (f : ImageFault) : Type 0 where
   pub image_bytes : List ℕ
   pub event_bytes : List ℕ
-  pub files : FilesRead told run image_bytes event_bytes
+  pub files : FilesRead told request image_bytes event_bytes
   pub fault : FirstFault image_bytes f
 
 -- an image stands for the image file, and a rule fails in it: first at this address, this one
-pub record IllTyped (told : Option FileMap) (run : RunWords) (address rule : ℕ) : Type 0 where
+pub record IllTyped (told : Option FileMap) (request : Request) (address rule : ℕ) : Type 0 where
   pub image_bytes : List ℕ
   pub event_bytes : List ℕ
   pub image : ImageParts
-  pub files : FilesRead told run image_bytes event_bytes
+  pub files : FilesRead told request image_bytes event_bytes
   pub stands : ImageOf image_bytes image
   pub refusal : FirstRefusal image address rule
 
--- the image is well typed, and the event file is not empty
-pub record SomeEvents (told : Option FileMap) (run : RunWords) : Type 0 where
-  pub image_bytes : List ℕ
-  pub event_bytes : List ℕ
+-- the image of a run is well typed, and this is the first byte of its file outside the form that runs
+pub record OutsideForm (told : Option FileMap) (run : RunWords) (at : ℕ) : Type 0 where
   pub image : ImageParts
-  pub files : FilesRead told run image_bytes event_bytes
-  pub stands : ImageOf image_bytes image
-  pub well_typed : WellTyped image
-  pub some : event_bytes ≢ []
+  pub typed : TypedImage told (Run run) image
+  pub first : FirstOutside image at
 
--- the faults of a file that breaks its format, and those that tell that its form is not built yet
-abbrev pub BreaksFormat : ImageFault → Type 0
-BreaksFormat fault.Magic = Unit {0}
-BreaksFormat fault.Version = Unit {0}
-BreaksFormat (fault.Short at) = Unit {0}
-BreaksFormat (fault.Rest at) = Unit {0}
-BreaksFormat (fault.NotBuilt at) = ⊥
-BreaksFormat fault.NoMemory = ⊥
+-- the image of a run is well typed and of the form that runs, and the event file is not empty
+pub record SomeEvents (told : Option FileMap) (run : RunWords) : Type 0 where
+  pub image : ImageParts
+  pub typed : TypedImage told (Run run) image
+  pub built : IsBuilt image
+  pub some : typed.event_bytes ≢ []

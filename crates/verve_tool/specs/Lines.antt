@@ -1,8 +1,12 @@
--- The line on the error stream that tells what went wrong.
+-- The line on the error stream that tells what went wrong, and what a check prints.
 use Rattle.std.specs.Prelude.{ℕ, List, ◌++◌, codes, decimal}
 use Rattle.kernel_machine.specs.Report.{word_text}
-use Rattle.tal_checker.specs.declared.fault.ImageFault.{ImageFault}
-use Rattle.tal_checker.specs.declared.fault.ImageFault.TheVariants as fault
+use Rattle.tal_image.specs.declared.fault.ImageFault.{ImageFault}
+use Rattle.tal_image.specs.declared.fault.ImageFault.TheVariants as fault
+
+-- the image is accepted
+abbrev pub accepted_text : List ℕ
+accepted_text = codes "accepted\n"
 
 -- the words are no command
 abbrev pub usage_line : List ℕ
@@ -12,7 +16,7 @@ usage_line = codes "usage\n"
 abbrev pub read_line : List ℕ → List ℕ
 read_line name = codes "read " ++ name ++ codes "\n"
 
--- the report was not written whole
+-- the text was not written whole
 abbrev pub write_line : List ℕ
 write_line = codes "write\n"
 
@@ -28,6 +32,10 @@ no_memory_line = codes "no memory\n"
 abbrev pub file_line : List ℕ → ℕ → List ℕ → List ℕ
 file_line name at what = codes "file " ++ name ++ codes " at " ++ decimal at ++ what
 
+-- a file's name, the place of a field that breaks a condition, and the condition's number
+abbrev pub bad_line : List ℕ → ℕ → ℕ → List ℕ
+bad_line name at condition = codes "file " ++ name ++ codes " at " ++ decimal at ++ codes " bad " ++ decimal condition ++ codes "\n"
+
 -- what this file has at this byte is not built
 abbrev pub not_built_line : List ℕ → ℕ → List ℕ
 not_built_line name at = codes "not built " ++ name ++ codes " at " ++ decimal at ++ codes "\n"
@@ -38,7 +46,7 @@ fault_line name fault.Magic = file_line name 0 (codes " magic\n")
 fault_line name fault.Version = file_line name 4 (codes " version\n")
 fault_line name (fault.Short at) = file_line name at (codes " short\n")
 fault_line name (fault.Rest at) = file_line name at (codes " rest\n")
-fault_line name (fault.NotBuilt at) = not_built_line name at
+fault_line name (fault.Bad at condition) = bad_line name at condition
 fault_line name fault.NoMemory = no_memory_line
 
 -- the first address at which a rule fails, and the least rule failing there

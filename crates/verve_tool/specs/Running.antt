@@ -1,6 +1,6 @@
--- A run as the code holds it, and what it leaves.
+-- What the code reads from the words, and what a run leaves.
 use Rattle.std.specs.Prelude.{◌≡◌, ◌≤◌, ◌⊎◌, ℕ, List, [], IsSome}
-use Rattle.tal_checker.specs.Image.{ImageParts}
+use Rattle.tal_image.specs.Image.{ImageParts}
 use Rattle.kernel_machine.specs.Machine.{MachineView, Follows}
 use Rattle.stack_states.specs.declared.journal_entry.Entry.{Entry}
 use Rattle.kernel_machine.specs.declared.run_end.RunEnd.{RunEnd}
@@ -8,13 +8,20 @@ use Rattle.kernel_machine.specs.declared.run_end.RunEnd.TheVariants as end
 use Rattle.verve_tool.specs.declared.status.Status.{Status}
 use Rattle.verve_tool.specs.declared.status.Status.TheVariants.{Done, KernelFault}
 use Rattle.verve_tool.specs.declared.words.RunCommand.{RunCommand}
-use Rattle.verve_tool.specs.declared.running.Left.{Left}
-use Rattle.verve_tool.specs.declared.running.Left.TheVariants.{Finished, Short, NoMachine}
-use Rattle.verve_tool.specs.Words.{RunWords}
+use Rattle.verve_tool.specs.declared.words.Command.{Command}
+use Rattle.verve_tool.specs.declared.words.Command.TheVariants as command
+use Rattle.verve_tool.specs.declared.runs.Left.{Left}
+use Rattle.verve_tool.specs.declared.runs.Left.TheVariants.{Finished, Short, NoMachine}
+use Rattle.verve_tool.specs.Words.{RunWords, Request, Run, Check}
 
 -- the run that a command asks for
 abbrev pub run_of : RunCommand → RunWords
 run_of run = record { image = run.image.now; events = run.events.now; turns = run.turns }
+
+-- what a command asks for
+abbrev pub request_of : Command → Request
+request_of (command.Run run) = Run (run_of run)
+request_of (command.Check image) = Check image.now
 
 -- the machine has run the image for the turns, or until the run ended
 pub record Ran (image : ImageParts) (turns : ℕ) (entries : List Entry) (machine : MachineView) : Type 0 where

@@ -2,18 +2,20 @@
 use Rattle.std.specs.Prelude.{◌≡◌, ◌≢◌, ◌⊎◌, ℕ, List, [], Bool, true, Option}
 use Rattle.outside.specs.FileMaps.{FileMap, Gives, Lacks}
 use Rattle.outside.specs.Faults.{Faulted}
-use Rattle.tal_checker.specs.Image.{ImageParts, ImageOf}
-use Rattle.tal_checker.specs.Fields.{FirstFault}
+use Rattle.tal_image.specs.Image.{ImageParts}
+use Rattle.tal_image.specs.Formed.{ImageOf}
+use Rattle.tal_image.specs.Laws.{FirstFault}
+use Rattle.tal_image.specs.declared.fault.ImageFault.{ImageFault}
+use Rattle.tal_image.specs.declared.fault.ImageFault.TheVariants as fault
 use Rattle.tal_checker.specs.WellTyped.{WellTyped, FirstRefusal}
-use Rattle.tal_checker.specs.declared.fault.ImageFault.{ImageFault}
-use Rattle.tal_checker.specs.declared.fault.ImageFault.TheVariants as fault
-use Rattle.verve_tool.specs.Words.{RunWords}
-use Rattle.verve_tool.specs.Files.{LongImage, LongEvents, FaultyImage, IllTyped, SomeEvents, IsTooLong}
+use Rattle.kernel_machine.specs.Built.{IsBuilt, FirstOutside}
+use Rattle.verve_tool.specs.Words.{RunWords, Request, Run, Check, Names, image_name}
+use Rattle.verve_tool.specs.Files.{LongImage, LongEvents, FaultyImage, IllTyped, OutsideForm, SomeEvents, IsTooLong}
 use Rattle.verve_tool.specs.Lines.{usage_line, read_line, write_line, long_line, no_memory_line, not_built_line, fault_line, refused_line}
 use Rattle.verve_tool.specs.declared.status.Status.{Status}
 use Rattle.verve_tool.specs.declared.status.Status.TheVariants as status
 use Rattle.verve_tool.specs.declared.stop.Stop.{Stop}
-use Rattle.verve_tool.specs.declared.stop.Stop.TheVariants.{Usage, Read, Write, Long, Image, Refused, Events, NoMemory}
+use Rattle.verve_tool.specs.declared.stop.Stop.TheVariants.{Usage, Read, Write, Long, Image, Refused, Form, Events, NoMemory}
 
 -- the status of an image file's fault
 abbrev pub fault_status : ImageFault → Status
@@ -21,7 +23,7 @@ fault_status fault.Magic = status.Malformed
 fault_status fault.Version = status.Malformed
 fault_status (fault.Short at) = status.Malformed
 fault_status (fault.Rest at) = status.Malformed
-fault_status (fault.NotBuilt at) = status.NotBuilt
+fault_status (fault.Bad at condition) = status.Malformed
 fault_status fault.NoMemory = status.NoMemory
 
 -- the status of a command that stopped
@@ -32,6 +34,7 @@ status_of Write = status.WriteFault
 status_of (Long name) = status.TooLong
 status_of (Image name f) = fault_status f
 status_of (Refused address rule) = status.Refused
+status_of (Form name at) = status.NotBuilt
 status_of (Events name) = status.NotBuilt
 status_of NoMemory = status.NoMemory
 
@@ -43,6 +46,7 @@ line_of Write = write_line
 line_of (Long name) = long_line name.now
 line_of (Image name f) = fault_line name.now f
 line_of (Refused address rule) = refused_line address rule
+line_of (Form name at) = not_built_line name.now at
 line_of (Events name) = not_built_line name.now 0
 line_of NoMemory = no_memory_line
 
@@ -58,28 +62,45 @@ abbrev pub FaultOf : List ℕ → ImageFault → Type 0
 FaultOf bytes fault.NoMemory = Unit {0}
 FaultOf bytes f = FirstFault bytes f
 
--- why the bytes of both files are not run
-abbrev pub StopsBytes : List ℕ → List ℕ → RunWords → Stop → Type 0
-StopsBytes image_bytes event_bytes run (Image n f) = (n.now ≡ run.image) × FaultOf image_bytes f
-StopsBytes image_bytes event_bytes run (Refused address rule) = (image : ImageParts) × ImageOf image_bytes image × FirstRefusal image address rule
-StopsBytes image_bytes event_bytes run (Events n) = (n.now ≡ run.events) × ((image : ImageParts) × ImageOf image_bytes image × WellTyped image × (event_bytes ≢ []))
-StopsBytes image_bytes event_bytes run NoMemory = Unit {0}
-StopsBytes image_bytes event_bytes run _ = ⊥
+-- why no image of the bytes of the file of this name is accepted
+abbrev pub StopsBytes : List ℕ → List ℕ → Stop → Type 0
+StopsBytes bytes name (Image n f) = (n.now ≡ name) × FaultOf bytes f
+StopsBytes bytes name (Refused address rule) = (image : ImageParts) × ImageOf bytes image × FirstRefusal image address rule
+StopsBytes bytes name NoMemory = Unit {0}
+StopsBytes bytes name _ = ⊥
+
+-- why an accepted image is not run over the bytes of an event file
+abbrev pub StopsForm : ImageParts → List ℕ → RunWords → Stop → Type 0
+StopsForm image event_bytes run (Form n at) = (n.now ≡ run.image) × FirstOutside image at
+StopsForm image event_bytes run (Events n) = (n.now ≡ run.events) × IsBuilt image × (event_bytes ≢ [])
+StopsForm image event_bytes run _ = ⊥
+
+-- why the bytes of both files of a run are not run: no image of the first is accepted, or that image is not run over the second
+abbrev pub StopsRunBytes : List ℕ → List ℕ → RunWords → Stop → Type 0
+StopsRunBytes image_bytes event_bytes run s =
+    StopsBytes image_bytes run.image s ⊎ ((image : ImageParts) × ImageOf image_bytes image × WellTyped image × StopsForm image event_bytes run s)
 
 -- a fault of the image file; want of memory tells nothing of it
-abbrev pub FileFault : Option FileMap → RunWords → ImageFault → Type 0
-FileFault told run fault.NoMemory = Unit {0}
-FileFault told run f = FaultyImage told run f
+abbrev pub FileFault : Option FileMap → Request → ImageFault → Type 0
+FileFault told request fault.NoMemory = Unit {0}
+FileFault told request f = FaultyImage told request f
 
--- why the files of a run were not loaded
-abbrev pub StopsLoad : Option FileMap → Bool → ℕ → ℕ → RunWords → Stop → Type 0
-StopsLoad told steady reads reads_after run (Read n) = ((n.now ≡ run.image) ⊎ (n.now ≡ run.events)) × Faulted reads reads_after × (steady ≡ true → Lacks told n.now)
-StopsLoad told steady reads reads_after run (Long n) = (LongImage told run × (n.now ≡ run.image)) ⊎ (LongEvents told run × (n.now ≡ run.events))
-StopsLoad told steady reads reads_after run (Image n f) = (n.now ≡ run.image) × FileFault told run f
-StopsLoad told steady reads reads_after run (Refused address rule) = IllTyped told run address rule
-StopsLoad told steady reads reads_after run (Events n) = (n.now ≡ run.events) × SomeEvents told run
-StopsLoad told steady reads reads_after run NoMemory = Unit {0}
-StopsLoad told steady reads reads_after run _ = ⊥
+-- a file is too long: the image's, or a run's events'
+abbrev pub TooLongFile : Option FileMap → Request → List ℕ → Type 0
+TooLongFile told request name =
+    (LongImage told (image_name request) × (name ≡ image_name request))
+    ⊎ ((run : RunWords) × (request ≡ Run run) × LongEvents told run × (name ≡ run.events))
+
+-- why the files of a command gave nothing to run or to accept
+abbrev pub StopsLoad : Option FileMap → Bool → ℕ → ℕ → Request → Stop → Type 0
+StopsLoad told steady reads reads_after request (Read n) = Names request n.now × Faulted reads reads_after × (steady ≡ true → Lacks told n.now)
+StopsLoad told steady reads reads_after request (Long n) = TooLongFile told request n.now
+StopsLoad told steady reads reads_after request (Image n f) = (n.now ≡ image_name request) × FileFault told request f
+StopsLoad told steady reads reads_after request (Refused address rule) = IllTyped told request address rule
+StopsLoad told steady reads reads_after request (Form n at) = (run : RunWords) × (request ≡ Run run) × OutsideForm told run at × (n.now ≡ run.image)
+StopsLoad told steady reads reads_after request (Events n) = (run : RunWords) × (request ≡ Run run) × SomeEvents told run × (n.now ≡ run.events)
+StopsLoad told steady reads reads_after request NoMemory = Unit {0}
+StopsLoad told steady reads reads_after request _ = ⊥
 
 -- a file was not read
 abbrev pub IsUnread : Stop → Type 0

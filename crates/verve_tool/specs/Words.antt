@@ -1,5 +1,5 @@
 -- The words of a command.
-use Rattle.std.specs.Prelude.{◌≡◌, ◌≢◌, ◌≤◌, ℕ, List, [], ◌∷◌, map, codes, decimal, String, string_bytes}
+use Rattle.std.specs.Prelude.{◌≡◌, ◌≢◌, ◌≤◌, ◌⊎◌, ℕ, List, [], ◌∷◌, map, codes, decimal, String, string_bytes}
 use Rattle.std.specs.declared.alloc.Global.{Global}
 
 -- `run IMAGE EVENTS TURNS`: the names of the two files, and how many turns at most
@@ -8,14 +8,39 @@ pub record RunWords : Type 0 where
   pub events : List ℕ
   pub turns : ℕ
 
+-- what a command asks for: a run, or whether the image of a file is accepted
+pub data Request : Type 0 where
+  Run : RunWords → Request
+  Check : List ℕ → Request
+
 -- The words are this run: no name is empty, and the turns are a decimal number from 1 to 50000000 without leading zeros.
-pub record WordsOf (words : List (String Global)) (run : RunWords) : Type 0 where
+pub record SpellsRun (words : List (String Global)) (run : RunWords) : Type 0 where
   pub spelled : map string_bytes words ≡ codes "run" ∷ run.image ∷ run.events ∷ decimal run.turns ∷ []
   pub image_named : run.image ≢ []
   pub events_named : run.events ≢ []
   pub some_turns : 1 ≤ run.turns
   pub not_too_many : run.turns ≤ 50000000
 
+-- the words ask for the check of the image of this name
+pub record SpellsCheck (words : List (String Global)) (image : List ℕ) : Type 0 where
+  pub spelled : map string_bytes words ≡ codes "check" ∷ image ∷ []
+  pub image_named : image ≢ []
+
+-- the words ask for this
+abbrev pub WordsOf : List (String Global) → Request → Type 0
+WordsOf words (Run run) = SpellsRun words run
+WordsOf words (Check image) = SpellsCheck words image
+
 -- the words are no command
 abbrev pub NoCommand : List (String Global) → Type 0
-NoCommand words = (run : RunWords) → WordsOf words run → ⊥
+NoCommand words = (request : Request) → WordsOf words request → ⊥
+
+-- the name of the image's file
+abbrev pub image_name : Request → List ℕ
+image_name (Run run) = run.image
+image_name (Check image) = image
+
+-- the names of the files that are read
+abbrev pub Names : Request → List ℕ → Type 0
+Names (Run run) name = (name ≡ run.image) ⊎ (name ≡ run.events)
+Names (Check image) name = name ≡ image

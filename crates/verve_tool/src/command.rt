@@ -3,34 +3,23 @@ ghost use Rattle.std.specs.Prelude.{◌≡◌, ◌≤◌, ◌<◌, ◌⊎◌, �
 ghost use Rattle.outside.specs.FileMaps.{FileMap};
 ghost use Rattle.outside.specs.Faults.{Quiet};
 ghost use Rattle.outside.specs.Sinks.{Gained};
-ghost use Rattle.tal_checker.specs.Image.{ImageParts};
-ghost use Rattle.verve_tool.specs.Words.{RunWords, WordsOf, NoCommand};
-ghost use Rattle.verve_tool.specs.Files.{Loaded};
+ghost use Rattle.tal_image.specs.Image.{ImageParts};
+ghost use Rattle.verve_tool.specs.Words.{RunWords, Request, Run, Check, WordsOf, NoCommand};
+ghost use Rattle.verve_tool.specs.Files.{TypedImage, Loaded};
 ghost use Rattle.verve_tool.specs.Outcome.{Call, Outcome, Refuses, IsMissing};
-ghost use Rattle.verve_tool.specs.Running.{status_at};
 ghost use Rattle.verve_tool.specs.Stops.{status_of, line_of, IsUnread, IsUnwritten};
 ghost use Rattle.verve_tool.specs.declared.status.Status.{Status};
 
+use crate::checks::act_check;
 use crate::complaint::complain;
 use crate::laws::one_decision;
-use crate::load::load;
-use crate::running::{Left, PrintFault, print, run_image};
+use crate::runs::act_run;
 use crate::status::Status;
 use crate::stop::Stop;
-use crate::words::read_words;
-use kernel_machine::{Journal, Machine, RunEnd};
+use crate::words::{Command, read_words};
+use kernel_machine::{Journal, Machine};
 use outside::{Files, Sink};
 use std::alloc::Global;
-
-// The status of a command whose run came to this end and was printed.
-fn status_after(end: RunEnd) -> Status
-    ensures { result ≡ status_at end }
-{
-    match end {
-        RunEnd::KernelFault(_) => Status::KernelFault,
-        _ => Status::Done,
-    }
-}
 
 // Does what the words say, and tells nothing on the error stream.
 fn act<'a, F: Files, K: Sink>(
@@ -64,33 +53,16 @@ fn act<'a, F: Files, K: Sink>(
 {
     journal.clear();
     *kept = None;
-    let Some(run) = read_words(words) else {
-        return Err(Stop::Usage);
-    };
-    let checked = match load(alloc, files, run) {
-        Ok(checked) => checked,
-        Err(stop) => return Err(stop),
-    };
-    let machine = match run_image(alloc, checked, run.turns, journal) {
-        Left::Finished(machine) => machine,
-        Left::Short(short) => {
-            *kept = Some(short);
-            return Err(Stop::NoMemory);
-        }
-        Left::NoMachine => return Err(Stop::NoMemory),
-    };
-    let printed = print(alloc, out, &machine);
-    let status = status_after(machine.end());
-    *kept = Some(machine);
-    match printed {
-        Ok(()) => Ok(status),
-        Err(PrintFault::Failed) => Err(Stop::Write),
-        Err(PrintFault::NoMemory) => Err(Stop::NoMemory),
+    match read_words(words) {
+        Some(Command::Run(run)) => act_run(alloc, run, files, out, journal, kept),
+        Some(Command::Check(image)) => act_check(alloc, image, files, out),
+        None => Err(Stop::Usage),
     }
 }
 
 /// Does what the words of a command line, without the program's own name, say: `run IMAGE EVENTS TURNS` runs the image of
-/// one file over the events of another for so many turns at most, and puts the report into `out` in one piece.
+/// one file over the events of another for so many turns at most, and puts the report into `out` in one piece;
+/// `check IMAGE` puts `accepted` into `out` where the image of a file is well typed.
 ///
 /// What stops it goes to `err` as one line, for which no memory is taken; a failure of `err` changes nothing. The journal is
 /// cleared first, and is then that of the run in this call; the machine that ran is kept.
@@ -120,13 +92,18 @@ pub fn verve<F: Files, K: Sink, E: Sink>(
 
     // When each status comes. Want of memory may come in place of each but Usage.
     ensures usage { NoCommand words.now → result ≡ Status.Usage }
-    ensures missing { (map : FileMap) (run : RunWords) → F.told files.old ≡ Some map → WordsOf words.now run → IsMissing (Some map) run
+    ensures missing { (map : FileMap) (request : Request) → F.told files.old ≡ Some map → WordsOf words.now request → IsMissing (Some map) request
         → (result ≡ Status.ReadFault) ⊎ (result ≡ Status.NoMemory) }
-    ensures refuses { (map : FileMap) (run : RunWords) (s : Status) → F.told files.old ≡ Some map → WordsOf words.now run
-        → Quiet (F.read_faults files.old) (F.read_faults files.new) → Refuses (Some map) run s → (result ≡ s) ⊎ (result ≡ Status.NoMemory) }
-    ensures complete { (map : FileMap) (run : RunWords) (image : ImageParts) → F.told files.old ≡ Some map → WordsOf words.now run
+    ensures refuses { (map : FileMap) (request : Request) (s : Status) → F.told files.old ≡ Some map → WordsOf words.now request
+        → Quiet (F.read_faults files.old) (F.read_faults files.new) → Refuses (Some map) request s → (result ≡ s) ⊎ (result ≡ Status.NoMemory) }
+    ensures complete { (map : FileMap) (run : RunWords) (image : ImageParts) → F.told files.old ≡ Some map → WordsOf words.now (Run run)
         → Quiet (F.read_faults files.old) (F.read_faults files.new) → Quiet (K.faults out.old) (K.faults out.new) → Loaded (Some map) run image
         → (result ≡ Status.Done) ⊎ (result ≡ Status.KernelFault) ⊎ (result ≡ Status.NoMemory) }
+    ensures complete_check { (map : FileMap) (name : List ℕ) (image : ImageParts) → F.told files.old ≡ Some map → WordsOf words.now (Check name)
+        → Quiet (F.read_faults files.old) (F.read_faults files.new) → Quiet (K.faults out.old) (K.faults out.new) → TypedImage (Some map) (Check name) image
+        → (result ≡ Status.Done) ⊎ (result ≡ Status.NoMemory) }
+    ensures accepted { (map : FileMap) (name : List ℕ) → F.told files.old ≡ Some map → WordsOf words.now (Check name) → result ≡ Status.Done
+        → (image : ImageParts) × TypedImage (Some map) (Check name) image }
     ensures reads { F.read_faults files.old < F.read_faults files.new → result ≡ Status.ReadFault }
     ensures puts { K.faults out.old < K.faults out.new → result ≡ Status.WriteFault }
 

@@ -4,15 +4,15 @@ ghost use Rattle.std.specs.List.{flat_map};
 ghost use Rattle.outside.specs.Faults.{Quiet};
 ghost use Rattle.outside.specs.Sinks.{Gained};
 ghost use Rattle.kernel_machine.specs.Report.{word_text};
-ghost use Rattle.tal_checker.specs.declared.fault.ImageFault.{ImageFault};
-ghost use Rattle.verve_tool.specs.Lines.{file_line, not_built_line, fault_line, refused_line};
+ghost use Rattle.tal_image.specs.declared.fault.ImageFault.{ImageFault};
+ghost use Rattle.verve_tool.specs.Lines.{file_line, bad_line, not_built_line, fault_line, refused_line};
 ghost use Rattle.verve_tool.specs.Stops.{line_of};
 
 use crate::stop::Stop;
 use itoa::Buffer;
 use kernel_machine::word_digits;
 use outside::Sink;
-use tal_checker::ImageFault;
+use tal_image::ImageFault;
 
 // Puts these pieces, up to the first that is not taken.
 fn say<E: Sink>(err: &mut E, pieces: &[&[u8]])
@@ -35,6 +35,28 @@ fn say_place<E: Sink>(err: &mut E, name: &str, at: u32, what: &[u8])
     say(
         err,
         &[b"file ", name.as_bytes(), b" at ", at.as_bytes(), what],
+    );
+}
+
+fn say_bad<E: Sink>(err: &mut E, name: &str, at: u32, condition: u32)
+    ensures { Quiet (E.faults err.old) (E.faults err.new)
+        → Gained (E.told err.old) (E.told err.new) (bad_line name.now at condition) }
+{
+    let mut number = Buffer::new();
+    let at = number.format(at);
+    let mut other = Buffer::new();
+    let condition = other.format(condition);
+    say(
+        err,
+        &[
+            b"file ",
+            name.as_bytes(),
+            b" at ",
+            at.as_bytes(),
+            b" bad ",
+            condition.as_bytes(),
+            b"\n",
+        ],
     );
 }
 
@@ -65,7 +87,7 @@ fn say_fault<E: Sink>(err: &mut E, name: &str, fault: ImageFault)
         ImageFault::Version => say_place(err, name, 4, b" version\n"),
         ImageFault::Short { at } => say_place(err, name, at, b" short\n"),
         ImageFault::Rest { at } => say_place(err, name, at, b" rest\n"),
-        ImageFault::NotBuilt { at } => say_not_built(err, name, at),
+        ImageFault::Bad { at, field } => say_bad(err, name, at, field),
         ImageFault::NoMemory => say(err, &[b"no memory\n"]),
     }
 }
@@ -100,6 +122,7 @@ pub(crate) fn complain<E: Sink>(err: &mut E, stop: &Stop<'_>)
         Stop::Long(name) => say(err, &[b"long ", name.as_bytes(), b"\n"]),
         Stop::Image(name, fault) => say_fault(err, name, fault),
         Stop::Refused { address, rule } => say_refused(err, address, rule),
+        Stop::Form { name, at } => say_not_built(err, name, at),
         Stop::Events(name) => say_not_built(err, name, 0),
         Stop::NoMemory => say(err, &[b"no memory\n"]),
     }

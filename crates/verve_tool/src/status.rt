@@ -22,7 +22,7 @@ pub enum Status {
     KernelFault,
     /// Memory was wanting; nothing was written.
     NoMemory,
-    /// The files have a form that is not built yet.
+    /// The image of a run has a form that does not run yet, or there are events, which are not built.
     NotBuilt,
 }
 

@@ -2,7 +2,7 @@ ghost use Rattle.std.specs.Prelude.{◌≡◌};
 ghost use Rattle.verve_tool.specs.Stops.{status_of};
 
 use crate::status::Status;
-use tal_checker::ImageFault;
+use tal_image::ImageFault;
 
 // Why a command stopped short of its work, with what its line on the error stream tells.
 #[derive(Clone, Copy)]
@@ -15,10 +15,12 @@ pub(crate) enum Stop<'a> {
     Write,
     // The file of this name is too long.
     Long(&'a str),
-    // No image that is built stands for the file of this name, or memory was wanting for it.
+    // No image stands for the file of this name, or memory was wanting for it.
     Image(&'a str, ImageFault),
     // This rule fails at this address.
     Refused { address: u32, rule: u8 },
+    // The image of the file of this name has a form that does not run yet, from this byte of the file on.
+    Form { name: &'a str, at: u32 },
     // The file of this name has events, which are not built.
     Events(&'a str),
     // Memory was wanting.
@@ -34,10 +36,10 @@ impl Stop<'_> {
             Stop::Read(_) => Status::ReadFault,
             Stop::Write => Status::WriteFault,
             Stop::Long(_) => Status::TooLong,
-            Stop::Image(_, ImageFault::NotBuilt { .. }) | Stop::Events(_) => Status::NotBuilt,
             Stop::Image(_, ImageFault::NoMemory) | Stop::NoMemory => Status::NoMemory,
             Stop::Image(..) => Status::Malformed,
             Stop::Refused { .. } => Status::Refused,
+            Stop::Form { .. } | Stop::Events(_) => Status::NotBuilt,
         }
     }
 }

@@ -5,52 +5,70 @@ use outside::{FailingCall, FailingSink, FileRoom, Files, MemoryFiles, MemorySink
 use std::alloc::{AllocError, Global};
 use std::test::Fail;
 
-// The numbers of an image file before its code, with heap 64 and two stacks, whose code has so many bytes.
-fn image_numbers(code_length: u32) -> [u32; 33] {
-    [
+// Seven times junk as the types of parameters, and a number as the result.
+const STARTS: [u32; 16] = [9, 0, 9, 0, 9, 0, 9, 0, 9, 0, 9, 0, 9, 0, 0, 0];
+
+// The parts of an image with heap 64 and two stacks that begin at function 0, in numbers of the file.
+#[derive(Clone, Copy)]
+struct Parts<'a> {
+    // Sixteen numbers each.
+    sigs: &'a [u32],
+    // Two numbers each.
+    functions: &'a [u32],
+    statics: &'a [u32],
+    code: &'a [u8],
+    // Sixteen numbers each, where there are no slots.
+    blocks: &'a [u32],
+}
+
+fn push_numbers(file: &mut Vec<u8>, numbers: &[u32]) -> Result<(), AllocError> {
+    for number in numbers {
+        file.extend_from_slice(&number.to_le_bytes())?;
+    }
+    Ok(())
+}
+
+fn length_of<T>(items: &[T]) -> u32 {
+    u32::try_from(items.len()).unwrap_or(0)
+}
+
+fn file_of(alloc: Global, parts: &Parts<'_>) -> Result<Vec<u8>, AllocError> {
+    let mut file = Vec::new(alloc);
+    let header = [
         0x4956_5256,
         1,
         64,
         2,
-        1,
-        1,
+        length_of(parts.sigs) / 16,
+        length_of(parts.functions) / 2,
         0,
         0,
+        length_of(parts.statics) / 2,
         0,
+        length_of(parts.code),
+        length_of(parts.blocks) / 16,
         0,
-        code_length,
-        0,
-        0,
-        9,
-        0,
-        9,
-        0,
-        9,
-        0,
-        9,
-        0,
-        9,
-        0,
-        9,
-        0,
-        9,
-        0,
-        0,
-        0,
-        code_length,
-        0,
-        0,
-        0,
-    ]
+    ];
+    push_numbers(&mut file, &header)?;
+    push_numbers(&mut file, parts.sigs)?;
+    push_numbers(&mut file, parts.functions)?;
+    push_numbers(&mut file, &[0, 0])?;
+    push_numbers(&mut file, parts.statics)?;
+    file.extend_from_slice(parts.code)?;
+    push_numbers(&mut file, parts.blocks)?;
+    Ok(file)
 }
 
+// The image of one function, whose code begins at byte 132 of the file.
 fn image_of(alloc: Global, code: &[u8]) -> Result<Vec<u8>, AllocError> {
-    let mut file = Vec::new(alloc);
-    for number in image_numbers(u32::try_from(code.len()).unwrap_or(0)) {
-        file.extend_from_slice(&number.to_le_bytes())?;
-    }
-    file.extend_from_slice(code)?;
-    Ok(file)
+    let parts = Parts {
+        sigs: &STARTS,
+        functions: &[length_of(code), 0],
+        statics: &[],
+        code,
+        blocks: &[],
+    };
+    file_of(alloc, &parts)
 }
 
 // MOV EAX, 7; RET.
@@ -98,7 +116,7 @@ fn command(
     if let Some(bytes) = events {
         files.write("e", bytes)?;
     }
-    let mut out = MemorySink::new(alloc, 10000)?;
+    let mut out = MemorySink::new(alloc, 60000)?;
     let mut err = MemorySink::new(alloc, 100)?;
     let mut journal = Journal::new(alloc);
     let mut kept = None;
@@ -164,32 +182,138 @@ fn six_byte_image_halts_with_seven(rt: HostRuntime) -> Result<(), Fail> {
 }
 
 #[test]
-fn code_is_run_or_refused(rt: HostRuntime) -> Result<(), Fail> {
+fn code_is_run(rt: HostRuntime) -> Result<(), Fail> {
     let alloc = rt.alloc();
-    // MOV EAX, 5; MOV ECX, 2; ADD EAX, ECX; RET.
-    let sum = [0xB8, 5, 0, 0, 0, 0xB9, 2, 0, 0, 0, 1, 0xC8, 0xC3];
-    let image = image_of(alloc, &sum)?;
-    let came = command(alloc, &["run", "i", "e", "10"], Some(&image), Some(b""))?;
-    assert_eq!(rt; came.status, Status::Done);
-    assert!(rt; came.out.as_slice().starts_with(b"end halted 7\nturns 4\n"));
-    let cases: [(&[u8], Status, &str); 4] = [
+    let cases: [(&[u8], Status, &str); 5] = [
+        // MOV EAX, 1; ADD EAX, -1; RET.
         (
-            b"\x01\xC8\xC3",
-            Status::Refused,
-            "refused at 00100000 rule 5\n",
+            b"\xB8\x01\0\0\0\x83\xC0\xFF\xC3",
+            Status::Done,
+            "end halted 0\nturns 3\nstack 0 running 00100008\nregs 00000000 00000000 00000000 00000000 00000000 00000000 00000000 CZ--\n",
         ),
-        (b"\xC3", Status::Refused, "refused at 00100000 rule 13\n"),
-        (b"\x90\xC3", Status::NotBuilt, "not built i at 132\n"),
+        // MOV EAX, 5; MOV ECX, 2; ADD EAX, ECX; RET.
         (
-            b"\xB8\0\0\0\0\x8B\0\xC3",
-            Status::NotBuilt,
-            "not built i at 137\n",
+            b"\xB8\x05\0\0\0\xB9\x02\0\0\0\x01\xC8\xC3",
+            Status::Done,
+            "end halted 7\nturns 4\n",
+        ),
+        // PUSH 5; POP EAX; RET.
+        (b"\x6A\x05\x58\xC3", Status::Done, "end halted 5\nturns 3\n"),
+        // MOV EAX, -7; CDQ; MOV ECX, 2; IDIV ECX; RET.
+        (
+            b"\xB8\xF9\xFF\xFF\xFF\x99\xB9\x02\0\0\0\xF7\xF9\xC3",
+            Status::Done,
+            "end halted 4294967293\nturns 5\nstack 0 running 0010000D\nregs FFFFFFFD 00000002 FFFFFFFF 00000000 00000000 00000000 00000000 ----\n",
+        ),
+        // MOV EAX, 1; MOV EDX, 0; MOV ECX, 0; DIV ECX; RET.
+        (
+            b"\xB8\x01\0\0\0\xBA\0\0\0\0\xB9\0\0\0\0\xF7\xF1\xC3",
+            Status::KernelFault,
+            "end fault 0\nturns 4\nstack 0 running 0010000F\n",
         ),
     ];
-    for (code, status, line) in cases {
+    for (code, status, head) in cases {
         let image = image_of(alloc, code)?;
-        let came = command(alloc, &["run", "i", "e", "10"], Some(&image), Some(b""))?;
-        assert_eq!(rt; came.status, status, "{line}");
+        let came = command(alloc, &["run", "i", "e", "100000"], Some(&image), Some(b""))?;
+        assert_eq!(rt; came.status, status, "{head}");
+        assert!(rt; came.out.as_slice().starts_with(head.as_bytes()), "{head}");
+        assert!(rt; came.err.is_empty(), "{head}");
+    }
+    Ok(())
+}
+
+#[test]
+fn a_stack_holds_4096_words(rt: HostRuntime) -> Result<(), Fail> {
+    let alloc = rt.alloc();
+    // The signature of a function that takes and gives a number in EAX, after that at which stacks begin.
+    let mut sigs = [0; 32];
+    sigs[..16].copy_from_slice(&STARTS);
+    sigs[16..].copy_from_slice(&STARTS);
+    sigs[16] = 0;
+    // MOV EAX, 0xFFE; CALL of the second function; RET. TEST EAX, EAX; JE to RET; DEC EAX; CALL of itself; RET.
+    let mut code =
+        *b"\xB8\xFE\x0F\0\0\xE8\x01\0\0\0\xC3\x85\xC0\x74\x06\x48\xE8\xF6\xFF\xFF\xFF\xC3";
+    for (low, status, head, taken) in [
+        (0xFE, Status::Done, "end halted 0\nturns 20476\n", 20476),
+        (
+            0xFF,
+            Status::KernelFault,
+            "end fault 12\nturns 16382\n",
+            16382,
+        ),
+    ] {
+        code[1] = low;
+        let parts = Parts {
+            sigs: &sigs,
+            functions: &[11, 0, 11, 1],
+            statics: &[],
+            code: &code,
+            blocks: &[21, 0, 0, 9, 0, 9, 0, 9, 0, 9, 0, 9, 0, 9, 0, 0],
+        };
+        let image = file_of(alloc, &parts)?;
+        let came = command(alloc, &["run", "i", "e", "100000"], Some(&image), Some(b""))?;
+        assert_eq!(rt; came.status, status, "{head}");
+        assert!(rt; came.out.as_slice().starts_with(head.as_bytes()), "{head}");
+        assert_eq!(rt; came.turns, Some(taken), "{head}");
+    }
+    Ok(())
+}
+
+#[test]
+fn code_is_refused(rt: HostRuntime) -> Result<(), Fail> {
+    let alloc = rt.alloc();
+    let cases: [(&[u8], &str); 5] = [
+        // MOV EAX, 0; MOV EAX, [EAX]; RET: no place is at a number.
+        (b"\xB8\0\0\0\0\x8B\0\xC3", "refused at 00100005 rule 3\n"),
+        // A jump into a MOV.
+        (b"\xEB\x01\xB8\0\0\0\0\xC3", "refused at 00100000 rule 14\n"),
+        // ADD of two registers of junk.
+        (b"\x01\xC8\xC3", "refused at 00100000 rule 5\n"),
+        // RET, and NOP with RET, where EAX is junk.
+        (b"\xC3", "refused at 00100000 rule 13\n"),
+        (b"\x90\xC3", "refused at 00100001 rule 13\n"),
+    ];
+    for (code, line) in cases {
+        let image = image_of(alloc, code)?;
+        for words in [&["run", "i", "e", "10"] as &[&str], &["check", "i"]] {
+            let came = command(alloc, words, Some(&image), Some(b""))?;
+            assert_eq!(rt; came.status, Status::Refused, "{line}");
+            assert!(rt; came.err.as_slice() == line.as_bytes(), "{line}");
+            assert!(rt; came.out.is_empty(), "{line}");
+            assert_eq!(rt; came.turns, None, "{line}");
+        }
+    }
+    Ok(())
+}
+
+#[test]
+fn accepted_images_that_do_not_run_yet(rt: HostRuntime) -> Result<(), Fail> {
+    let alloc = rt.alloc();
+    // MOV EAX of a static; RET.
+    let reads = Parts {
+        sigs: &STARTS,
+        functions: &[6, 0],
+        statics: &[0, 0],
+        code: b"\xA1\0\0\x30\0\xC3",
+        blocks: &[],
+    };
+    let reads = file_of(alloc, &reads)?;
+    // MOV EAX, 1; CALL of the Nucleus, which yields to stack 1; RET.
+    let yields = image_of(alloc, b"\xB8\x01\0\0\0\xE8\x26\x10\xF0\xFF\xC3")?;
+    let seven = image_of(alloc, &SEVEN)?;
+    let cases: [(&[u8], &[u8], &str); 3] = [
+        (&reads, b"1 tick\n", "not built i at 32\n"),
+        (&yields, b"1 tick\n", "not built i at 137\n"),
+        (&seven, b"1 tick\n", "not built e at 0\n"),
+    ];
+    for (image, events, line) in cases {
+        let came = command(alloc, &["check", "i"], Some(image), None)?;
+        assert_eq!(rt; came.status, Status::Done, "{line}");
+        assert!(rt; came.out.as_slice() == b"accepted\n".as_slice(), "{line}");
+        assert!(rt; came.err.is_empty(), "{line}");
+        assert_eq!(rt; came.turns, None, "{line}");
+        let came = command(alloc, &["run", "i", "e", "10"], Some(image), Some(events))?;
+        assert_eq!(rt; came.status, Status::NotBuilt, "{line}");
         assert!(rt; came.err.as_slice() == line.as_bytes(), "{line}");
         assert!(rt; came.out.is_empty(), "{line}");
         assert_eq!(rt; came.turns, None, "{line}");
@@ -206,45 +330,54 @@ fn files_out_of_form_are_told(rt: HostRuntime) -> Result<(), Fail> {
     shorter.pop();
     let mut longer = image.clone()?;
     longer.push(0)?;
-    let mut version = image.clone()?;
-    version[4] = 9;
-    let mut magic = image.clone()?;
-    magic[3] = b'J';
-    let cases: [(&[u8], Status, &str); 5] = [
-        (b"", Status::Malformed, "file i at 0 short\n"),
-        (&shorter, Status::Malformed, "file i at 137 short\n"),
-        (&longer, Status::Malformed, "file i at 138 rest\n"),
-        (&version, Status::Malformed, "file i at 4 version\n"),
-        (&magic, Status::Malformed, "file i at 0 magic\n"),
-    ];
-    for (bytes, status, line) in cases {
-        let came = command(alloc, &["run", "i", "e", "10"], Some(bytes), Some(b""))?;
-        assert_eq!(rt; came.status, status, "{line}");
-        assert!(rt; came.err.as_slice() == line.as_bytes(), "{line}");
-        assert!(rt; came.out.is_empty(), "{line}");
-        assert_eq!(rt; came.turns, None, "{line}");
+    let mut cases = vec![in alloc;
+        (Vec::new(alloc), "file i at 0 short\n"),
+        (shorter, "file i at 137 short\n"),
+        (longer, "file i at 138 rest\n"),
+        (image_of(alloc, b"\xF0\xC3")?, "file i at 132 bad 23\n"),
+    ]?;
+    // One byte is another one.
+    for (place, byte, line) in [
+        (3, b'J', "file i at 0 magic\n"),
+        (4, 9, "file i at 4 version\n"),
+        (8, 65, "file i at 8 bad 1\n"),
+        (12, 1, "file i at 12 bad 2\n"),
+        (60, 10, "file i at 60 bad 12\n"),
+    ] {
+        let mut bytes = image.clone()?;
+        if let Some(there) = bytes.get_mut(place) {
+            *there = byte;
+        }
+        cases.push((bytes, line))?;
+    }
+    for (bytes, line) in &cases {
+        for words in [&["run", "i", "e", "10"] as &[&str], &["check", "i"]] {
+            let came = command(alloc, words, Some(bytes), Some(b""))?;
+            assert_eq!(rt; came.status, Status::Malformed, "{line}");
+            assert!(rt; came.err.as_slice() == line.as_bytes(), "{line}");
+            assert!(rt; came.out.is_empty(), "{line}");
+            assert_eq!(rt; came.turns, None, "{line}");
+        }
     }
     Ok(())
 }
 
 #[test]
-fn files_that_are_not_run(rt: HostRuntime) -> Result<(), Fail> {
+fn files_that_are_not_read(rt: HostRuntime) -> Result<(), Fail> {
     let alloc = rt.alloc();
     let image = image_of(alloc, &SEVEN)?;
     let long = vec![in alloc; 0u8; 4194305]?;
-    let cases: [(Option<&[u8]>, Option<&[u8]>, Status, &str); 4] = [
-        (None, Some(b""), Status::ReadFault, "read i\n"),
-        (Some(&image), None, Status::ReadFault, "read e\n"),
-        (Some(&long), Some(b""), Status::TooLong, "long i\n"),
-        (
-            Some(&image),
-            Some(b"1 tick\n"),
-            Status::NotBuilt,
-            "not built e at 0\n",
-        ),
+    let run: &[&str] = &["run", "i", "e", "10"];
+    let check: &[&str] = &["check", "i"];
+    let cases: [(&[&str], Option<&[u8]>, Option<&[u8]>, Status, &str); 5] = [
+        (run, None, Some(b""), Status::ReadFault, "read i\n"),
+        (run, Some(&image), None, Status::ReadFault, "read e\n"),
+        (run, Some(&long), Some(b""), Status::TooLong, "long i\n"),
+        (check, None, None, Status::ReadFault, "read i\n"),
+        (check, Some(&long), None, Status::TooLong, "long i\n"),
     ];
-    for (image, events, status, line) in cases {
-        let came = command(alloc, &["run", "i", "e", "10"], image, events)?;
+    for (words, image, events, status, line) in cases {
+        let came = command(alloc, words, image, events)?;
         assert_eq!(rt; came.status, status, "{line}");
         assert!(rt; came.err.as_slice() == line.as_bytes(), "{line}");
         assert!(rt; came.out.is_empty(), "{line}");
@@ -257,7 +390,11 @@ fn files_that_are_not_run(rt: HostRuntime) -> Result<(), Fail> {
 fn words_that_are_no_command(rt: HostRuntime) -> Result<(), Fail> {
     let alloc = rt.alloc();
     let image = image_of(alloc, &SEVEN)?;
-    let cases: [&[&str]; 11] = [
+    let cases: [&[&str]; 15] = [
+        &["check"],
+        &["check", ""],
+        &["check", "i", "e"],
+        &["Check", "i"],
         &["run", "i", "e", "0"],
         &["run", "i", "e", "07"],
         &["run", "i", "e", "+7"],
@@ -281,7 +418,7 @@ fn words_that_are_no_command(rt: HostRuntime) -> Result<(), Fail> {
 }
 
 #[test]
-fn the_put_of_the_report_fails(rt: HostRuntime) -> Result<(), Fail> {
+fn the_put_fails(rt: HostRuntime) -> Result<(), Fail> {
     let alloc = rt.alloc();
     let image = image_of(alloc, &SEVEN)?;
     let rooms = [
@@ -294,28 +431,35 @@ fn the_put_of_the_report_fails(rt: HostRuntime) -> Result<(), Fail> {
     let mut files = MemoryFiles::new(alloc, &rooms)?;
     files.write("i", &image)?;
     files.write("e", b"")?;
-    let fails = [FailingCall {
-        call: 1,
-        through: 10,
-    }];
-    let mut out = FailingSink::new(alloc, 10000, &fails)?;
-    let mut err = MemorySink::new(alloc, 100)?;
-    let mut journal = Journal::new(alloc);
-    let mut kept = None;
-    let words = words_of(alloc, &["run", "i", "e", "10"])?;
-    let status = verve(
-        alloc,
-        &words,
-        &mut files,
-        &mut out,
-        &mut err,
-        &mut journal,
-        &mut kept,
-    );
-    assert_eq!(rt; status, Status::WriteFault);
-    assert!(rt; out.bytes() == b"end halted".as_slice());
-    assert!(rt; err.bytes() == b"write\n".as_slice());
-    assert_eq!(rt; kept.as_ref().map(|machine| machine.turns_taken()), Some(2));
+    let run: &[&str] = &["run", "i", "e", "10"];
+    for (words, through, told, taken) in [
+        (run, 10, "end halted", Some(2)),
+        (&["check", "i"], 3, "acc", None),
+    ] {
+        let fails = [FailingCall { call: 1, through }];
+        let mut out = FailingSink::new(alloc, 10000, &fails)?;
+        let mut err = MemorySink::new(alloc, 100)?;
+        let mut journal = Journal::new(alloc);
+        let mut kept = None;
+        let words = words_of(alloc, words)?;
+        let status = verve(
+            alloc,
+            &words,
+            &mut files,
+            &mut out,
+            &mut err,
+            &mut journal,
+            &mut kept,
+        );
+        assert_eq!(rt; status, Status::WriteFault, "{told}");
+        assert!(rt; out.bytes() == told.as_bytes(), "{told}");
+        assert!(rt; err.bytes() == b"write\n".as_slice(), "{told}");
+        assert_eq!(rt;
+            kept.as_ref().map(|machine| machine.turns_taken()),
+            taken,
+            "{told}"
+        );
+    }
     Ok(())
 }
 

@@ -1,7 +1,7 @@
 // The words of a command.
-ghost use Rattle.std.specs.Prelude.{◌≡◌, ◌≤◌, ℕ, decimal, MatchOption};
-ghost use Rattle.verve_tool.specs.Words.{WordsOf, NoCommand};
-ghost use Rattle.verve_tool.specs.Running.{run_of};
+ghost use Rattle.std.specs.Prelude.{◌≡◌, ◌≤◌, ℕ, List, decimal, MatchOption};
+ghost use Rattle.verve_tool.specs.Words.{RunWords, SpellsRun, SpellsCheck, WordsOf, NoCommand};
+ghost use Rattle.verve_tool.specs.Running.{run_of, request_of};
 
 use itoa::Buffer;
 
@@ -13,6 +13,13 @@ pub(crate) struct RunCommand<'a> {
     pub(crate) image: &'a str,
     pub(crate) events: &'a str,
     pub(crate) turns: u32,
+}
+
+// What the words ask for: a run, or whether the image of a file is accepted.
+#[derive(Clone, Copy)]
+pub(crate) enum Command<'a> {
+    Run(RunCommand<'a>),
+    Check(&'a str),
 }
 
 // The turns are a decimal number as it is printed, so without leading zeros or a sign.
@@ -32,8 +39,8 @@ fn read_turns(word: &str) -> Option<u32>
 }
 
 // The run that the words are, if they are one.
-pub(crate) fn read_words(words: &[String]) -> Option<RunCommand<'_>>
-    ensures { MatchOption result (NoCommand words.now) (λ run. WordsOf words.now (run_of run)) }
+fn read_run(words: &[String]) -> Option<RunCommand<'_>>
+    ensures { MatchOption result ((run : RunWords) → SpellsRun words.now run → ⊥) (λ run. SpellsRun words.now (run_of run)) }
 {
     let [command, image, events, turns] = words else {
         return None;
@@ -48,5 +55,31 @@ pub(crate) fn read_words(words: &[String]) -> Option<RunCommand<'_>>
             turns,
         }),
         None => None,
+    }
+}
+
+// The name of the image whose check the words are, if they are one.
+fn read_check(words: &[String]) -> Option<&str>
+    ensures { MatchOption result ((image : List ℕ) → SpellsCheck words.now image → ⊥) (λ image. SpellsCheck words.now image.now) }
+{
+    let [command, image] = words else {
+        return None;
+    };
+    if command.as_str() != "check" || image.is_empty() {
+        return None;
+    }
+    Some(image.as_str())
+}
+
+// What the words ask for, if they are a command.
+pub(crate) fn read_words(words: &[String]) -> Option<Command<'_>>
+    ensures { MatchOption result (NoCommand words.now) (λ command. WordsOf words.now (request_of command)) }
+{
+    match read_run(words) {
+        Some(run) => Some(Command::Run(run)),
+        None => match read_check(words) {
+            Some(image) => Some(Command::Check(image)),
+            None => None,
+        },
     }
 }

@@ -1,4 +1,4 @@
-use Rattle.verve_tool.proofs.Exact.{usage_status, missing_status, refuses_status, complete_status}
+use Rattle.verve_tool.proofs.Exact.{usage_status, missing_status, refuses_status, complete_status, complete_check_status, accepted_status}
 use Rattle.std.proofs.Common.{[]}
 use Rattle.verve_tool.specs.Stops.{line_of}
 use Rattle.verve_tool.proofs.StopStatuses.{unread-status, unwritten-status, gained-nothing}
@@ -8,25 +8,37 @@ pub returns-in-Ok-clause-usage : goal.returns-in-Ok-clause-usage
 returns-in-Ok-clause-usage g c = usage_status _ _ _ c.in-Ok.ensures.outcome
 
 pub returns-in-Ok-clause-missing : goal.returns-in-Ok-clause-missing
-returns-in-Ok-clause-missing g c files run = missing_status _ _ _ files run c.in-Ok.ensures.outcome
+returns-in-Ok-clause-missing g c files request = missing_status _ _ _ files request c.in-Ok.ensures.outcome
 
 pub returns-in-Ok-clause-refuses : goal.returns-in-Ok-clause-refuses
-returns-in-Ok-clause-refuses g c files run t = refuses_status c.one_decision.ensures _ _ _ files run t c.in-Ok.ensures.outcome
+returns-in-Ok-clause-refuses g c files request t = refuses_status c.one_decision.ensures _ _ _ files request t c.in-Ok.ensures.outcome
 
 pub returns-in-Ok-clause-complete : goal.returns-in-Ok-clause-complete
 returns-in-Ok-clause-complete g c files run image = complete_status c.one_decision.ensures _ _ _ files run image c.in-Ok.ensures.outcome
+
+pub returns-in-Ok-clause-complete_check : goal.returns-in-Ok-clause-complete_check
+returns-in-Ok-clause-complete_check g c files name image = complete_check_status c.one_decision.ensures _ _ _ files name image c.in-Ok.ensures.outcome
+
+pub returns-in-Ok-clause-accepted : goal.returns-in-Ok-clause-accepted
+returns-in-Ok-clause-accepted g c files name = accepted_status _ _ _ files name c.in-Ok.ensures.outcome
 
 pub returns-in-Err-clause-usage : goal.returns-in-Err-clause-usage
 returns-in-Err-clause-usage g c = rw c.status.ensures (usage_status _ _ _ c.in-Err.ensures.outcome)
 
 pub returns-in-Err-clause-missing : goal.returns-in-Err-clause-missing
-returns-in-Err-clause-missing g c files run = rw c.status.ensures (missing_status _ _ _ files run c.in-Err.ensures.outcome)
+returns-in-Err-clause-missing g c files request = rw c.status.ensures (missing_status _ _ _ files request c.in-Err.ensures.outcome)
 
 pub returns-in-Err-clause-refuses : goal.returns-in-Err-clause-refuses
-returns-in-Err-clause-refuses g c files run t = rw c.status.ensures (refuses_status c.one_decision.ensures _ _ _ files run t c.in-Err.ensures.outcome)
+returns-in-Err-clause-refuses g c files request t = rw c.status.ensures (refuses_status c.one_decision.ensures _ _ _ files request t c.in-Err.ensures.outcome)
 
 pub returns-in-Err-clause-complete : goal.returns-in-Err-clause-complete
 returns-in-Err-clause-complete g c files run image = rw c.status.ensures (complete_status c.one_decision.ensures _ _ _ files run image c.in-Err.ensures.outcome)
+
+pub returns-in-Err-clause-complete_check : goal.returns-in-Err-clause-complete_check
+returns-in-Err-clause-complete_check g c files name image = rw c.status.ensures (complete_check_status c.one_decision.ensures _ _ _ files name image c.in-Err.ensures.outcome)
+
+pub returns-in-Err-clause-accepted : goal.returns-in-Err-clause-accepted
+returns-in-Err-clause-accepted g c files name = rw c.status.ensures (accepted_status _ _ _ files name c.in-Err.ensures.outcome)
 
 pub returns-in-Ok-clause-outcome : goal.returns-in-Ok-clause-outcome
 returns-in-Ok-clause-outcome g c = ([], c.in-Ok.ensures.outcome, λ q. gained-nothing _)

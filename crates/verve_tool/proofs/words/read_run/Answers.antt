@@ -1,7 +1,7 @@
 use Rattle.std.proofs.Common.{rules, ◌≡◌, sym, ◌∙◌, arith, codes, decimal, length, refl}
 use Rattle.std.specs.Prelude.{string_bytes}
 use Rattle.verve_tool.proofs.WordLemmas.{four_words, told_same}
-use Rattle.verve_tool.proofs.words.read_words.Goals as goal
+use Rattle.verve_tool.proofs.words.read_run.Goals as goal
 
 pub returns-in-Some : goal.returns-in-Some
 returns-in-Some c =
