@@ -7,12 +7,10 @@ ghost use Rattle.tal_checker.specs.Instructions.{instructions};
 ghost use Rattle.kernel_machine.specs.Built.{operands_of, is_memory, is_entry, calls_entry, is_unbuilt, is_plain, types_outside, sigs_outside, code_outside, blocks_outside, code_byte, IsBuilt, FirstOutside};
 ghost use Rattle.kernel_machine.specs.Outside.{first_of, counts_outside, HasNoData};
 
+use crate::machine::CODE_START;
 use ia32_code::{Decoded, Inst, Operand, decode};
 use tal_image::{BlockPart, Image};
 use tal_types::{ImageView, Sig, Ty};
-
-/// The address of the first code byte.
-const CODE_START: u32 = 0x10_0000;
 
 /// Whether an operand is in memory.
 #[tactic(auto, unfolding(crate::specs::Built::is_memory))]

@@ -29,7 +29,7 @@ use tal_checker::laws::accepted_runs;
 use tal_image::Image;
 
 /// The address of the first code byte.
-const CODE_START: u32 = 0x100000;
+pub(crate) const CODE_START: u32 = 0x10_0000;
 
 /// ESP of stack 0 with its end word alone.
 const FIRST_ESP: u32 = 0x403FFC;
