@@ -5,7 +5,7 @@ use Rattle.ia32_code.specs.declared.decoding.Decoded.{Decoded}
 use Rattle.ia32_code.specs.declared.decoding.Decoded.TheVariants.{One, Short, Unknown}
 use Rattle.ia32_code.specs.Front.{front_of, answered}
 use Rattle.tal_flow.specs.Rules.{next_of}
-use Rattle.tal_image.specs.Conditions.{code_start}
+use Rattle.object_layout.specs.Areas.{code_start}
 use Rattle.tal_checker.specs.Instructions.{placed_from, instructions}
 use Rattle.kernel_machine.specs.Built.{is_unbuilt, code_outside}
 use Rattle.kernel_machine.specs.Outside.{first_of}

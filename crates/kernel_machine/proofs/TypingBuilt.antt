@@ -16,7 +16,7 @@ use Rattle.tal_flow.specs.Strongest.{Placed, placed_at}
 use Rattle.tal_image.specs.declared.parts.MarkPart.{MarkPart}
 use Rattle.tal_image.specs.Image.{ImageParts}
 use Rattle.tal_image.specs.Shown.{shown, mark_in}
-use Rattle.tal_image.specs.Conditions.{code_start}
+use Rattle.object_layout.specs.Areas.{code_start}
 use Rattle.tal_checker.specs.Instructions.{instructions}
 use Rattle.tal_checker.specs.Running.{instruction_in}
 use Rattle.kernel_machine.specs.Built.{operands_of, is_memory, is_entry, calls_entry, is_unbuilt, count_outside, code_outside, sigs_outside, blocks_outside, code_byte, outside, IsBuilt}

@@ -11,7 +11,7 @@ use Rattle.tal_flow.specs.Edges.{falling}
 use Rattle.tal_flow.specs.Rules.{operand_rule, next_of}
 use Rattle.tal_flow.specs.Strongest.{Placed}
 use Rattle.tal_image.specs.Image.{ImageParts}
-use Rattle.tal_image.specs.Conditions.{code_start}
+use Rattle.object_layout.specs.Areas.{code_start}
 use Rattle.tal_image.specs.Shown.{shown}
 use Rattle.tal_checker.specs.Running.{RunsOn, Arrives, instruction_in}
 use Rattle.device_model.specs.declared.events.Event.{Event}

@@ -22,7 +22,7 @@ use Rattle.ia32_step.specs.Effects.{done, target as goes_far, top_of, below_top,
 use Rattle.stack_states.specs.declared.flag_bits.FlagBits.{FlagBits}
 use Rattle.tal_types.specs.declared.signatures.Sig.{Sig}
 use Rattle.tal_types.specs.Contexts.{same}
-use Rattle.object_layout.specs.Classes.{word_index}
+use Rattle.object_layout.specs.Areas.{word_index}
 use Rattle.tal_flow.specs.Forms.{target}
 use Rattle.tal_flow.specs.Rules.{next_of}
 use Rattle.tal_flow.specs.Afterwards.{slots_in}

@@ -10,7 +10,7 @@ use Rattle.stack_states.specs.declared.journal_entry.Entry.{Entry}
 use Rattle.stack_states.specs.declared.stack_state.StackState.TheVariants.{Running}
 use Rattle.tal_flow.specs.Strongest.{Placed}
 use Rattle.tal_image.specs.Image.{ImageParts}
-use Rattle.tal_image.specs.Conditions.{code_start}
+use Rattle.object_layout.specs.Areas.{code_start}
 use Rattle.tal_checker.specs.WellTyped.{WellTyped}
 use Rattle.tal_checker.specs.Running.{AcceptedRuns, IsSpelledAt}
 use Rattle.kernel_machine.specs.declared.ending.Ending.{Ending}

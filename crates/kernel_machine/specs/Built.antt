@@ -15,7 +15,7 @@ use Rattle.tal_flow.specs.Rules.{next_of}
 use Rattle.tal_flow.specs.Strongest.{Placed}
 use Rattle.tal_image.specs.declared.parts.BlockPart.{BlockPart}
 use Rattle.tal_image.specs.Image.{ImageParts, class_bytes, array_bytes}
-use Rattle.tal_image.specs.Conditions.{code_start}
+use Rattle.object_layout.specs.Areas.{code_start}
 use Rattle.tal_checker.specs.Instructions.{instructions}
 
 -- ---- instructions

@@ -7,7 +7,7 @@ use Rattle.tal_types.specs.declared.signatures.Sig.{Sig}
 use Rattle.tal_types.specs.Contexts.{every, register_type}
 use Rattle.tal_flow.specs.Rules.{next_of}
 use Rattle.tal_image.specs.Image.{ImageParts}
-use Rattle.tal_image.specs.Conditions.{code_start}
+use Rattle.object_layout.specs.Areas.{code_start}
 use Rattle.tal_image.specs.Shown.{shown}
 use Rattle.device_model.specs.declared.events.Event.{Event}
 use Rattle.stack_states.specs.declared.journal_entry.Entry.{Entry}

@@ -2,7 +2,7 @@
 ghost use Rattle.std.specs.Prelude.{◌≡◌, ◌≤◌, ◌<◌, ◌+◌, ◌*◌, [], ◌∷◌, ◌++◌, None, IfSome, length};
 ghost use Rattle.std.specs.List.{All, list_any};
 ghost use Rattle.tal_flow.specs.Forms.{target};
-ghost use Rattle.tal_image.specs.Conditions.{code_start};
+ghost use Rattle.object_layout.specs.Areas.{code_start};
 ghost use Rattle.tal_checker.specs.Instructions.{instructions};
 ghost use Rattle.kernel_machine.specs.Built.{operands_of, is_memory, is_entry, calls_entry, is_unbuilt, is_plain, types_outside, sigs_outside, code_outside, blocks_outside, code_byte, IsBuilt, FirstOutside};
 ghost use Rattle.kernel_machine.specs.Outside.{first_of, counts_outside, HasNoData};

@@ -1,7 +1,7 @@
 ghost use Rattle.std.specs.Prelude.{◌≡◌, ◌≢◌, ◌≤◌, ◌<◌, ◌+◌, [], Some, None, IsSome, IfOk, is_some, length};
 ghost use Rattle.ia32_code.specs.Canonical.{Canonical};
 ghost use Rattle.device_model.specs.EventFile.{InOrder};
-ghost use Rattle.tal_image.specs.Conditions.{code_start};
+ghost use Rattle.object_layout.specs.Areas.{code_start};
 ghost use Rattle.kernel_machine.specs.Built.{IsBuilt};
 ghost use Rattle.kernel_machine.specs.Machine.{MachineView, Follows, turn_of, end_of};
 ghost use Rattle.kernel_machine.specs.States.{entry_place};

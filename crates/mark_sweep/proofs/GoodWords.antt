@@ -4,7 +4,8 @@ use Rattle.std.proofs.lemmas.Bool.Decides.{nat_tests}
 use Rattle.heap_words.specs.Headers.{used_of, size_at, used_at}
 use Rattle.heap_words.specs.Blocks.{Begins, IsFree, IsUsed, IsObjectWord, SameBlocks}
 use Rattle.heap_words.proofs.Places.{begins-row}
-use Rattle.object_layout.specs.Classes.{ShapesView, table_address, descriptor_address}
+use Rattle.object_layout.specs.Areas.{table_address, descriptor_address}
+use Rattle.object_layout.specs.Classes.{ShapesView}
 use Rattle.object_layout.specs.declared.rows.Shape.TheVariants.{Class, Kind}
 use Rattle.free_index.specs.Lists.{In}
 use Rattle.mark_sweep.specs.Objects.{address, shape_word, IsObject, IsReference}

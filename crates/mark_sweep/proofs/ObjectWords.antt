@@ -7,7 +7,8 @@ use Rattle.std.proofs.lemmas.Option.{slice_get_within}
 use Rattle.object_layout.specs.declared.rows.FieldTy.{FieldTy}
 use Rattle.object_layout.specs.declared.rows.Shape.{Shape}
 use Rattle.object_layout.specs.declared.rows.Shape.TheVariants.{Class, Kind}
-use Rattle.object_layout.specs.Classes.{ShapesView, Fields, field_at, word_index, Need, rounded_up, Element}
+use Rattle.object_layout.specs.Areas.{word_index}
+use Rattle.object_layout.specs.Classes.{ShapesView, Fields, field_at, Need, rounded_up, Element}
 use Rattle.mark_sweep.specs.Objects.{IsObject, IsReference, is_reference, refers, shape_named}
 
 -- the word of those from byte 4 on that stands at a byte

@@ -1,7 +1,8 @@
 use Rattle.std.specs.Prelude.{◌≡◌, ℕ, ◌+◌, ◌-◌, ◌*◌, ◌/◌, ◌<◌, ◌≤◌, ◌&&◌, Bool, true, false, List, slice_index, nat_lt, Option, Some, None, if◌then◌else◌}
 use Rattle.heap_words.specs.Headers.{size_at}
 use Rattle.heap_words.specs.Blocks.{IsUsed}
-use Rattle.object_layout.specs.Classes.{ShapesView, IsShape, Need, field_at, Element, table_address, descriptor_address}
+use Rattle.object_layout.specs.Areas.{table_address, descriptor_address}
+use Rattle.object_layout.specs.Classes.{ShapesView, IsShape, Need, field_at, Element}
 use Rattle.object_layout.specs.declared.rows.FieldTy.{FieldTy}
 use Rattle.object_layout.specs.declared.rows.FieldTy.TheVariants.{Num, Ref, ArrRef, Fun}
 use Rattle.object_layout.specs.declared.rows.Shape.{Shape}

@@ -8,7 +8,8 @@ use Rattle.std.proofs.lemmas.List.Folds.{list_any_at}
 use Rattle.std.proofs.lemmas.Grind.{flat_map-append}
 use Rattle.std.proofs.lemmas.Option.{option_and_then_some, same_Some}
 use Rattle.object_layout.specs.declared.rows.FieldTy.{FieldTy}
-use Rattle.object_layout.specs.Classes.{ShapesView, parent, own_fields, lineage_within, lineage, Depth, Below, Fields, field_at, signatures, slot_at, word_index, table_word, table_address}
+use Rattle.object_layout.specs.Areas.{table_address, word_index}
+use Rattle.object_layout.specs.Classes.{ShapesView, parent, own_fields, lineage_within, lineage, Depth, Below, Fields, field_at, signatures, slot_at, table_word}
 use Rattle.object_layout.specs.Laws.{ClassLaws}
 use Rattle.object_layout.proofs.Tables.{table_word-at, display-word}
 use Rattle.object_layout.specs.Faults.{first_fault, is_front, keeps_methods}

@@ -8,7 +8,8 @@ use Rattle.std.proofs.lemmas.List.{get_or-take, length-take-le, append-nil, get_
 use Rattle.object_layout.specs.declared.rows.FunRow.{FunRow}
 use Rattle.std.proofs.lemmas.Option.{slice_get_past, slice_get_within, slice_get-map, unwrap_or-slice_get, get_or_from_slice_get}
 use Rattle.object_layout.specs.declared.laying.LaidClass.{LaidClass}
-use Rattle.object_layout.specs.Classes.{ShapesView, parent, own_fields, Methods, signatures, signatures_of, lineage_within, lineage, Depth, Below, Fields, field_at, slot_at, word_index, fun_row, rounded_up, Need, Element}
+use Rattle.object_layout.specs.Areas.{word_index}
+use Rattle.object_layout.specs.Classes.{ShapesView, parent, own_fields, Methods, signatures, signatures_of, lineage_within, lineage, Depth, Below, Fields, field_at, slot_at, fun_row, rounded_up, Need, Element}
 use Rattle.object_layout.specs.declared.rows.KindRow.{KindRow}
 use Rattle.object_layout.specs.declared.rows.Shape.TheVariants.{Class, Kind}
 use Rattle.object_layout.specs.Faults.{first_fault, has_indexes}

@@ -4,7 +4,8 @@ use Rattle.std.proofs.lemmas.Bool.Decides.{nat_tests}
 use Rattle.std.proofs.lemmas.List.{get_or-map, get_or_past, length-map}
 use Rattle.std.proofs.lemmas.Option.{slice_get_within}
 use Rattle.object_layout.specs.declared.laying.LaidClass.{LaidClass}
-use Rattle.object_layout.specs.Classes.{ShapesView, lineage, Methods, fun_row, table, table_word, table_address}
+use Rattle.object_layout.specs.Areas.{table_address}
+use Rattle.object_layout.specs.Classes.{ShapesView, lineage, Methods, fun_row, table, table_word}
 use Rattle.object_layout.specs.Faults.{first_fault}
 use Rattle.object_layout.specs.Layout.{IsLaid}
 use Rattle.object_layout.proofs.Sound.{classes-sound}

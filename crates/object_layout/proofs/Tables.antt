@@ -3,7 +3,8 @@ use Rattle.std.proofs.lemmas.Bool.{cases_lt}
 use Rattle.std.proofs.lemmas.Bool.Decides.{nat_tests}
 use Rattle.std.proofs.lemmas.List.{get_or_append_left, get_or-append_right, get_or-append-add, get_or_past, get_or-replicate, length-map, length-replicate}
 use Rattle.std.proofs.lemmas.Option.{slice_get-get_or, slice_get_past}
-use Rattle.object_layout.specs.Classes.{ShapesView, lineage, Methods, fun_row, padded, table, table_word, table_address}
+use Rattle.object_layout.specs.Areas.{table_address}
+use Rattle.object_layout.specs.Classes.{ShapesView, lineage, Methods, fun_row, padded, table, table_word}
 
 -- The words of a class's table.
 

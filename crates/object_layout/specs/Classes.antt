@@ -1,4 +1,5 @@
 use Rattle.std.specs.Prelude.{ℕ, zero, suc, ◌<◌, ◌+◌, ◌-◌, ◌*◌, ◌/◌, ◌%◌, ◌==◌, nat_eq, Bool, true, false, ◌&&◌, nat_lt, nat_le, List, [], ◌∷◌, ◌++◌, length, map, replicate, Option, None, Some, slice_get, slice_index_or, if◌then◌else◌}
+use Rattle.object_layout.specs.Areas.{word_index, table_address}
 use Rattle.std.specs.Option.{option_map, option_and_then, option_map_or}
 use Rattle.std.specs.List.{flat_map, list_any}
 use Rattle.object_layout.specs.declared.rows.FieldTy.{FieldTy}
@@ -67,10 +68,6 @@ Fields s c = flat_map (own_fields s) (lineage s c)
 unfoldable pub Element : ShapesView → ℕ → Option FieldTy
 Element s k = option_map (λ (row : KindRow). row.element) (slice_get s.kinds k)
 
--- which word of those from byte `first` on stands at a byte
-unfoldable pub word_index : ℕ → ℕ → Option ℕ
-word_index first byte = if nat_le first byte && ((byte - first) % 4 == 0) then Some ((byte - first) / 4) else None
-
 -- the type of the field at a byte of an object of class c: field i stands at byte 4 + 4i
 unfoldable pub field_at : ShapesView → ℕ → ℕ → Option FieldTy
 field_at s c byte = option_and_then (slice_get (Fields s c)) (word_index 4 byte)
@@ -93,14 +90,6 @@ rounded_up n = (n + 3) / 4 * 4
 unfoldable pub Need : ShapesView → Shape → ℕ → ℕ
 Need s (Class c) elements = rounded_up (3 + length (Fields s c))
 Need s (Kind k) elements = rounded_up (4 + elements)
-
--- where the table of class c stands
-unfoldable pub table_address : ℕ → ℕ
-table_address c = 0x200000 + 256 * c
-
--- where the descriptor of kind k stands
-unfoldable pub descriptor_address : ℕ → ℕ
-descriptor_address k = 0x280000 + 16 * k
 
 -- values of the type refer to objects or arrays
 unfoldable pub is_reference : FieldTy → Bool

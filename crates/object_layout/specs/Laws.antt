@@ -1,6 +1,7 @@
 use Rattle.std.specs.Prelude.{◌≡◌, ℕ, ◌+◌, ◌<◌, ◌≤◌, ◌⊎◌, true, length, Some}
 use Rattle.object_layout.specs.declared.rows.FieldTy.{FieldTy}
-use Rattle.object_layout.specs.Classes.{ShapesView, Depth, Fields, Methods, Below, field_at, slot_at, table_word, table_address}
+use Rattle.object_layout.specs.Areas.{table_address}
+use Rattle.object_layout.specs.Classes.{ShapesView, Depth, Fields, Methods, Below, field_at, slot_at, table_word}
 
 -- What holds of classes: they are few trees, and a class keeps what stands above it where it stands.
 pub record ClassLaws (s : ShapesView) : Type 0 where

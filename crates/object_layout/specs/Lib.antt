@@ -1,3 +1,4 @@
+pub mod Areas
 pub mod Classes
 pub mod Faults
 pub mod Laws

@@ -8,6 +8,7 @@
 // `specs/Faults.antt`, and what holds of all rows without a fault in the module `laws`.
 #![tactic(auto)]
 
+pub mod areas;
 mod faults;
 pub mod laws;
 mod laying;

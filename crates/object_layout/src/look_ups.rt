@@ -1,7 +1,9 @@
 ghost use Rattle.std.specs.Option.{option_map};
 ghost use Rattle.std.specs.Prelude.{slice_get, ◌≡◌, ◌⊎◌, ◌<◌, ◌≤◌, ◌^◌, ◌↔◌, length, nat_le, slice_index, map, None, Some, IfOk, IfErr, IsSome, MatchOption, if◌then◌else◌};
-ghost use Rattle.object_layout.specs.Classes.{word_index, rounded_up, table_address};
+ghost use Rattle.object_layout.specs.Areas.{word_index, table_address};
+ghost use Rattle.object_layout.specs.Classes.{rounded_up};
 
+use crate::areas::{table_address, word_index};
 use crate::faults::ShapeFault;
 use crate::laying::{LaidClass, Rows};
 use crate::rows::{ClassRow, FieldTy, FunRow, KindRow, Shape};
@@ -88,11 +90,11 @@ impl Shapes {
     }
 
     /// The function in a method slot of class `c`, if there is such a slot.
-    fn method(&self, c: u32, slot: usize) -> Option<FunRow>
+    fn method(&self, c: u32, slot: u32) -> Option<FunRow>
         ensures { result ≡ option_map (fun_row self.now) (slice_get (Methods self.now c) slot) }
     {
         let class = self.class(c)?;
-        let function = class.row.methods.items().get(slot).copied()?;
+        let function = class.row.methods.items().get(slot as usize).copied()?;
         Some(self.funs[function as usize])
     }
 
@@ -100,7 +102,7 @@ impl Shapes {
     fn method_address(&self, c: u32, slot: u32) -> u32
         ensures { result ≡ slice_index (map (λ f. (fun_row self.now f).address) (Methods self.now c)) slot }
     {
-        match self.method(c, slot as usize) {
+        match self.method(c, slot) {
             Some(row) => row.address,
             None => 0,
         }
@@ -125,7 +127,7 @@ impl Shapes {
     {
         let class = self.class(c)?;
         let field = word_index(4, byte)?;
-        class.fields.items().get(field).copied()
+        class.fields.items().get(field as usize).copied()
     }
 
     /// The signature of the method at a byte of the table of class `c`; none where no method of such a
@@ -178,17 +180,6 @@ impl Shapes {
     }
 }
 
-/// Which word of those from byte `first` on stands at a byte.
-#[tactic(auto, unfolding(crate::specs::Classes::word_index))]
-fn word_index(first: u32, byte: u32) -> Option<usize>
-    ensures { result ≡ word_index first byte }
-{
-    if byte < first || (byte - first) % 4 != 0 {
-        return None;
-    }
-    Some(((byte - first) / 4) as usize)
-}
-
 /// The least multiple of 4 that is not below `words`.
 #[tactic(auto, unfolding(crate::specs::Classes::rounded_up))]
 fn rounded_up(words: u64) -> u64
@@ -199,7 +190,6 @@ fn rounded_up(words: u64) -> u64
 }
 
 /// The word of a class table for the ancestor at a depth: its table, or 0 below the class itself.
-#[tactic(auto, unfolding(crate::specs::Classes::table_address))]
 fn display_word(lineage: &[u32; 8], depth: u32, level: u32) -> u32
     requires depth { depth ≤ 7 }
     requires level { level < 8 }
@@ -207,7 +197,7 @@ fn display_word(lineage: &[u32; 8], depth: u32, level: u32) -> u32
     ensures { result ≡ (if nat_le level depth then table_address (slice_index lineage.now level) else 0) }
 {
     if level <= depth {
-        0x200000 + 256 * lineage[level as usize]
+        table_address(lineage[level as usize])
     } else {
         0
     }

@@ -14,7 +14,8 @@ use Rattle.tal_flow.specs.Edges.{branching, falls_to, branches_to}
 use Rattle.tal_flow.specs.Forms.{form_of}
 use Rattle.tal_flow.specs.Rules.{in_function, edge_fits, is_dead, rule_of, next_of, Falls, Branches, Target}
 use Rattle.tal_flow.specs.Strongest.{Placed, rule_at, falls_from, known_at, carried, start, At, placed_at, Chained}
-use Rattle.tal_image.specs.Conditions.{code_start, starts_stack}
+use Rattle.object_layout.specs.Areas.{code_start}
+use Rattle.tal_image.specs.Conditions.{starts_stack}
 use Rattle.tal_image.specs.Image.{ImageParts}
 use Rattle.tal_image.specs.Shown.{shown, spans, begun_by, block_in, function_in}
 use Rattle.tal_checker.specs.Instructions.{instructions}

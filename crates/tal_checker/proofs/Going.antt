@@ -12,7 +12,7 @@ use Rattle.tal_flow.specs.declared.edges.Edges.{Edges}
 use Rattle.tal_flow.specs.Flows.{Flows}
 use Rattle.tal_flow.specs.Rules.{rule_of, Falls}
 use Rattle.tal_flow.specs.Strongest.{Placed, rule_at, falls_from, start, contexts, NoneFails}
-use Rattle.tal_image.specs.Conditions.{code_start}
+use Rattle.object_layout.specs.Areas.{code_start}
 use Rattle.frame_tables.specs.FrameRows.{RowAt}
 use Rattle.tal_checker.specs.Instructions.{placed_from, instructions}
 use Rattle.tal_checker.specs.Frames.{row_in, rows_of}

@@ -6,7 +6,7 @@ use Rattle.object_layout.specs.Laws.{ClassLaws}
 use Rattle.tal_types.specs.Contexts.{ContextView, Dead, plain}
 use Rattle.tal_types.specs.Shown.{ShownImage}
 use Rattle.tal_flow.specs.Strongest.{Placed, rule_at, contexts, At, NoneFails, Joined, placed_at, HasOneHead, BlocksHaveOneHead}
-use Rattle.tal_image.specs.Conditions.{code_start}
+use Rattle.object_layout.specs.Areas.{code_start}
 use Rattle.tal_image.specs.declared.parts.BlockPart.{BlockPart}
 use Rattle.tal_image.specs.Image.{ImageParts}
 use Rattle.tal_image.specs.Shown.{shown, block_in}

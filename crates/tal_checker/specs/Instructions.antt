@@ -3,7 +3,7 @@ use Rattle.std.specs.Prelude.{ℕ, zero, suc, ◌+◌, ◌-◌, List, [], ◌∷
 use Rattle.ia32_code.specs.declared.instruction.Inst.{Inst}
 use Rattle.ia32_code.specs.Front.{front_of}
 use Rattle.tal_flow.specs.Strongest.{Placed}
-use Rattle.tal_image.specs.Conditions.{code_start}
+use Rattle.object_layout.specs.Areas.{code_start}
 
 -- the instruction that begins at an address, if one does, and those after it
 abbrev pub placed_then : ℕ → (ℕ → List Placed) → Option (Inst × ℕ) → List Placed

@@ -8,7 +8,8 @@ use Rattle.tal_types.specs.Contexts.{LiveContext, ContextView, Live, ContextBelo
 use Rattle.tal_flow.specs.Rules.{next_of, Branches, Target}
 use Rattle.tal_flow.specs.Strongest.{Placed, rule_at, falls_from, placed_at}
 use Rattle.tal_image.specs.Image.{ImageParts}
-use Rattle.tal_image.specs.Conditions.{code_start, starts_stack}
+use Rattle.object_layout.specs.Areas.{code_start}
+use Rattle.tal_image.specs.Conditions.{starts_stack}
 use Rattle.tal_image.specs.Shown.{shown, function_in}
 use Rattle.tal_checker.specs.Instructions.{instructions}
 use Rattle.tal_checker.specs.WellTyped.{WellTyped, strongest_at}

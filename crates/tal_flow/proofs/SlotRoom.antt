@@ -5,7 +5,8 @@ use Rattle.ia32_code.specs.declared.instruction.Reg.TheVariants.{Esp}
 use Rattle.ia32_code.specs.declared.instruction.Operand.{Operand}
 use Rattle.ia32_code.specs.declared.instruction.Operand.TheVariants.{R, M, I}
 use Rattle.object_layout.specs.declared.rows.FieldTy.{FieldTy}
-use Rattle.object_layout.specs.Classes.{ShapesView, word_index}
+use Rattle.object_layout.specs.Areas.{word_index}
+use Rattle.object_layout.specs.Classes.{ShapesView}
 use Rattle.tal_types.specs.declared.types.Ty.{Ty}
 use Rattle.tal_types.specs.Contexts.{LiveContext, same}
 use Rattle.tal_types.specs.Shown.{ShownImage}

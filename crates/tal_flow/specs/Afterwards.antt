@@ -4,7 +4,7 @@ use Rattle.ia32_code.specs.declared.instruction.Reg.{Reg}
 use Rattle.ia32_code.specs.declared.instruction.Reg.TheVariants.{Eax, Edx}
 use Rattle.ia32_code.specs.declared.instruction.Operand.{Operand}
 use Rattle.ia32_code.specs.declared.instruction.Operand.TheVariants.{R, M, I}
-use Rattle.object_layout.specs.Classes.{word_index}
+use Rattle.object_layout.specs.Areas.{word_index}
 use Rattle.tal_types.specs.declared.types.Ty.{Ty}
 use Rattle.tal_types.specs.declared.types.Ty.TheVariants.{Num, Junk}
 use Rattle.tal_types.specs.declared.types.FlagKind.{FlagKind}

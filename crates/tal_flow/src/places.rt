@@ -1,5 +1,5 @@
 ghost use Rattle.std.specs.Prelude.{◌≡◌, Option, Some, None};
-ghost use Rattle.object_layout.specs.Classes.{word_index};
+ghost use Rattle.object_layout.specs.Areas.{word_index};
 ghost use Rattle.tal_types.specs.Kept.{live_of, context_of};
 ghost use Rattle.tal_flow.specs.Places.{whole, static_place, slot_place, object_place, array_place, element_place, display_place, table_place, based, place_in, PlaceType};
 
@@ -26,7 +26,7 @@ pub enum Place {
 }
 
 /// Which word of those from byte `first` on stands at a byte.
-#[tactic(auto, unfolding(object_layout::specs::Classes::word_index))]
+#[tactic(auto, unfolding(object_layout::specs::Areas::word_index))]
 pub(crate) fn word_index(first: u32, byte: u32) -> Option<u32>
     ensures { result ≡ word_index first byte }
 {

@@ -5,7 +5,7 @@ use Rattle.tal_types.specs.declared.views.Mark.{Mark}
 use Rattle.tal_types.specs.Contexts.{ContextView, plain}
 use Rattle.tal_image.specs.declared.parts.MarkPart.{MarkPart}
 use Rattle.tal_image.specs.Image.{BlockPart}
-use Rattle.tal_image.specs.Conditions.{code_start}
+use Rattle.object_layout.specs.Areas.{code_start}
 use Rattle.tal_image.specs.Kept.{RisesBy, IsAtKey}
 use Rattle.tal_image.specs.Shown.{block_in, mark_in}
 use Rattle.tal_image.proofs.KeyedRows.{first_with, first_with-found, first_with-missing}

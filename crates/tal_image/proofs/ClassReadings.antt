@@ -5,7 +5,8 @@ use Rattle.object_layout.specs.declared.rows.ClassRow.{ClassRow}
 use Rattle.object_layout.specs.declared.rows.FunRow.{FunRow}
 use Rattle.object_layout.specs.Classes.{fun_row, signatures, signatures_of, Methods}
 use Rattle.tal_image.specs.declared.parts.FunctionPart.{FunctionPart}
-use Rattle.tal_image.specs.Conditions.{Tables, code_start, fun_rows, class_view, parent_fits, inherited_fields, inherited_methods, fields_fit, methods_fit, method_fits}
+use Rattle.object_layout.specs.Areas.{code_start}
+use Rattle.tal_image.specs.Conditions.{Tables, fun_rows, class_view, parent_fits, inherited_fields, inherited_methods, fields_fit, methods_fit, method_fits}
 use Rattle.object_layout.specs.declared.rows.FieldTy.{FieldTy}
 use Rattle.tal_image.specs.Grammar.{Grammar, done, then_with}
 use Rattle.tal_image.specs.Fields.{checked, each, field_type_field, parent_of, method_list, class_fields}

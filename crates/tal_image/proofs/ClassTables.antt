@@ -18,7 +18,8 @@ use Rattle.object_layout.specs.Faults.{has_earlier_parent, is_too_many, is_type,
 use Rattle.tal_types.specs.Types.{of_field}
 use Rattle.tal_image.specs.declared.parts.FunctionPart.{FunctionPart}
 use Rattle.tal_image.specs.Image.{ImageParts, tag_of, index_of, parent_number}
-use Rattle.tal_image.specs.Conditions.{Tables, type_fits, fun_rows, code_start, class_view, between, parent_fits, inherited_fields, inherited_methods, fields_fit, methods_fit, method_fits}
+use Rattle.object_layout.specs.Areas.{code_start}
+use Rattle.tal_image.specs.Conditions.{Tables, type_fits, fun_rows, class_view, between, parent_fits, inherited_fields, inherited_methods, fields_fit, methods_fit, method_fits}
 use Rattle.tal_image.specs.Fields.{with_class}
 use Rattle.tal_image.specs.Formed.{Formed, EachAfter, Each, IsClass, IsMethod, IsFieldType, tables}
 use Rattle.tal_image.specs.Shown.{shapes_of}

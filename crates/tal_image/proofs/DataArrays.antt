@@ -10,7 +10,8 @@ use Rattle.std.proofs.lemmas.Option.{slice_get-get_or, slice_get_past, slice_get
 use Rattle.object_layout.specs.declared.rows.KindRow.{KindRow}
 use Rattle.tal_image.specs.declared.parts.ArrayPart.{ArrayPart}
 use Rattle.tal_image.specs.Image.{ImageParts}
-use Rattle.tal_image.specs.Conditions.{Tables, statics_start, array_places, array_fits, with_array, numbers_given}
+use Rattle.object_layout.specs.Areas.{statics_start}
+use Rattle.tal_image.specs.Conditions.{Tables, array_places, array_fits, with_array, numbers_given}
 use Rattle.tal_image.specs.Formed.{EachAfter, IsArray}
 use Rattle.tal_image.specs.Kept.{RisesBy, array_room, array_offsets}
 use Rattle.tal_image.specs.Shown.{array_words, data_row_in}

@@ -15,7 +15,8 @@ use Rattle.tal_image.specs.declared.parts.Header.{Header}
 use Rattle.tal_image.specs.declared.parts.FunctionPart.{FunctionPart}
 use Rattle.tal_image.specs.declared.parts.MarkPart.{MarkPart}
 use Rattle.tal_image.specs.Image.{ImageParts, ArrayPart, BlockPart}
-use Rattle.tal_image.specs.Conditions.{Tables, Spelled, between, slots_fit, block_fits, begins_at, function_begins, number_at, entry_fits, with_array, mark_fits, mark_word, word_fits, same_number, code_start, statics_start, fun_rows, array_places}
+use Rattle.object_layout.specs.Areas.{code_start, statics_start}
+use Rattle.tal_image.specs.Conditions.{Tables, Spelled, between, slots_fit, block_fits, begins_at, function_begins, number_at, entry_fits, with_array, mark_fits, mark_word, word_fits, same_number, fun_rows, array_places}
 use Rattle.tal_image.specs.Grammar.{Grammar, done, then_with, many}
 use Rattle.tal_image.specs.Fields.{checked, each, type_field, tables_of, header_fields, sig_fields, function_fields, after_function, class_fields, with_class, kind_fields, field_type_field, array_fields, coded_fields, image_fields, block_fields, mark_fields, bodies, joined, code_bytes, after_block, after_mark, CodedImage}
 use Rattle.tal_image.specs.Reading.{◌>>=◌, run, number_at as number_read, pair_at, checked_at, type_at, types_at, seven_at, header_at, sigs_at, functions_at, entries_at, kinds_at, statics_at, arrays_at}

@@ -10,7 +10,8 @@ use Rattle.tal_image.specs.declared.image.Image.TheInside.{Inside}
 use Rattle.tal_image.specs.declared.parts.FunctionPart.{FunctionPart}
 use Rattle.tal_image.specs.declared.parts.MarkPart.{MarkPart}
 use Rattle.tal_image.specs.Image.{ImageParts, BlockPart}
-use Rattle.tal_image.specs.Conditions.{code_start, between, block_fits, mark_fits}
+use Rattle.object_layout.specs.Areas.{code_start}
+use Rattle.tal_image.specs.Conditions.{between, block_fits, mark_fits}
 use Rattle.tal_image.specs.Fields.{after_block, after_mark, with_class, joined}
 use Rattle.tal_image.specs.Formed.{Formed, EachAfter, IsBlock, IsClass, IsMark, tables}
 use Rattle.tal_image.specs.Kept.{ClassHasWords, IsKept, RisesBy, parts_of, array_room, array_offsets}

@@ -5,7 +5,7 @@ use Rattle.std.specs.List.{flat_map}
 use Rattle.ia32_code.specs.declared.decoding.Decoded.{Decoded}
 use Rattle.ia32_code.specs.declared.decoding.Decoded.TheVariants as answer
 use Rattle.ia32_code.specs.Decoding.{decoded}
-use Rattle.object_layout.specs.Classes.{table_address, descriptor_address}
+use Rattle.object_layout.specs.Areas.{table_address, descriptor_address}
 use Rattle.tal_image.specs.declared.fault.ImageFault.{ImageFault}
 use Rattle.tal_image.specs.declared.fault.ImageFault.TheVariants.{Bad}
 use Rattle.tal_image.specs.declared.parts.FunctionPart.{FunctionPart}

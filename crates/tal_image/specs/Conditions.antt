@@ -11,7 +11,8 @@ use Rattle.ia32_code.specs.declared.instruction.Operand.TheVariants.{R, M, I}
 use Rattle.object_layout.specs.declared.rows.ClassRow.{ClassRow}
 use Rattle.object_layout.specs.declared.rows.KindRow.{KindRow}
 use Rattle.object_layout.specs.declared.rows.FunRow.{FunRow}
-use Rattle.object_layout.specs.Classes.{ShapesView, Depth, Fields, signatures, table_address, descriptor_address}
+use Rattle.object_layout.specs.Areas.{code_start, statics_start, table_address, descriptor_address}
+use Rattle.object_layout.specs.Classes.{ShapesView, Depth, Fields, signatures}
 use Rattle.tal_types.specs.declared.signatures.Sig.{Sig}
 use Rattle.tal_types.specs.Types.{of_field}
 use Rattle.tal_image.specs.declared.parts.FunctionPart.{FunctionPart}
@@ -91,10 +92,6 @@ entry_fits sigs functions f = option_map_or (λ (row : FunctionPart). option_map
 unfoldable pub fun_rows : ℕ → List FunctionPart → List FunRow
 fun_rows address [] = []
 fun_rows address (f ∷ fs) = record { sig = f.sig; address = address } ∷ fun_rows (address + f.length) fs
-
--- the address of the code's first byte
-abbrev pub code_start : ℕ
-code_start = 0x100000
 
 -- the classes with the functions that their methods name
 abbrev pub class_view : List FunctionPart → List ClassRow → ShapesView
@@ -202,10 +199,6 @@ mark_fits code least offset = nat_le least offset && is_some (number_at offset c
 unfoldable pub array_places : ℕ → List ArrayPart → List ℕ
 array_places address [] = []
 array_places address (a ∷ arrays) = address ∷ array_places (address + 4 * (2 + a.size)) arrays
-
--- where the statics begin; the data arrays follow the last of them
-abbrev pub statics_start : ℕ
-statics_start = 0x300000
 
 -- the word that a mark of each tag stands for, if it may have this index: null of a class, an array kind or a signature; a function's
 -- address; a class's table; an array kind's descriptor; a data array's address

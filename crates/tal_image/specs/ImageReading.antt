@@ -11,7 +11,8 @@ use Rattle.tal_image.specs.declared.parts.MarkPart.{MarkPart}
 use Rattle.tal_image.specs.declared.image_reader.TableRows.{TableRows}
 use Rattle.tal_image.specs.declared.image_reader.CodeRows.{CodeRows}
 use Rattle.tal_image.specs.Image.{ImageParts, ArrayPart, BlockPart}
-use Rattle.tal_image.specs.Conditions.{code_start, statics_start, fun_rows, array_places}
+use Rattle.object_layout.specs.Areas.{code_start, statics_start}
+use Rattle.tal_image.specs.Conditions.{fun_rows, array_places}
 use Rattle.tal_image.specs.Fields.{tables_of}
 use Rattle.tal_image.specs.Reading.{◌>>=◌, Read, header_at, sigs_at, functions_at, entries_at, kinds_at, statics_at, arrays_at}
 use Rattle.tal_image.specs.ClassReading.{classes_at}

@@ -7,7 +7,8 @@ use Rattle.tal_image.specs.declared.reader.TableSizes.{TableSizes}
 use Rattle.tal_image.specs.declared.image_rows.ImageRows.{ImageRows}
 use Rattle.tal_image.specs.declared.image.Image.TheInside.{Inside}
 use Rattle.tal_image.specs.Image.{ImageParts, parent_number}
-use Rattle.tal_image.specs.Conditions.{Tables, code_start}
+use Rattle.object_layout.specs.Areas.{code_start}
+use Rattle.tal_image.specs.Conditions.{Tables}
 use Rattle.tal_image.specs.Formed.{Formed}
 use Rattle.tal_image.specs.Shown.{spans, shapes_of}
 

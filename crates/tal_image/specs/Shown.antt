@@ -2,7 +2,8 @@
 use Rattle.std.specs.Prelude.{ℕ, ◌+◌, ◌-◌, ◌*◌, ◌&&◌, nat_le, nat_lt, ◌==◌, List, [], ◌∷◌, ◌++◌, length, replicate, Option, Some, None, slice_get, if◌then◌else◌}
 use Rattle.std.specs.Option.{option_map, option_and_then}
 use Rattle.std.specs.List.{flat_map}
-use Rattle.object_layout.specs.Classes.{ShapesView, descriptor_address}
+use Rattle.object_layout.specs.Areas.{descriptor_address, code_start, statics_start}
+use Rattle.object_layout.specs.Classes.{ShapesView}
 use Rattle.tal_types.specs.declared.views.Span.{Span}
 use Rattle.tal_types.specs.declared.views.Mark.{Mark}
 use Rattle.tal_types.specs.Contexts.{ContextView, plain}
@@ -11,7 +12,7 @@ use Rattle.tal_image.specs.declared.parts.FunctionPart.{FunctionPart}
 use Rattle.tal_image.specs.declared.parts.MarkPart.{MarkPart}
 use Rattle.tal_image.specs.declared.parts.DataRow.{DataRow}
 use Rattle.tal_image.specs.Image.{ImageParts, ArrayPart, BlockPart}
-use Rattle.tal_image.specs.Conditions.{code_start, statics_start, fun_rows, array_places}
+use Rattle.tal_image.specs.Conditions.{fun_rows, array_places}
 
 -- the code of each function, one after another from an address on
 unfoldable pub spans : ℕ → List FunctionPart → List Span

@@ -2,7 +2,8 @@
 // whether an instruction begins there, so that each block and mark is read in a time of its own.
 ghost use Rattle.std.specs.Prelude.{◌≡◌, ◌≤◌, ◌+◌, ◌*◌, ◌^◌, ◌++◌, List, map, Some, IfOk, OnOk, slice_get};
 ghost use Rattle.object_layout.specs.declared.rows.FunRow.{FunRow};
-ghost use Rattle.tal_image.specs.Conditions.{code_start, statics_start, fun_rows, array_places, immediate, marked_number, same_number};
+ghost use Rattle.object_layout.specs.Areas.{code_start, statics_start};
+ghost use Rattle.tal_image.specs.Conditions.{fun_rows, array_places, immediate, marked_number, same_number};
 ghost use Rattle.tal_image.specs.Reading.{GivesAt, GivesView, checked_at, body_at};
 ghost use Rattle.tal_image.specs.CodeReading.{span, function_starts, starts_at, starts_behind, code_at, place_fits, block_at, blocks_at, number_of, number_in, offset_fits, word_of, mark_at, marks_at, code_length, array_space};
 ghost use Rattle.tal_image.specs.Kept.{tables};
@@ -147,7 +148,7 @@ pub struct Words {
 
 impl Words {
     /// The word that a mark with a tag and an index stands for, if there is such a mark.
-    #[tactic(auto, unfolding(crate::specs::CodeReading::word_of, object_layout::specs::Classes::table_address, object_layout::specs::Classes::descriptor_address))]
+    #[tactic(auto, unfolding(crate::specs::CodeReading::word_of, object_layout::specs::Areas::table_address, object_layout::specs::Areas::descriptor_address))]
     fn word(&self, tag: u32, index: u32) -> Option<u64>
         ensures { result ≡ word_of (tables self.now.tables) self.now.addresses.items self.now.places.items tag index }
     {

@@ -1,7 +1,8 @@
 // What an image keeps beside its rows, so that what stands at an address is found without a walk over them.
 ghost use Rattle.std.specs.Prelude.{◌≡◌, ◌≤◌, map, IfOk};
 ghost use Rattle.std.specs.List.{sum_by};
-ghost use Rattle.tal_image.specs.Conditions.{code_start, fun_rows};
+ghost use Rattle.object_layout.specs.Areas.{code_start};
+ghost use Rattle.tal_image.specs.Conditions.{fun_rows};
 ghost use Rattle.tal_image.specs.Formed.{Formed};
 ghost use Rattle.tal_image.specs.Kept.{parts_of, array_room, array_offsets};
 ghost use Rattle.tal_image.specs.Shown.{shapes_of};

@@ -1,5 +1,5 @@
 ghost use Rattle.std.specs.Prelude.{◌≡◌, ◌≤◌, ◌<◌, ℕ, length, slice_get, slice_index, Some};
-ghost use Rattle.tal_image.specs.Conditions.{code_start};
+ghost use Rattle.object_layout.specs.Areas.{code_start};
 ghost use Rattle.tal_image.specs.Kept.{RisesBy, IsAtKey, IsLastUpTo};
 ghost use Rattle.tal_image.specs.Shown.{spans, function_in, data_row_in, data_words, array_words};
 

@@ -1,6 +1,6 @@
 use Rattle.std.proofs.Common.{◌≡◌, ◌+◌, ◌≤◌, length}
 use Rattle.tal_checker.specs.Instructions.{instructions, placed_from}
-use Rattle.tal_image.specs.Conditions.{code_start}
+use Rattle.object_layout.specs.Areas.{code_start}
 use Rattle.kernel_machine.specs.Built.{code_outside}
 use Rattle.kernel_machine.specs.Outside.{first_of}
 use Rattle.kernel_machine.proofs.form.code_outside.Given as goal

@@ -7,7 +7,7 @@ use Rattle.ia32_code.specs.declared.decoding.Decoded.TheVariants.{One, Short, Un
 use Rattle.ia32_code.specs.Front.{answered}
 use Rattle.tal_types.specs.Contexts.{ContextView, Dead}
 use Rattle.tal_types.specs.Kept.{context_of}
-use Rattle.tal_image.specs.Conditions.{code_start}
+use Rattle.object_layout.specs.Areas.{code_start}
 use Rattle.frame_tables.specs.FrameRows.{RowAt}
 use Rattle.tal_checker.proofs.Going.{Left, all_left, none_left, left_refused, left_after, rows-below, flows-pass}
 use Rattle.tal_checker.proofs.code.check_code.Goals as goal

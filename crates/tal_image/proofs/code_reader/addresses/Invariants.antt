@@ -1,6 +1,7 @@
 use Rattle.std.proofs.Common.{◌≡◌, ◌≤◌, ◌+◌, ◌++◌, drop, map}
 use Rattle.object_layout.specs.declared.rows.FunRow.{FunRow}
-use Rattle.tal_image.specs.Conditions.{code_start, fun_rows}
+use Rattle.object_layout.specs.Areas.{code_start}
+use Rattle.tal_image.specs.Conditions.{fun_rows}
 use Rattle.tal_image.specs.CodeReading.{code_length}
 use Rattle.tal_image.proofs.code_reader.addresses.Given as goal
 

@@ -1,5 +1,6 @@
 use Rattle.std.proofs.Common.{◌≡◌, ◌≤◌, ◌+◌, ◌*◌, ◌++◌, drop}
-use Rattle.tal_image.specs.Conditions.{statics_start, array_places}
+use Rattle.object_layout.specs.Areas.{statics_start}
+use Rattle.tal_image.specs.Conditions.{array_places}
 use Rattle.tal_image.specs.CodeReading.{array_space}
 use Rattle.tal_image.proofs.code_reader.places.Given as goal
 

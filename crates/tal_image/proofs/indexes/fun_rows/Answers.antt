@@ -1,7 +1,8 @@
 use Rattle.std.proofs.Common.{ℕ, ◌+◌, refl}
 use Rattle.object_layout.specs.declared.rows.FunRow.{FunRow}
 use Rattle.tal_image.specs.declared.parts.FunctionPart.{FunctionPart}
-use Rattle.tal_image.specs.Conditions.{code_start, fun_rows}
+use Rattle.object_layout.specs.Areas.{code_start}
+use Rattle.tal_image.specs.Conditions.{fun_rows}
 use Rattle.tal_image.proofs.RunningRows.{one_more, no_more, room_more}
 use Rattle.tal_image.proofs.indexes.fun_rows.Goals as goal
 

@@ -1,7 +1,8 @@
 use Rattle.std.proofs.Common.{◌≡◌, ◌≤◌, ◌+◌, ◌++◌, drop}
 use Rattle.std.specs.List.{sum_by}
 use Rattle.tal_image.specs.declared.parts.FunctionPart.{FunctionPart}
-use Rattle.tal_image.specs.Conditions.{code_start, fun_rows}
+use Rattle.object_layout.specs.Areas.{code_start}
+use Rattle.tal_image.specs.Conditions.{fun_rows}
 use Rattle.tal_image.proofs.indexes.fun_rows.Given as goal
 
 abbrev pub invariant-loop-function : goal.invariant-loop-function

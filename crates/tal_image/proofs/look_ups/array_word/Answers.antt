@@ -1,5 +1,5 @@
 use Rattle.std.proofs.Common.{◌≤◌, ◌-◌, ◌∙◌, sym, refl, arith}
-use Rattle.object_layout.specs.Classes.{descriptor_address}
+use Rattle.object_layout.specs.Areas.{descriptor_address}
 use Rattle.tal_image.specs.Shown.{array_words}
 use Rattle.tal_image.proofs.DataArrays.{padded-within, padded-past, array_words-element}
 use Rattle.tal_image.proofs.look_ups.array_word.Goals as goal

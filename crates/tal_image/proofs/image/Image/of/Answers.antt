@@ -1,5 +1,5 @@
 use Rattle.std.proofs.Common.{◌∙◌, arith}
-use Rattle.tal_image.specs.Conditions.{code_start}
+use Rattle.object_layout.specs.Areas.{code_start}
 use Rattle.tal_image.specs.Kept.{parts_of}
 use Rattle.tal_image.proofs.KeptRows.{functions_hold, arrays_hold}
 use Rattle.tal_image.proofs.Spans.{addresses-spans}

@@ -1,5 +1,5 @@
 use Rattle.std.proofs.Common.{length, sym, subst, ◌<◌, arith}
-use Rattle.tal_image.specs.Conditions.{code_start}
+use Rattle.object_layout.specs.Areas.{code_start}
 use Rattle.tal_image.specs.Image.{ImageParts}
 use Rattle.tal_image.specs.Kept.{parts_of}
 use Rattle.tal_image.proofs.Spans.{span_at, span_within}

@@ -1,7 +1,7 @@
 use Rattle.std.proofs.Common.{◌<◌, length, None, Some, sym, ap, ◌∙◌, arith}
 use Rattle.tal_types.specs.Contexts.{plain}
 use Rattle.tal_image.specs.Image.{BlockPart}
-use Rattle.tal_image.specs.Conditions.{code_start}
+use Rattle.object_layout.specs.Areas.{code_start}
 use Rattle.tal_image.specs.Kept.{IsAtKey, parts_of}
 use Rattle.tal_image.specs.Shown.{shown}
 use Rattle.tal_image.proofs.KeptRows.{blocks_rise, have_few_slots}

@@ -1,6 +1,6 @@
 use Rattle.std.proofs.Common.{sym, ◌∙◌, None, Some, arith}
 use Rattle.tal_types.specs.declared.views.Span.{Span}
-use Rattle.tal_image.specs.Conditions.{code_start}
+use Rattle.object_layout.specs.Areas.{code_start}
 use Rattle.tal_image.specs.Kept.{parts_of}
 use Rattle.tal_image.specs.Shown.{shown, spans}
 use Rattle.tal_image.proofs.KeyedRows.{at-map}

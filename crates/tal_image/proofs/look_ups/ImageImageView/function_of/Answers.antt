@@ -1,5 +1,5 @@
 use Rattle.std.proofs.Common.{ℕ, ◌≡◌, ◌<◌, length, get_or, slice_get, sym, subst, ◌∙◌, Some, arith}
-use Rattle.tal_image.specs.Conditions.{code_start}
+use Rattle.object_layout.specs.Areas.{code_start}
 use Rattle.tal_image.specs.Image.{ImageParts}
 use Rattle.tal_image.specs.Kept.{parts_of}
 use Rattle.tal_image.specs.Shown.{shown, spans}

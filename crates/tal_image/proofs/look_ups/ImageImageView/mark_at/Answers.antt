@@ -1,6 +1,6 @@
 use Rattle.std.proofs.Common.{◌<◌, None, Some, sym, ◌∙◌, arith}
 use Rattle.tal_image.specs.declared.parts.MarkPart.{MarkPart}
-use Rattle.tal_image.specs.Conditions.{code_start}
+use Rattle.object_layout.specs.Areas.{code_start}
 use Rattle.tal_image.specs.Kept.{IsAtKey, parts_of}
 use Rattle.tal_image.specs.Shown.{shown}
 use Rattle.tal_image.proofs.KeptRows.{marks_rise}
