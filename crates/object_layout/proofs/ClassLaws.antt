@@ -76,7 +76,8 @@ descends-trans s _ _ e (itself c) g = g
 descends-trans s _ _ e (under c p d x t) g = under c p e x (descends-trans s p d e t g)
 
 -- of two ancestors, one is below the other
-pub descends-tree : (s : ShapesView) (k c d e : ℕ) → IsEarlierBelow s k → c < k → k ≤ length s.classes → Descends s c d → Descends s c e → Depth s e ≤ Depth s d → Below s d e ≡ true
+pub descends-tree : (s : ShapesView) (k c d e : ℕ) → IsEarlierBelow s k → c < k → k ≤ length s.classes → Descends s c d → Descends s c e
+    → Depth s e ≤ Depth s d → Below s d e ≡ true
 descends-tree s k c d e h l there t u less =
     let a = ancestor-at s k c e h l u in
     let f = lineage-front s k c d h l t in
@@ -133,7 +134,8 @@ unfolding table_address
 table_address-above c = omega arith
 
 -- what the table of a class names at its depth is above the class
-displayed-law : (s : ShapesView) (c d : ℕ) → first_fault s ≡ None → c < length s.classes → d < length s.classes → table_word s c (3 + Depth s d) ≡ Some (table_address d) → Below s c d ≡ true
+displayed-law : (s : ShapesView) (c d : ℕ) → first_fault s ≡ None → c < length s.classes → d < length s.classes
+    → table_word s c (3 + Depth s d) ≡ Some (table_address d) → Below s c d ≡ true
 displayed-law s c d sound l m h =
     let short = lineage-short s c sound l in
     let level : Depth s d < 8 = omega (arith, (classes-sound s sound d m).shallow) in

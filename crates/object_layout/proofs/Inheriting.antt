@@ -58,7 +58,8 @@ unfolding Fields
 fields-root s c e = ap (flat_map (own_fields s)) (lineage-root s c e) ∙ append-nil (own_fields s c)
 
 -- a root takes over nothing
-pub inherited-root : (s : ShapesView) (c : ℕ) (above : Inherited) → parent s c ≡ None → above.ancestors ≡ 0 → length above.lineage ≡ 8 → list_all (nat_eq 0) above.lineage ≡ true → above.fields.now ≡ [] → above.methods.now ≡ [] → IsInherited s c above
+pub inherited-root : (s : ShapesView) (c : ℕ) (above : Inherited) → parent s c ≡ None → above.ancestors ≡ 0 → length above.lineage ≡ 8
+    → list_all (nat_eq 0) above.lineage ≡ true → above.fields.now ≡ [] → above.methods.now ≡ [] → IsInherited s c above
 unfolding keeps_methods signatures_of is_front
 inherited-root s c above e none room zeros no_fields no_methods = record {
   earlier = no_parent-earlier s c e;
@@ -99,7 +100,9 @@ unfolding keeps_methods signatures
 kept-under s c p ms e m = rw (e, m) refl
 
 -- a class takes over its parent's lineage, fields and methods
-pub inherited-under : (s : ShapesView) (c p : ℕ) (laid : LaidClass) (above : Inherited) → first_below c (class_fault s) ≡ None → parent s c ≡ Some p → p < c → IsLaid s p laid → above.ancestors ≡ laid.depth + 1 → above.lineage ≡ laid.lineage → above.fields.now ≡ laid.fields → above.methods.now ≡ laid.row.methods → IsInherited s c above
+pub inherited-under : (s : ShapesView) (c p : ℕ) (laid : LaidClass) (above : Inherited) → first_below c (class_fault s) ≡ None → parent s c ≡ Some p
+    → p < c → IsLaid s p laid → above.ancestors ≡ laid.depth + 1 → above.lineage ≡ laid.lineage → above.fields.now ≡ laid.fields
+    → above.methods.now ≡ laid.row.methods → IsInherited s c above
 inherited-under s c p laid above before e l h deeper lineage_is fields_is methods_is =
     let earlier = parent-earlier s c p e l in
     let all = earlier-with s c (before-earlier s c before) earlier in

@@ -31,7 +31,8 @@ slice_get-push (z ∷ xs) y x zero e = inl e
 slice_get-push (z ∷ xs) y x (suc k) e = ⊎_elim inl (λ h. inr (ap suc h.0, h.1)) (slice_get-push xs y x k e)
 
 -- one more row is laid out
-pub laid-before-more : (s : ShapesView) (laid laid' : List LaidClass) (class : LaidClass) (c : ℕ) → IsLaidBefore s laid c → class_fault s c ≡ None → IsLaid s c class → laid' ≡ laid ++ class ∷ [] → IsLaidBefore s laid' (c + 1)
+pub laid-before-more : (s : ShapesView) (laid laid' : List LaidClass) (class : LaidClass) (c : ℕ) → IsLaidBefore s laid c → class_fault s c ≡ None
+    → IsLaid s c class → laid' ≡ laid ++ class ∷ [] → IsLaidBefore s laid' (c + 1)
 laid-before-more s laid laid' class c h sound placed e = record {
   sound = first_below-more c (class_fault s) h.sound sound;
   long = omega (arith, h.long, ap length e, length-append laid (class ∷ []));
@@ -42,7 +43,8 @@ laid-before-more s laid laid' class c h sound placed e = record {
 }
 
 -- the fault of a row is that of all rows, where the rows before it have none
-pub fault-first : (n c : ℕ) (fault : ℕ → Option ShapeFault) (x : ShapeFault) → c < n → first_below c fault ≡ None → (x ≡ NoMemory) ⊎ (fault c ≡ Some x) → (x ≡ NoMemory) ⊎ (first_below n fault ≡ Some x)
+pub fault-first : (n c : ℕ) (fault : ℕ → Option ShapeFault) (x : ShapeFault) → c < n → first_below c fault ≡ None → (x ≡ NoMemory) ⊎ (fault c ≡ Some x)
+    → (x ≡ NoMemory) ⊎ (first_below n fault ≡ Some x)
 fault-first n c fault x l none h = ⊎_elim inl (λ e. inr (first_below-found n c fault x l none e)) h
 
 -- two lists of one length, one of which has what the other has, are equal
@@ -62,7 +64,8 @@ rows-laid s laid h =
     (length-map laid (λ (class : LaidClass). class.row) ∙ h.long)
     (λ k row e. row-of (slice_get laid k) k refl row (sym (slice_get-map (λ (class : LaidClass). class.row) laid k) ∙ e))
   where
-    row-of : (o : Option LaidClass) → (k : ℕ) → slice_get laid k ≡ o → (row : ClassRow) → option_map (λ (class : LaidClass). class.row) o ≡ Some row → slice_get s.classes k ≡ Some row
+    row-of : (o : Option LaidClass) → (k : ℕ) → slice_get laid k ≡ o → (row : ClassRow) → option_map (λ (class : LaidClass). class.row) o ≡ Some row
+        → slice_get s.classes k ≡ Some row
     row-of None k g row e = absurd (none-some row e)
     row-of (Some class) k g row e = (h.each k class g).row ∙ e
 
@@ -71,7 +74,8 @@ same_views : (s t : ShapesView) → s.classes ≡ t.classes → s.kinds ≡ t.ki
 same_views s t a b d e = λ i. record { classes = a i; kinds = b i; funs = d i; sigs = e i }
 
 -- what is kept shows the rows that were given
-pub rows_of-kept : (s : ShapesView) (a : Inside) → IsLaidBefore s a.classes.items (length s.classes) → a.kinds.items ≡ s.kinds → a.funs.items ≡ s.funs → a.sigs ≡ s.sigs → rows_of a ≡ s
+pub rows_of-kept : (s : ShapesView) (a : Inside) → IsLaidBefore s a.classes.items (length s.classes) → a.kinds.items ≡ s.kinds → a.funs.items ≡ s.funs
+    → a.sigs ≡ s.sigs → rows_of a ≡ s
 rows_of-kept s a h kinds funs sigs = same_views (rows_of a) s (rows-laid s a.classes.items h) kinds funs sigs
 
 -- neither classes nor kinds have a fault
@@ -85,7 +89,8 @@ unfolding first_fault
 classes-fault s x h = ⊎_elim inl (λ e. inr (ap (λ o. option_or o (first_below (length s.kinds) (kind_fault s))) e)) h
 
 -- behind class rows without a fault, the first fault of the kind rows is the first of all
-pub kinds-fault : (s : ShapesView) (x : ShapeFault) → first_below (length s.classes) (class_fault s) ≡ None → Some x ≡ first_below (length s.kinds) (kind_fault s) → first_fault s ≡ Some x
+pub kinds-fault : (s : ShapesView) (x : ShapeFault) → first_below (length s.classes) (class_fault s) ≡ None
+    → Some x ≡ first_below (length s.kinds) (kind_fault s) → first_fault s ≡ Some x
 unfolding first_fault
 kinds-fault s x e f = rw e (sym f)
 

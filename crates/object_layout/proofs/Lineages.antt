@@ -17,7 +17,8 @@ pub data Descends (s : ShapesView) : ℕ → ℕ → Type 0 where
   under : (c p d : ℕ) → parent s c ≡ Some p → Descends s p d → Descends s c d
 
 -- what is alike below c is alike at its parent
-above_equal : (s : ShapesView) (k c : ℕ) → IsEarlierBelow s k → c < k → (f g : ℕ → List ℕ) → ((p : ℕ) → p < c → f p ≡ g p) → option_map_or f (parent s c) [] ≡ option_map_or g (parent s c) []
+above_equal : (s : ShapesView) (k c : ℕ) → IsEarlierBelow s k → c < k → (f g : ℕ → List ℕ) → ((p : ℕ) → p < c → f p ≡ g p)
+    → option_map_or f (parent s c) [] ≡ option_map_or g (parent s c) []
 above_equal s k c h l f g alike = go (parent s c) refl
   where
     go : (o : Option ℕ) → parent s c ≡ o → option_map_or f o [] ≡ option_map_or g o []
@@ -56,7 +57,8 @@ descends-last : (s : ShapesView) (c d : ℕ) → (nat_eq d c || false) ≡ true 
 descends-last s c d e = let same : d ≡ c = grind (arith, nat_tests) in subst (λ x. Descends s c x) (sym same) (itself c)
 
 -- what stands in the lineage of the parent is an ancestor
-descends-above : (s : ShapesView) (c d : ℕ) (f : ℕ → List ℕ) → ((p : ℕ) → list_any (nat_eq d) (f p) ≡ true → Descends s p d) → (o : Option ℕ) → parent s c ≡ o → list_any (nat_eq d) (option_map_or f o []) ≡ true → Descends s c d
+descends-above : (s : ShapesView) (c d : ℕ) (f : ℕ → List ℕ) → ((p : ℕ) → list_any (nat_eq d) (f p) ≡ true → Descends s p d) → (o : Option ℕ)
+    → parent s c ≡ o → list_any (nat_eq d) (option_map_or f o []) ≡ true → Descends s c d
 descends-above s c d f ih None e g = absurd (grind arith)
 descends-above s c d f ih (Some p) e g = under c p d e (ih p g)
 

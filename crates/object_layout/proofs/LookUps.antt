@@ -66,12 +66,14 @@ ancestor-laid s c laid h k l = ap (λ xs. get_or xs k 0) h.ancestors ∙ get_or-
 -- The display tells what is below what.
 
 -- what the display names at its depth is above
-pub below-laid : (s : ShapesView) (c d : ℕ) (low high : LaidClass) → IsLaid s c low → IsLaid s d high → c < length s.classes → high.depth ≤ low.depth → get_or low.lineage high.depth 0 ≡ d → Below s c d ≡ true
+pub below-laid : (s : ShapesView) (c d : ℕ) (low high : LaidClass) → IsLaid s c low → IsLaid s d high → c < length s.classes → high.depth ≤ low.depth
+    → get_or low.lineage high.depth 0 ≡ d → Below s c d ≡ true
 below-laid s c d low high h g there l e =
     below-from s c d high.depth there (omega (arith, lineage-laid s c low h)) (ancestor-laid s c low h high.depth l ∙ e)
 
 -- what is above stands in the display at its depth
-pub below-told : (s : ShapesView) (c d : ℕ) (low high : LaidClass) → first_fault s ≡ None → IsLaid s c low → IsLaid s d high → Below s c d ≡ true → (high.depth ≤ low.depth) × (get_or low.lineage high.depth 0 ≡ d)
+pub below-told : (s : ShapesView) (c d : ℕ) (low high : LaidClass) → first_fault s ≡ None → IsLaid s c low → IsLaid s d high → Below s c d ≡ true
+    → (high.depth ≤ low.depth) × (get_or low.lineage high.depth 0 ≡ d)
 below-told s c d low high sound h g b =
     let p = below-parts s c d b in
     let a = ancestor-at s (length s.classes) c d (parents-earlier s sound) p.0 p.1 in
@@ -84,7 +86,8 @@ same_tests : (a b : Bool) → (a ≡ true → b ≡ true) → (b ≡ true → a 
 same_tests a b f g = grind arith
 
 -- the display decides
-pub below-at : (s : ShapesView) (c d : ℕ) (low high : LaidClass) → first_fault s ≡ None → IsLaid s c low → IsLaid s d high → high.depth ≤ low.depth → nat_eq (get_or low.lineage high.depth 0) d ≡ Below s c d
+pub below-at : (s : ShapesView) (c d : ℕ) (low high : LaidClass) → first_fault s ≡ None → IsLaid s c low → IsLaid s d high → high.depth ≤ low.depth
+    → nat_eq (get_or low.lineage high.depth 0) d ≡ Below s c d
 below-at s c d low high sound h g l = same_tests _ _
     (λ e. below-laid s c d low high h g (slice_get_within _ _ _ h.row) l (grind (arith, nat_tests)))
     (λ e. let same = (below-told s c d low high sound h g e).1 in grind (arith, nat_tests))
@@ -98,7 +101,8 @@ pub below-no_ancestor : (s : ShapesView) (c d : ℕ) → first_fault s ≡ None 
 below-no_ancestor s c d sound l = same_tests _ _ (λ e. cc) (λ e. absurd (omega (arith, (there-law s c d sound e).1)))
 
 -- the field at a byte, by the fields that are kept
-pub field_at-laid : (s : ShapesView) (c byte : ℕ) (laid : LaidClass) (o : Option ℕ) → IsLaid s c laid → o ≡ word_index 4 byte → field_at s c byte ≡ option_and_then (slice_get laid.fields) o
+pub field_at-laid : (s : ShapesView) (c byte : ℕ) (laid : LaidClass) (o : Option ℕ) → IsLaid s c laid → o ≡ word_index 4 byte
+    → field_at s c byte ≡ option_and_then (slice_get laid.fields) o
 unfolding field_at
 field_at-laid s c byte laid o h e = rw (← e, h.whole) refl
 
@@ -120,11 +124,13 @@ pub method-no_class : (s : ShapesView) (c slot : ℕ) → length s.classes ≤ c
 method-no_class s c slot l = rw (methods-no_class s c l) refl
 
 -- the function in a slot, by the row
-pub method-laid : (s : ShapesView) (c slot : ℕ) (laid : LaidClass) (o : Option ℕ) → IsLaid s c laid → o ≡ slice_get laid.row.methods slot → option_map (fun_row s) o ≡ option_map (fun_row s) (slice_get (Methods s c) slot)
+pub method-laid : (s : ShapesView) (c slot : ℕ) (laid : LaidClass) (o : Option ℕ) → IsLaid s c laid → o ≡ slice_get laid.row.methods slot
+    → option_map (fun_row s) o ≡ option_map (fun_row s) (slice_get (Methods s c) slot)
 method-laid s c slot laid o h e = rw (methods-laid s c laid h) (ap (option_map (fun_row s)) e)
 
 -- a slot's signature, by its function
-pub slot_at-method : (s : ShapesView) (c byte slot : ℕ) → Some slot ≡ word_index 44 byte → slot_at s c byte ≡ option_map (λ (row : FunRow). row.sig) (option_map (fun_row s) (slice_get (Methods s c) slot))
+pub slot_at-method : (s : ShapesView) (c byte slot : ℕ) → Some slot ≡ word_index 44 byte
+    → slot_at s c byte ≡ option_map (λ (row : FunRow). row.sig) (option_map (fun_row s) (slice_get (Methods s c) slot))
 unfolding slot_at signatures signatures_of
 slot_at-method s c byte slot e = rw (← e, slice_get-map) (two_maps (slice_get (Methods s c) slot))
   where
@@ -138,7 +144,8 @@ unfolding slot_at
 slot_at-no_word s c byte e = rw (← e) refl
 
 -- a slot's address, by its function
-pub address-method : (s : ShapesView) (c slot : ℕ) → slice_index (map (λ f. (fun_row s f).address) (Methods s c)) slot ≡ option_map_or (λ (row : FunRow). row.address) (option_map (fun_row s) (slice_get (Methods s c) slot)) 0
+pub address-method : (s : ShapesView) (c slot : ℕ)
+    → slice_index (map (λ f. (fun_row s f).address) (Methods s c)) slot ≡ option_map_or (λ (row : FunRow). row.address) (option_map (fun_row s) (slice_get (Methods s c) slot)) 0
 address-method s c slot = sym (unwrap_or-slice_get (map (λ f. (fun_row s f).address) (Methods s c)) slot 0) ∙ rw slice_get-map (two_maps (slice_get (Methods s c) slot))
   where
     two_maps : (o : Option ℕ) → unwrap_or (option_map (λ f. (fun_row s f).address) o) 0 ≡ option_map_or (λ (row : FunRow). row.address) (option_map (fun_row s) o) 0

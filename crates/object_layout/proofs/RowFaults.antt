@@ -23,8 +23,10 @@ depth-inherited s c above h =
     omega (arith, lineage-length s c, ap length h.ancestors, length-append (take above.ancestors above.lineage) (c ∷ []))
 
 -- the fields are those of the parent and the own ones
-pub length-fields-inherited : (s : ShapesView) (c : ℕ) (above : Inherited) (row : ClassRow) → IsInherited s c above → slice_get s.classes c ≡ Some row → length (Fields s c) ≡ length above.fields.now + length row.fields
-length-fields-inherited s c above row h e = ap length h.whole ∙ length-append above.fields.now (own_fields s c) ∙ ap (λ xs. length above.fields.now + length xs) (own_fields-of_row s c row e)
+pub length-fields-inherited : (s : ShapesView) (c : ℕ) (above : Inherited) (row : ClassRow) → IsInherited s c above → slice_get s.classes c ≡ Some row
+    → length (Fields s c) ≡ length above.fields.now + length row.fields
+length-fields-inherited s c above row h e =
+    ap length h.whole ∙ length-append above.fields.now (own_fields s c) ∙ ap (λ xs. length above.fields.now + length xs) (own_fields-of_row s c row e)
 
 -- the first fault of a row whose parent is an earlier class
 unfoldable pub fault_below : ShapesView → ℕ → Inherited → ClassRow → Option ShapeFault
@@ -36,7 +38,8 @@ fault_below s c above row =
     else None
 
 -- the first fault of a row, by what its class takes over
-pub class_fault-below : (s : ShapesView) (c : ℕ) (above : Inherited) (row : ClassRow) → IsInherited s c above → slice_get s.classes c ≡ Some row → class_fault s c ≡ fault_below s c above row
+pub class_fault-below : (s : ShapesView) (c : ℕ) (above : Inherited) (row : ClassRow) → IsInherited s c above → slice_get s.classes c ≡ Some row
+    → class_fault s c ≡ fault_below s c above row
 unfolding class_fault is_too_many has_indexes signatures fault_below
 class_fault-below s c above row h e =
     rw (
@@ -62,7 +65,9 @@ small-set xs i c k l less small = ⊎_elim
     (cases_eq k i)
 
 -- a row without a fault, laid out
-pub laid-inherited : (s : ShapesView) (c : ℕ) (above : Inherited) (row : ClassRow) (laid : LaidClass) → IsInherited s c above → slice_get s.classes c ≡ Some row → class_fault s c ≡ None → laid.row ≡ row → laid.depth ≡ above.ancestors → laid.lineage ≡ set above.lineage above.ancestors c → laid.fields ≡ above.fields.now ++ row.fields → IsLaid s c laid
+pub laid-inherited : (s : ShapesView) (c : ℕ) (above : Inherited) (row : ClassRow) (laid : LaidClass) → IsInherited s c above
+    → slice_get s.classes c ≡ Some row → class_fault s c ≡ None → laid.row ≡ row → laid.depth ≡ above.ancestors
+    → laid.lineage ≡ set above.lineage above.ancestors c → laid.fields ≡ above.fields.now ++ row.fields → IsLaid s c laid
 laid-inherited s c above row laid h e none same deep line whole =
     let sound = class-sound s c none in
     let inside : above.ancestors < length above.lineage = omega (arith, h.room, depth-inherited s c above h, sound.shallow) in
@@ -72,7 +77,8 @@ laid-inherited s c above row laid h e none same deep line whole =
       row = e ∙ ap Some (sym same);
       room = ap length line ∙ length-set above.lineage above.ancestors c ∙ h.room;
       shallow = omega (arith, deep, depth-inherited s c above h, sound.shallow);
-      ancestors = h.ancestors ∙ sym (take_more_set above.lineage above.ancestors c inside) ∙ ap (λ xs. take (above.ancestors + 1) xs) (sym line) ∙ ap (λ n. take n laid.lineage) more;
+      ancestors = h.ancestors ∙ sym (take_more_set above.lineage above.ancestors c inside) ∙ ap (λ xs. take (above.ancestors + 1) xs) (sym line)
+          ∙ ap (λ n. take n laid.lineage) more;
       few_classes = λ k. subst (λ xs. get_or xs k 0 < 1024) (sym line) (small-set above.lineage above.ancestors c k inside sound.few_classes h.few_classes);
       whole = all;
       few_fields = omega (arith, sound.few_fields, ap length all);

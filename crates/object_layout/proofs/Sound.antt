@@ -88,6 +88,7 @@ classes-sound s e c l = class-sound s c (first_below-none (length s.classes) (cl
 pub parents-earlier : (s : ShapesView) → first_fault s ≡ None → IsEarlierBelow s (length s.classes)
 parents-earlier s e = record { earlier = λ c p l h. earlier-fact s c p (classes-sound s e c l).earlier h }
 
+-- kind row 256 is one too many
 no_row_256 : (s : ShapesView) → kind_fault s 256 ≡ None → ⊥
 unfolding kind_fault
 no_row_256 s e = grind (arith, nat_tests)

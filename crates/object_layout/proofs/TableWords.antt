@@ -36,7 +36,8 @@ unfolding table
 zero-word s c laid sound h = word-kept s c 2 _ laid sound h (omega arith) refl
 
 -- an ancestor's table, or 0 past the class itself
-display-kept : (s : ShapesView) (c k : ℕ) (laid : LaidClass) → IsLaid s c laid → k < 8 → get_or (map table_address (lineage s c)) k 0 ≡ (if nat_le k laid.depth then table_address (slice_index laid.lineage k) else 0)
+display-kept : (s : ShapesView) (c k : ℕ) (laid : LaidClass) → IsLaid s c laid → k < 8
+    → get_or (map table_address (lineage s c)) k 0 ≡ (if nat_le k laid.depth then table_address (slice_index laid.lineage k) else 0)
 display-kept s c k laid h l =
     let long = lineage-laid s c laid h in
     ⊎_elim
@@ -49,7 +50,8 @@ display-kept s c k laid h l =
     (cases_lt k (suc laid.depth))
 
 -- the words 3 to 10 are the display
-pub level-word : (s : ShapesView) (c word : ℕ) (laid : LaidClass) → first_fault s ≡ None → IsLaid s c laid → 3 ≤ word → word < 11 → Some (if nat_le (word - 3) laid.depth then table_address (slice_index laid.lineage (word - 3)) else 0) ≡ table_word s c word
+pub level-word : (s : ShapesView) (c word : ℕ) (laid : LaidClass) → first_fault s ≡ None → IsLaid s c laid → 3 ≤ word → word < 11
+    → Some (if nat_le (word - 3) laid.depth then table_address (slice_index laid.lineage (word - 3)) else 0) ≡ table_word s c word
 level-word s c word laid sound h l m =
     let place : 3 + (word - 3) ≡ word = omega arith in
     word-kept s c (3 + (word - 3)) _ laid sound h (omega arith)
@@ -57,7 +59,8 @@ level-word s c word laid sound h l m =
     ∙ ap (table_word s c) place
 
 -- the words from 11 on are the methods
-pub slot-word : (s : ShapesView) (c word : ℕ) (laid : LaidClass) → first_fault s ≡ None → IsLaid s c laid → 11 ≤ word → word < 64 → Some (slice_index (map (λ f. (fun_row s f).address) (Methods s c)) (word - 11)) ≡ table_word s c word
+pub slot-word : (s : ShapesView) (c word : ℕ) (laid : LaidClass) → first_fault s ≡ None → IsLaid s c laid → 11 ≤ word → word < 64
+    → Some (slice_index (map (λ f. (fun_row s f).address) (Methods s c)) (word - 11)) ≡ table_word s c word
 slot-word s c word laid sound h l m =
     let place : 11 + (word - 11) ≡ word = omega arith in
     let few = (classes-sound s sound c (slice_get_within _ _ _ h.row)).few_methods in

@@ -51,7 +51,8 @@ display-word s c k l h =
     ∙ get_or-padded 8 display k short h
 
 -- the words from 11 on are the addresses of the methods
-pub method-word : (s : ShapesView) (c m : ℕ) → length (lineage s c) ≤ 8 → length (Methods s c) ≤ 53 → m < 53 → get_or (table s c) (11 + m) 0 ≡ get_or (map (λ f. (fun_row s f).address) (Methods s c)) m 0
+pub method-word : (s : ShapesView) (c m : ℕ) → length (lineage s c) ≤ 8 → length (Methods s c) ≤ 53 → m < 53
+    → get_or (table s c) (11 + m) 0 ≡ get_or (map (λ f. (fun_row s f).address) (Methods s c)) m 0
 unfolding table
 method-word s c m l few h =
     let display = map table_address (lineage s c) in
@@ -66,7 +67,8 @@ method-word s c m l few h =
     ∙ get_or-padded 53 addresses m (omega (arith, length-map (Methods s c) (λ f. (fun_row s f).address))) h
 
 -- a class's word, by its place in the table
-pub table_word-at : (s : ShapesView) (c k x : ℕ) → c < length s.classes → length (lineage s c) ≤ 8 → length (Methods s c) ≤ 53 → k < 64 → get_or (table s c) k 0 ≡ x → table_word s c k ≡ Some x
+pub table_word-at : (s : ShapesView) (c k x : ℕ) → c < length s.classes → length (lineage s c) ≤ 8 → length (Methods s c) ≤ 53 → k < 64
+    → get_or (table s c) k 0 ≡ x → table_word s c k ≡ Some x
 unfolding table_word
 table_word-at s c k x there l m h e =
     let long = length-table s c l m in

@@ -6,22 +6,22 @@ use thiserror::Error;
 /// first fault that it has in the order below.
 #[derive(Clone, Copy, Debug, Error, PartialEq, Eq)]
 pub enum ShapeFault {
-    /// the class's parent is not an earlier class
+    /// The class's parent is not an earlier class.
     #[error("the parent of a class is not an earlier class")]
     BadParent { row: u32 },
-    /// the class has more than seven ancestors
+    /// The class has more than seven ancestors.
     #[error("a class is too deep below its root")]
     TooDeep { row: u32 },
-    /// more than 256 fields with the parent's, more than 53 methods, class row 1024, or kind row 256
+    /// More than 256 fields with the parent's, more than 53 methods, class row 1024, or kind row 256.
     #[error("a class has too many fields or methods, or there are too many rows")]
     TooMany { row: u32 },
-    /// a field, an element or a method names a class, kind, signature or function that is not there
+    /// A field, an element or a method names a class, kind, signature or function that is not there.
     #[error("a row names a class, kind, signature or function that is not there")]
     BadIndex { row: u32 },
-    /// fewer methods than the parent, or another signature in a slot of the parent's
+    /// Fewer methods than the parent, or another signature in a slot of the parent's.
     #[error("a class does not keep the methods of its parent")]
     BadMethod { row: u32 },
-    /// there was no memory for the tables
+    /// There was no memory for the tables.
     #[error("out of memory")]
     NoMemory,
 }

@@ -11,11 +11,11 @@ use std::marker::Model;
 #[derive(Drop)]
 pub(crate) struct LaidClass {
     pub(crate) row: ClassRow,
-    /// how many ancestors the class has, 0 to 7
+    /// How many ancestors the class has, 0 to 7.
     pub(crate) depth: u32,
-    /// the class at its depth, behind its ancestors at theirs
+    /// The class at its depth, behind its ancestors at theirs.
     pub(crate) lineage: [u32; 8],
-    /// the types of all fields, the parent's first
+    /// The types of all fields, the parent's first.
     pub(crate) fields: FieldList,
 }
 

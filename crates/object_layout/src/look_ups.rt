@@ -77,6 +77,7 @@ impl Shapes {
         ensures sound { first_fault self.now ≡ None }
         ensures laws { ClassLaws self.now }
     {
+        // A look at the table brings what holds of each table.
         let _classes = &self.classes;
     }
 

@@ -8,13 +8,13 @@ use std::marker::Model;
 /// its signature by the row's number.
 #[derive(Clone, Copy, Debug, PartialEq, Eq)]
 pub enum FieldTy {
-    /// a number of 32 bits
+    /// A number of 32 bits.
     Num,
-    /// null, or an object of the class or of one below it
+    /// Null, or an object of the class or of one below it.
     Ref(u32),
-    /// null, or an array of the kind
+    /// Null, or an array of the kind.
     ArrRef(u32),
-    /// null, or a function of the signature
+    /// Null, or a function of the signature.
     Fun(u32),
 }
 
