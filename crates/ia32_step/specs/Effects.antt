@@ -1,4 +1,5 @@
--- What an instruction does: to registers, flags and words, to the place of the next instruction, and what is left to the caller.
+-- What an instruction does: to registers, flags and words, where the next instruction stands, and what is left to the caller
+-- (Intel SDM vol. 2, the instruction reference: what each instruction's "Operation" and "Flags Affected" say).
 use Rattle.std.specs.Prelude.{ℕ, ◌+◌, ◌-◌, ◌%◌, ◌^◌, if◌then◌else◌, ℤ, List, slice_index, slice_set, Option, Some, None}
 use Rattle.std.specs.Int.{w32, cast_unsigned}
 use Rattle.ia32_code.specs.declared.instruction.Reg.{Reg}
@@ -17,7 +18,7 @@ use Rattle.ia32_step.specs.Sums.{alu_computed, and_of, inc_of, dec_of, neg_of, n
 use Rattle.ia32_step.specs.Shifts.{shift_computed}
 use Rattle.ia32_step.specs.Products.{mul_of, imul_wide_of, imul_of, div_of, idiv_of}
 use Rattle.ia32_step.specs.Conditions.{holds}
-use Rattle.ia32_step.specs.Operands.{WordState, set_register, set_word, place_of, read_word, put_word, put_computed, count_of}
+use Rattle.ia32_step.specs.Operands.{WordState, set_register, set_word, effective_address, read_word, put_word, put_computed, count_of}
 
 -- ---- EAX, EDX and ESP
 
@@ -37,7 +38,8 @@ set_wide high low regs = slice_set (slice_set regs 0 low) 2 high
 abbrev pub put_product : Product → WordState → WordState
 put_product p m = record m { regs = set_wide p.high p.low m.regs; flags = p.flags }
 
--- the quotient goes to EAX and the remainder to EDX; at the divide error nothing changes
+-- the quotient goes to EAX and the remainder to EDX; at the divide error nothing changes. Flags stay (this project's choice:
+-- the manual leaves them undefined after DIV and IDIV)
 abbrev pub put_quotient : Option Quotient → WordState → WordState
 put_quotient None m = m
 put_quotient (Some q) m = record m { regs = set_wide q.remainder q.quotient m.regs }
@@ -82,7 +84,7 @@ operated op dst src m = put_alu op dst (alu_computed op (read_word dst m) (read_
 abbrev pub done : Inst → WordState → WordState
 done (inst.Alu op dst src) m = operated op dst src m
 done (inst.Mov dst src) m = put_word dst (read_word src m) m
-done (inst.Lea dst src) m = put_word dst (place_of src m.regs) m
+done (inst.Lea dst src) m = put_word dst (effective_address src m.regs) m
 done (inst.Test dst src) m = record m { flags = (and_of (read_word dst m) (read_word src m)).flags }
 done (inst.Inc o) m = put_computed o (inc_of (read_word o m) m.flags) m
 done (inst.Dec o) m = put_computed o (dec_of (read_word o m) m.flags) m

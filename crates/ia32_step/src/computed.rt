@@ -1,5 +1,5 @@
 ghost use Rattle.std.specs.Prelude.{◌≡◌};
-ghost use Rattle.ia32_step.specs.Flags.{flagged};
+ghost use Rattle.ia32_step.specs.Flags.{is_negative, flagged};
 
 use stack_states::FlagBits;
 
@@ -8,6 +8,13 @@ use stack_states::FlagBits;
 pub(crate) struct Computed {
     pub(crate) value: u32,
     pub(crate) flags: FlagBits,
+}
+
+/// The highest bit of a word.
+pub(crate) fn is_negative(word: u32) -> bool
+    ensures { result ≡ is_negative word }
+{
+    word >= 0x8000_0000
 }
 
 /// A result with its flags, ZF and SF by the result.
@@ -19,7 +26,7 @@ pub(crate) fn flagged(value: u32, carry: bool, overflow: bool) -> Computed
         flags: FlagBits {
             carry,
             zero: value == 0,
-            sign: value >= 0x8000_0000,
+            sign: is_negative(value),
             overflow,
         },
     }

@@ -1,5 +1,5 @@
 ghost use Rattle.std.specs.Prelude.{◌≡◌, ℕ, ◌<◌, true};
-ghost use Rattle.ia32_step.specs.Operands.{state_of, register, part_of, address_of, place_of, read_word, put_word, put_computed, count_of};
+ghost use Rattle.ia32_step.specs.Operands.{state_of, register, part_of, address_of, effective_address, read_word, put_word, put_computed, count_of};
 ghost use Rattle.ia32_step.specs.Reaches.{IsReached, IsScaled};
 
 use crate::bus::Bus;
@@ -27,9 +27,9 @@ fn address(mem: &Mem, cpu: &Cpu) -> u32
 }
 
 /// The address of an operand in memory; 0 for another, which has none.
-pub(crate) fn place(operand: &Operand, cpu: &Cpu) -> u32
+pub(crate) fn effective_address(operand: &Operand, cpu: &Cpu) -> u32
     requires { IsScaled operand.now }
-    ensures { result ≡ place_of operand.now cpu.now.regs }
+    ensures { result ≡ effective_address operand.now cpu.now.regs }
 {
     match operand {
         Operand::M(mem) => address(mem, cpu),

@@ -1,4 +1,4 @@
-ghost use Rattle.std.specs.Prelude.{◌≡◌, ◌*ℤ◌};
+ghost use Rattle.std.specs.Prelude.{◌≡◌, ◌/◌, ◌%◌, ◌^◌, ◌*ℤ◌};
 ghost use Rattle.std.specs.Int.{w32};
 ghost use Rattle.std.specs.Int.RustNames.{FitsSigned};
 ghost use Rattle.ia32_step.specs.Flags.{signed, cut_off};
@@ -26,13 +26,19 @@ fn cut_off(over: bool, old: FlagBits) -> FlagBits
     }
 }
 
+/// The upper and the lower word of a number of 64 bits.
+fn halves(number: u64) -> (u32, u32)
+    ensures upper { result.0 ≡ number / 2 ^ 32 }
+    ensures lower { result.1 ≡ number % 2 ^ 32 }
+{
+    ((number >> 32) as u32, (number & 0xFFFF_FFFF) as u32)
+}
+
 #[tactic(auto, unfolding(crate::specs::Products::mul_of))]
 pub(crate) fn mul(a: u32, b: u32, old: FlagBits) -> Product
     ensures { result ≡ mul_of a b old }
 {
-    let product = a as u64 * b as u64;
-    let high = (product >> 32) as u32;
-    let low = (product & 0xFFFF_FFFF) as u32;
+    let (high, low) = halves(a as u64 * b as u64);
     Product {
         high,
         low,
@@ -59,9 +65,7 @@ fn signed_product(a: u32, b: u32) -> i64
 pub(crate) fn imul_wide(a: u32, b: u32, old: FlagBits) -> Product
     ensures { result ≡ imul_wide_of a b old }
 {
-    let product = signed_product(a, b).cast_unsigned();
-    let high = (product >> 32) as u32;
-    let low = (product & 0xFFFF_FFFF) as u32;
+    let (high, low) = halves(signed_product(a, b).cast_unsigned());
     Product {
         high,
         low,

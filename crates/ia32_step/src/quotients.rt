@@ -1,4 +1,4 @@
-ghost use Rattle.std.specs.Prelude.{◌≡◌, ◌≢◌, pos};
+ghost use Rattle.std.specs.Prelude.{◌≡◌, ◌≢◌, ◌+◌, ◌*◌, ◌^◌, pos};
 ghost use Rattle.std.specs.Int.{w32, cast_unsigned};
 ghost use Rattle.std.specs.Int.RustNames.{FitsSigned};
 ghost use Rattle.ia32_step.specs.Flags.{outside};
@@ -13,6 +13,13 @@ pub(crate) struct Quotient {
     pub(crate) remainder: u32,
 }
 
+/// The number of 64 bits with this upper and this lower word.
+fn wide(high: u32, low: u32) -> u64
+    ensures { result ≡ high * 2 ^ 32 + low }
+{
+    high as u64 * 0x1_0000_0000 + low as u64
+}
+
 /// The quotient of a dividend of two words; None at the divide error.
 #[tactic(auto, unfolding(crate::specs::Products::div_of))]
 pub(crate) fn div(high: u32, low: u32, by: u32) -> Option<Quotient>
@@ -21,7 +28,7 @@ pub(crate) fn div(high: u32, low: u32, by: u32) -> Option<Quotient>
     if by == 0 {
         return None;
     }
-    let dividend = high as u64 * 0x1_0000_0000 + low as u64;
+    let dividend = wide(high, low);
     let quotient = dividend / by as u64;
     if quotient > 0xFFFF_FFFF {
         return None;
@@ -69,6 +76,5 @@ pub(crate) fn idiv(high: u32, low: u32, by: u32) -> Option<Quotient>
     if by == 0 {
         return None;
     }
-    let dividend = (high as u64 * 0x1_0000_0000 + low as u64).cast_signed();
-    signed_quotient(dividend, signed_of(by))
+    signed_quotient(wide(high, low).cast_signed(), signed_of(by))
 }

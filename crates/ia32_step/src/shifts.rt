@@ -2,7 +2,7 @@ ghost use Rattle.std.specs.Prelude.{◌≡◌, ◌<◌, ◌*◌, ◌^◌};
 ghost use Rattle.ia32_step.specs.Flags.{bit};
 ghost use Rattle.ia32_step.specs.Shifts.{shl_of, shr_of, sar_of, shift_computed};
 
-use crate::computed::{Computed, flagged};
+use crate::computed::{Computed, flagged, is_negative};
 use ia32_code::Shift;
 use stack_states::FlagBits;
 
@@ -31,8 +31,7 @@ fn shl(a: u32, by: u32) -> Computed
 {
     let value = a << by;
     let carry = last_out(a, by);
-    let negative = value >= 0x8000_0000;
-    flagged(value, carry, by == 1 && negative != carry)
+    flagged(value, carry, by == 1 && is_negative(value) != carry)
 }
 
 #[tactic(auto, unfolding(crate::specs::Shifts::shr_of))]
@@ -41,7 +40,7 @@ fn shr(a: u32, by: u32) -> Computed
     requires below { by < 32 }
     ensures { result ≡ shr_of a by }
 {
-    flagged(a >> by, bit(a, by - 1), by == 1 && a >= 0x8000_0000)
+    flagged(a >> by, bit(a, by - 1), by == 1 && is_negative(a))
 }
 
 #[tactic(auto, unfolding(crate::specs::Shifts::sar_of))]

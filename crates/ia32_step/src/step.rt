@@ -9,17 +9,20 @@ use crate::bus::Bus;
 use crate::conditions::holds;
 use crate::cpu::{Cpu, EAX, EDX, ESP};
 use crate::effect::Effect;
-use crate::operands::{count, place, put, put_computed, read};
+use crate::operands::{count, effective_address, put, put_computed, read};
 use crate::products::{Product, imul, imul_wide, mul};
 use crate::quotients::{Quotient, div, idiv};
 use crate::shifts::shift;
 use crate::sums::{alu, and, dec, inc, neg, sign_of};
 use ia32_code::{Alu, Inst, Operand, Reg};
 
-/// Runs an instruction that is spelled with `len` bytes.
+/// Runs an instruction that is spelled with `len` bytes (Intel SDM vol. 2).
 ///
-/// After `Next` registers, flags and words are those of its effect, and `pc` is behind the instruction or at the target of
-/// the branch. After any other answer nothing has changed.
+/// The instruction has a spelling and is none of the system's, and each word that it reads or writes is mapped.
+///
+/// Answers `Fault(0)` at the divide error of DIV and IDIV, `Call` for a CALL, `Return` for RET, and else `Next`. After `Next`
+/// registers, flags and words are those of its effect, and `pc` is behind the instruction or at the target of the branch.
+/// After any other answer nothing has changed.
 pub fn exec<B: Bus>(cpu: &mut Cpu, bus: &mut B, inst: &Inst, len: u8) -> Effect
     requires spelled { Canonical inst.now ≢ None }
     requires runs { is_system inst.now ≡ false }
@@ -37,7 +40,7 @@ pub fn exec<B: Bus>(cpu: &mut Cpu, bus: &mut B, inst: &Inst, len: u8) -> Effect
     match *inst {
         Inst::Alu { op, dst, src } => operate(op, &dst, &src, cpu, bus),
         Inst::Mov { dst, src } => put(&dst, read(&src, cpu, bus), cpu, bus),
-        Inst::Lea { dst, src } => put(&dst, place(&src, cpu), cpu, bus),
+        Inst::Lea { dst, src } => put(&dst, effective_address(&src, cpu), cpu, bus),
         Inst::Test { dst, src } => {
             let computed = and(read(&dst, cpu, bus), read(&src, cpu, bus));
             cpu.flags = computed.flags;
@@ -72,7 +75,8 @@ pub fn exec<B: Bus>(cpu: &mut Cpu, bus: &mut B, inst: &Inst, len: u8) -> Effect
             put_computed(&dst, shifted, cpu, bus);
         }
         Inst::Cdq => cpu.regs[EDX] = sign_of(cpu.regs[EAX]),
-        Inst::Nop | Inst::Priv { .. } => {}
+        Inst::Nop => {}
+        Inst::Priv { .. } => unreachable!(),
         Inst::Push(word) => push(read(&word, cpu, bus), cpu, bus),
         Inst::Pop(to) => pop(to, cpu, bus),
         Inst::CallRel(distance) => return Effect::Call(target(next, distance)),

@@ -2,7 +2,7 @@ ghost use Rattle.std.specs.Prelude.{◌≡◌};
 ghost use Rattle.ia32_step.specs.Flags.{sign_of};
 ghost use Rattle.ia32_step.specs.Sums.{add_of, sub_of, and_of, or_of, xor_of, alu_computed, inc_of, dec_of, neg_of};
 
-use crate::computed::{Computed, flagged};
+use crate::computed::{Computed, flagged, is_negative};
 use ia32_code::Alu;
 use stack_states::FlagBits;
 
@@ -85,5 +85,5 @@ pub(crate) fn neg(a: u32) -> Computed
 pub(crate) fn sign_of(a: u32) -> u32
     ensures { result ≡ sign_of a }
 {
-    if a >= 0x8000_0000 { 0xFFFF_FFFF } else { 0 }
+    if is_negative(a) { 0xFFFF_FFFF } else { 0 }
 }

@@ -20,7 +20,8 @@ slice_get-set-other (y ∷ xs) (suc i) zero x differs = refl
 slice_get-set-other (y ∷ xs) (suc i) (suc j) x differs = slice_get-set-other xs i j x (λ e. differs (ap suc e))
 
 -- Where the first stack does not run, the running one is found among the others.
-pub current_of-tail : (x : StackState) (table : List StackState) (c : ℕ) → is_running x ≡ false → IsCurrent (x ∷ table) c → ((k : ℕ) → IsCurrent table k → current_of table ≡ k) → current_of (x ∷ table) ≡ c
+pub current_of-tail : (x : StackState) (table : List StackState) (c : ℕ) → is_running x ≡ false → IsCurrent (x ∷ table) c
+    → ((k : ℕ) → IsCurrent table k → current_of table ≡ k) → current_of (x ∷ table) ≡ c
 current_of-tail x table zero stands runs found =
     let same : x ≡ Running = let at : Some x ≡ Some Running = runs.0 in grind arith in
     let runs_too : is_running x ≡ true = ap is_running same in
@@ -53,7 +54,8 @@ IsCurrent-set table c s x runs other stands =
     alone t (inr differs) at = runs.1 t (sym (slice_get-set-other table s t x differs) ∙ at)
 
 -- Where the running stack gets another state and a second one runs, that one runs alone.
-pub IsCurrent-handed : (table : List StackState) (x : StackState) (c to : ℕ) → IsCurrent table c → x ≢ Running → to < length table → IsCurrent (slice_set (slice_set table c x) to Running) to
+pub IsCurrent-handed : (table : List StackState) (x : StackState) (c to : ℕ) → IsCurrent table c → x ≢ Running → to < length table
+    → IsCurrent (slice_set (slice_set table c x) to Running) to
 IsCurrent-handed table x c to runs stands exists =
     let exists' : to < length (slice_set table c x) = rw (length-set table c x) exists in
     (slice_get-set-same (slice_set table c x) to Running exists', λ s at. alone s (cases_eq s to) (cases_eq s c) at)

@@ -20,7 +20,8 @@ pub struct Entry {
     pub turn: u32,
     /// The stack that ran.
     pub stack: u16,
+    /// What happened to it.
     pub kind: EntryKind,
-    /// The reply of a call, the stack that was yielded to, the line, the vector, or what the stack ended with.
+    /// The reply of a call, the stack that was yielded to, the line, the vector, or 0 for an end.
     pub value: u32,
 }

@@ -30,7 +30,7 @@ impl Model for Stacks {
 }
 
 impl Stacks {
-    /// So many stacks: stack 0 runs and the others are empty.
+    /// So many stacks, 2 to 64: stack 0 runs and the others are empty. `NoMemory` where there is none for the table.
     pub fn new(alloc: Global, count: u32) -> Result<Stacks, NoMemory>
         requires some { 2 ≤ count }
         requires most { count ≤ MOST_STACKS }
@@ -57,7 +57,8 @@ impl Stacks {
         self.current
     }
 
-    /// The running stack yields, with this ESP and at this address, and `to` runs. Answers what `to` was.
+    /// The running stack yields, with this ESP and at this address, and `to`, another stack that exists, runs. Answers what
+    /// `to` was.
     pub fn switch(&mut self, to: u32, sp: u32, pc: u32) -> StackState
         requires exists { to < length self.old }
         requires other { to ≢ current_of self.old }
@@ -89,7 +90,7 @@ impl Stacks {
         self.hand_over(StackState::Empty, 0)
     }
 
-    /// Stack `s`, which does not run, becomes empty.
+    /// Stack `s`, which exists and does not run, becomes empty.
     pub fn reset(&mut self, s: u32)
         requires exists { s < length self.old }
         requires other { s ≢ current_of self.old }
