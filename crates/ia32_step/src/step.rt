@@ -2,7 +2,7 @@ ghost use Rattle.std.specs.Prelude.{◌≡◌, ◌≢◌, ℕ, ◌+◌, ◌%◌,
 ghost use Rattle.std.specs.Int.{w32, cast_unsigned};
 ghost use Rattle.ia32_code.specs.Canonical.{Canonical};
 ghost use Rattle.ia32_step.specs.Operands.{state_of};
-ghost use Rattle.ia32_step.specs.Effects.{set_wide, operated, pushed, popped, below_top, top_of, effect_of, after};
+ghost use Rattle.ia32_step.specs.Effects.{set_wide, operated, multiplied, pushed, popped, below_top, top_of, effect_of, after};
 ghost use Rattle.ia32_step.specs.Reaches.{is_system, Reaches, IsReached, IsScaled, HasScales};
 
 use crate::bus::Bus;
@@ -37,44 +37,35 @@ pub fn exec<B: Bus>(cpu: &mut Cpu, bus: &mut B, inst: &Inst, len: u8) -> Effect
 {
     scaled(inst);
     let mut next = cpu.pc.wrapping_add(len as u32);
+    let (eax, edx) = (cpu.regs[EAX], cpu.regs[EDX]);
     match *inst {
         Inst::Alu { op, dst, src } => operate(op, &dst, &src, cpu, bus),
         Inst::Mov { dst, src } => put(&dst, read(&src, cpu, bus), cpu, bus),
         Inst::Lea { dst, src } => put(&dst, effective_address(&src, cpu), cpu, bus),
         Inst::Test { dst, src } => {
-            let computed = and(read(&dst, cpu, bus), read(&src, cpu, bus));
-            cpu.flags = computed.flags;
+            cpu.flags = and(read(&dst, cpu, bus), read(&src, cpu, bus)).flags;
         }
         Inst::Inc(to) => put_computed(&to, inc(read(&to, cpu, bus), cpu.flags), cpu, bus),
         Inst::Dec(to) => put_computed(&to, dec(read(&to, cpu, bus), cpu.flags), cpu, bus),
         Inst::Not(to) => put(&to, !read(&to, cpu, bus), cpu, bus),
         Inst::Neg(to) => put_computed(&to, neg(read(&to, cpu, bus)), cpu, bus),
-        Inst::Mul(by) => put_product(mul(cpu.regs[EAX], read(&by, cpu, bus), cpu.flags), cpu),
-        Inst::Imul1(by) => put_product(
-            imul_wide(cpu.regs[EAX], read(&by, cpu, bus), cpu.flags),
-            cpu,
-        ),
-        Inst::Div(by) => match div(cpu.regs[EDX], cpu.regs[EAX], read(&by, cpu, bus)) {
+        Inst::Mul(by) => put_product(mul(eax, read(&by, cpu, bus), cpu.flags), cpu),
+        Inst::Imul1(by) => put_product(imul_wide(eax, read(&by, cpu, bus), cpu.flags), cpu),
+        Inst::Div(by) => match div(edx, eax, read(&by, cpu, bus)) {
             Some(quotient) => put_quotient(quotient, cpu),
             None => return Effect::Fault(0),
         },
-        Inst::Idiv(by) => match idiv(cpu.regs[EDX], cpu.regs[EAX], read(&by, cpu, bus)) {
+        Inst::Idiv(by) => match idiv(edx, eax, read(&by, cpu, bus)) {
             Some(quotient) => put_quotient(quotient, cpu),
             None => return Effect::Fault(0),
         },
-        Inst::Imul2 { dst, src } => {
-            let product = imul(read(&dst, cpu, bus), read(&src, cpu, bus), cpu.flags);
-            put_computed(&dst, product, cpu, bus);
-        }
-        Inst::Imul3 { dst, src, imm } => {
-            let product = imul(read(&src, cpu, bus), imm, cpu.flags);
-            put_computed(&dst, product, cpu, bus);
-        }
+        Inst::Imul2 { dst, src } => multiply(&dst, &dst, &src, cpu, bus),
+        Inst::Imul3 { dst, src, imm } => multiply(&dst, &src, &Operand::I(imm), cpu, bus),
         Inst::Shift { op, dst, by } => {
             let shifted = shift(op, read(&dst, cpu, bus), count(by, cpu), cpu.flags);
             put_computed(&dst, shifted, cpu, bus);
         }
-        Inst::Cdq => cpu.regs[EDX] = sign_of(cpu.regs[EAX]),
+        Inst::Cdq => cpu.regs[EDX] = sign_of(eax),
         Inst::Nop => {}
         Inst::Priv { .. } => unreachable!(),
         Inst::Push(word) => push(read(&word, cpu, bus), cpu, bus),
@@ -83,11 +74,8 @@ pub fn exec<B: Bus>(cpu: &mut Cpu, bus: &mut B, inst: &Inst, len: u8) -> Effect
         Inst::CallAt(function) => return Effect::Call(read(&function, cpu, bus)),
         Inst::Ret => return Effect::Return,
         Inst::Jmp(distance) => next = target(next, distance),
-        Inst::Jcc(cond, distance) => {
-            if holds(cond, cpu.flags) {
-                next = target(next, distance);
-            }
-        }
+        Inst::Jcc(cond, distance) if holds(cond, cpu.flags) => next = target(next, distance),
+        Inst::Jcc(..) => {}
     }
     cpu.pc = next;
     Effect::Next
@@ -124,6 +112,22 @@ fn operate<B: Bus>(op: Alu, dst: &Operand, src: &Operand, cpu: &mut Cpu, bus: &m
             dst, computed, cpu, bus,
         ),
     }
+}
+
+/// Puts the lower word of the product of two operands into `dst`.
+fn multiply<B: Bus>(dst: &Operand, a: &Operand, b: &Operand, cpu: &mut Cpu, bus: &mut B)
+    requires scaled { IsScaled dst.now × IsScaled a.now × IsScaled b.now }
+    requires reached { IsReached dst.now (state_of cpu.old (B.word_at bus.old)) (B.is_mapped bus.old) }
+    requires read { IsReached a.now (state_of cpu.old (B.word_at bus.old)) (B.is_mapped bus.old) × IsReached b.now (state_of cpu.old (B.word_at bus.old)) (B.is_mapped bus.old) }
+
+    ensures regs { cpu.new.regs ≡ (multiplied dst.now a.now b.now (state_of cpu.old (B.word_at bus.old))).regs }
+    ensures flags { cpu.new.flags ≡ (multiplied dst.now a.now b.now (state_of cpu.old (B.word_at bus.old))).flags }
+    ensures pc { cpu.new.pc ≡ cpu.old.pc }
+    ensures words { (a' : ℕ) → B.word_at bus.new a' ≡ (multiplied dst.now a.now b.now (state_of cpu.old (B.word_at bus.old))).memory a' }
+    ensures mapped { (a' : ℕ) → B.is_mapped bus.new a' ≡ B.is_mapped bus.old a' }
+{
+    let product = imul(read(a, cpu, bus), read(b, cpu, bus), cpu.flags);
+    put_computed(dst, product, cpu, bus);
 }
 
 /// Puts a product into EDX and EAX and sets its flags.
