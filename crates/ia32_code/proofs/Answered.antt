@@ -47,11 +47,12 @@ front_parts bytes t rest i e s =
     }
 
 -- bytes at whose front the reader finds an instruction
-pub front_of : (bytes : List ℕ) (i : Inst) (rest : List ℕ) → ((k : ℕ) → get_or bytes k 0 < 256) → instruction_at bytes ≡ Ok (i, rest) → FrontOf bytes i rest
-front_of bytes i rest fits e = let f = front bytes i rest (bytes_fit bytes fits) e in front_parts bytes f.0 rest i f.1 f.2
+pub front_facts : (bytes : List ℕ) (i : Inst) (rest : List ℕ) → ((k : ℕ) → get_or bytes k 0 < 256) → instruction_at bytes ≡ Ok (i, rest) → FrontOf bytes i rest
+front_facts bytes i rest fits e = let f = front bytes i rest (bytes_fit bytes fits) e in front_parts bytes f.0 rest i f.1 f.2
 
 -- what is read is what is spelled
-pub read_is : (bytes : List ℕ) (i : Inst) (rest t more : List ℕ) (j : Inst) → instruction_at bytes ≡ Ok (i, rest) → Spells t j → bytes ≡ t ++ more → (i ≡ j) × (length bytes - length rest ≡ length t)
+pub read_is : (bytes : List ℕ) (i : Inst) (rest t more : List ℕ) (j : Inst) → instruction_at bytes ≡ Ok (i, rest) → Spells t j → bytes ≡ t ++ more
+    → (i ≡ j) × (length bytes - length rest ≡ length t)
 read_is bytes i rest t more j e s parts =
     let k : (i, rest) ≡ (j, more) = ok_is (i, rest) (j, more) (sym e ∙ ap instruction_at parts ∙ spelled_again t more j s) in
     let r : rest ≡ more = ap (λ (x : Inst × List ℕ). x.1) k in
@@ -74,7 +75,8 @@ cut_at bytes fits e =
     let g = goes_on bytes (bytes_fit bytes fits) e in (
       (g.1, g.0, g.2, g.3),
       λ h.
-          let again : instruction_at bytes ≡ Ok (h.0, drop h.1 bytes) = ap instruction_at (sym (take-append-drop h.1 bytes)) ∙ spelled_again (take h.1 bytes) (drop h.1 bytes) h.0 h.2 in
+          let again : instruction_at bytes ≡ Ok (h.0, drop h.1 bytes) = ap instruction_at (sym (take-append-drop h.1 bytes))
+          ∙ spelled_again (take h.1 bytes) (drop h.1 bytes) h.0 h.2 in
           cc,
     )
 

@@ -30,7 +30,8 @@ jmp_word n lt = own row.JmpWord n (ap (λ (x : ℕ). Some (without_modrm row.Jmp
 
 -- and so is the long branch
 jcc_word : (cc : Cond) (n : ℕ) → n < 2 ^ 32 → IsFirst (without_modrm (row.JccWord cc) n)
-jcc_word cc n lt = own (row.JccWord cc) n (ap (λ (x : ℕ). Some (without_modrm (row.JccWord cc) x)) (of_z-to_z w32 n lt)) (record { row = refl; modrm = (refl, refl); trailing = lt })
+jcc_word cc n lt =
+    own (row.JccWord cc) n (ap (λ (x : ℕ). Some (without_modrm (row.JccWord cc) x)) (of_z-to_z w32 n lt)) (record { row = refl; modrm = (refl, refl); trailing = lt })
 
 -- a short branch has the long one of the same distance
 jmp_byte : (n : ℕ) → n < 256 → IsFirst (without_modrm row.JmpByte n)
@@ -60,6 +61,7 @@ not_bare op h = at_one (λ n. among priv_bare n ≡ false) priv_with_byte op (re
 
 -- ---- one operand, by a digit
 
+-- the rows with a digit and one operand, one by one
 not_unary : IsUnary row.Not 2 (λ o. inst.Not o)
 not_unary = record { means = λ r f n. refl; fit = λ f h. record { row = refl; modrm = (h, refl); trailing = refl }; len = λ f. simp length-append (omega arith) }
 
@@ -130,5 +132,8 @@ is_first row.JmpWord r f n h = at_bare row.JmpWord r f n n h.modrm refl (jmp_wor
 is_first row.JmpByte r f n h = at_bare row.JmpByte r f n n h.modrm refl (jmp_byte n h.trailing)
 is_first (row.JccWord cc) r f n h = at_bare (row.JccWord cc) r f n n h.modrm refl (jcc_word cc n h.trailing)
 is_first (row.JccByte cc) r f n h = at_bare (row.JccByte cc) r f n n h.modrm refl (jcc_byte cc n h.trailing)
-is_first (row.PrivBare op) r f n h = at_bare (row.PrivBare op) r f n 0 h.modrm h.trailing (own (row.PrivBare op) 0 (rw h.row refl) (record { row = h.row; modrm = (refl, refl); trailing = refl }))
-is_first (row.PrivByte op) r f n h = at_bare (row.PrivByte op) r f n n h.modrm refl (own (row.PrivByte op) n (rw (not_bare op h.row, h.row) refl) (record { row = h.row; modrm = (refl, refl); trailing = h.trailing }))
+is_first (row.PrivBare op) r f n h =
+    at_bare (row.PrivBare op) r f n 0 h.modrm h.trailing (own (row.PrivBare op) 0 (rw h.row refl) (record { row = h.row; modrm = (refl, refl); trailing = refl }))
+is_first (row.PrivByte op) r f n h =
+    at_bare (row.PrivByte op) r f n n h.modrm refl
+    (own (row.PrivByte op) n (rw (not_bare op h.row, h.row) refl) (record { row = h.row; modrm = (refl, refl); trailing = h.trailing }))

@@ -30,7 +30,8 @@ use Rattle.ia32_code.proofs.FirstArithmetic.{imm_of, test_of_imm, imul_of_imm, s
 use Rattle.ia32_code.proofs.FirstMoves.{memory_as}
 
 -- an operand without base and index is a word alone, by its parts
-alone_parts : (base index : Option Reg) (s d : ℕ) → is_absolute (record { base = base; index = index; scale = s; disp = d }) ≡ true → M (record { base = base; index = index; scale = s; disp = d }) ≡ operand (Absolute d)
+alone_parts : (base index : Option Reg) (s d : ℕ) → is_absolute (record { base = base; index = index; scale = s; disp = d }) ≡ true
+    → M (record { base = base; index = index; scale = s; disp = d }) ≡ operand (Absolute d)
 alone_parts None None s d h = ap (λ (x : ℕ). M (record { base = None; index = None; scale = x; disp = d })) (eqb-true s 0 h)
 alone_parts None (Some i) s d h = absurd cc
 alone_parts (Some b) None s d h = absurd cc
@@ -56,10 +57,12 @@ some_if true x y e = (refl, cc)
 some_if false x y e = absurd cc
 
 -- the shortest form of an operand in memory is a form of it, by its parts
-memory_fits : (base index : Option Reg) (s d : ℕ) (f : OperandForm) → d < 2 ^ 32 → memory_form base index s d ≡ Some f → FormFits f × (operand f ≡ M (record { base = base; index = index; scale = s; disp = d }))
+memory_fits : (base index : Option Reg) (s d : ℕ) (f : OperandForm) → d < 2 ^ 32 → memory_form base index s d ≡ Some f
+    → FormFits f × (operand f ≡ M (record { base = base; index = index; scale = s; disp = d }))
 memory_fits None None s d f lt e =
     let k = some_if (eqb s 0) (Absolute d) f e in
-    subst (λ x. FormFits x × (operand x ≡ M (record { base = None; index = None; scale = s; disp = d }))) k.1 (lt, ap (λ (x : ℕ). M (record { base = None; index = None; scale = x; disp = d })) (sym (eqb-true s 0 k.0)))
+    subst (λ x. FormFits x × (operand x ≡ M (record { base = None; index = None; scale = s; disp = d }))) k.1
+    (lt, ap (λ (x : ℕ). M (record { base = None; index = None; scale = x; disp = d })) (sym (eqb-true s 0 k.0)))
 memory_fits None (Some i) s d f lt e =
     let k = some_if (usable i s) (Unbased s i d) f e in
     let u = usable_is i s k.0 in
@@ -95,7 +98,8 @@ abbrev Good : Spelling → Inst → Type 0
 Good s i = Filled s × (meaning s ≡ i)
 
 -- a row filled with the shortest form
-via : (o : Operand) (g : OperandForm → Spelling) (make : Operand → Inst) (s : Spelling) → OperandInRange o → ((f : OperandForm) → FormFits f → operand f ≡ o → Good (g f) (make (operand f))) → with_form (shortest_form o) g ≡ Some s → Good s (make o)
+via : (o : Operand) (g : OperandForm → Spelling) (make : Operand → Inst) (s : Spelling) → OperandInRange o
+    → ((f : OperandForm) → FormFits f → operand f ≡ o → Good (g f) (make (operand f))) → with_form (shortest_form o) g ≡ Some s → Good s (make o)
 via o g make s h each e =
     let w = with_some (shortest_form o) g s e in
     let k = form_fits o w.0 h w.1 in
@@ -138,12 +142,15 @@ mov_store_fits r m s h e =
 push_fits : (n : ℕ) (s : Spelling) → n < 2 ^ 32 → push_of (I n) ≡ Some s → Good s (inst.Push (I n))
 push_fits n s lt e =
     elim (cases_Bool (fits_byte n)) [
-      | inl t ↦ exact (without_modrm row.PushByte (n % 256)) s (inst.Push (I n)) (record { row = refl; modrm = (refl, refl); trailing = omega arith }, ap (λ (x : ℕ). inst.Push (I x)) (eqb-true (sign_extended (n % 256)) n t)) (rw t at e)
+      | inl t ↦ exact (without_modrm row.PushByte (n % 256)) s (inst.Push (I n))
+          (record { row = refl; modrm = (refl, refl); trailing = omega arith }, ap (λ (x : ℕ). inst.Push (I x)) (eqb-true (sign_extended (n % 256)) n t))
+          (rw t at e)
       | inr t ↦ exact (without_modrm row.PushWord n) s (inst.Push (I n)) (record { row = refl; modrm = (refl, refl); trailing = lt }, refl) (rw t at e)
     ]
 
 -- a shift by a byte
-shift_fits : (op : Shift) (f : OperandForm) (n : ℕ) → FormFits f → n < 256 → Good (cond (eqb n 1) (fill (row.ShiftOne op) (reg (shift_number op)) f 0) (fill (row.ShiftBy op) (reg (shift_number op)) f n)) (inst.Shift op (operand f) (By n))
+shift_fits : (op : Shift) (f : OperandForm) (n : ℕ) → FormFits f → n < 256
+    → Good (cond (eqb n 1) (fill (row.ShiftOne op) (reg (shift_number op)) f 0) (fill (row.ShiftBy op) (reg (shift_number op)) f n)) (inst.Shift op (operand f) (By n))
 shift_fits op f n ff lt =
     elim (cases_Bool (eqb n 1)) [
       | inl t ↦ rw t (record { row = refl; modrm = (ff, shift_back op); trailing = refl }, ap (λ (x : ℕ). inst.Shift op (operand f) (By x)) (sym (eqb-true n 1 t)))
@@ -156,7 +163,8 @@ priv_fits op arg s h e =
     elim (cases_Bool (among priv_bare op && eqb arg 0)) [
       | inl t ↦
           let two = both_true (among priv_bare op) (eqb arg 0) t in
-          exact (without_modrm (row.PrivBare op) 0) s (inst.Priv op arg) (record { row = two.0; modrm = (refl, refl); trailing = refl }, ap (λ (x : ℕ). inst.Priv op x) (sym (eqb-true arg 0 two.1))) (rw t at e)
+          exact (without_modrm (row.PrivBare op) 0) s (inst.Priv op arg)
+          (record { row = two.0; modrm = (refl, refl); trailing = refl }, ap (λ (x : ℕ). inst.Priv op x) (sym (eqb-true arg 0 two.1))) (rw t at e)
       | inr t ↦
           let k = some_if (among priv_with_byte op) (without_modrm (row.PrivByte op) arg) s (rw t at e) in
           subst (λ x. Good x (inst.Priv op arg)) k.1 (record { row = k.0; modrm = (refl, refl); trailing = h.1 }, refl)
@@ -164,34 +172,42 @@ priv_fits op arg s h e =
 
 -- the chosen row is filled, and means the instruction
 pub chosen_fits : (i : Inst) (s : Spelling) → InstInRange i → canonical_row i ≡ Some s → Filled s × (meaning s ≡ i)
-chosen_fits (inst.Alu op dst (R r)) s h e = via dst (λ f. fill (row.AluStore op) r f 0) (λ o. inst.Alu op o (R r)) s h.0 (λ f ff q. (record { row = refl; modrm = ff; trailing = refl }, refl)) e
+chosen_fits (inst.Alu op dst (R r)) s h e =
+    via dst (λ f. fill (row.AluStore op) r f 0) (λ o. inst.Alu op o (R r)) s h.0 (λ f ff q. (record { row = refl; modrm = ff; trailing = refl }, refl)) e
 chosen_fits (inst.Alu op dst (I n)) s h e = via dst (alu_imm op n) (λ o. inst.Alu op o (I n)) s h.0 (λ f ff q. let k = imm_of op n f ff h.1 in (k.fits, k.same)) e
-chosen_fits (inst.Alu op (R r) (M m)) s h e = via (M m) (λ f. fill (row.AluLoad op) r f 0) (λ o. inst.Alu op (R r) o) s h.1 (λ f ff q. (record { row = refl; modrm = ff; trailing = refl }, refl)) e
+chosen_fits (inst.Alu op (R r) (M m)) s h e =
+    via (M m) (λ f. fill (row.AluLoad op) r f 0) (λ o. inst.Alu op (R r) o) s h.1 (λ f ff q. (record { row = refl; modrm = ff; trailing = refl }, refl)) e
 chosen_fits (inst.Alu op (M k) (M m)) s h e = absurd cc
 chosen_fits (inst.Alu op (I k) (M m)) s h e = absurd cc
 chosen_fits (inst.Mov (R d) (R r)) s h e = exact _ s _ (record { row = refl; modrm = tt; trailing = refl }, refl) e
 chosen_fits (inst.Mov (R d) (I n)) s h e = exact _ s _ (record { row = refl; modrm = (refl, refl); trailing = h.1 }, refl) e
 chosen_fits (inst.Mov (R d) (M m)) s h e = mov_load_fits d m s h.1 e
 chosen_fits (inst.Mov (M m) (R r)) s h e = mov_store_fits r m s h.0 e
-chosen_fits (inst.Mov (M m) (I n)) s h e = via (M m) (λ f. fill row.MovWord Eax f n) (λ o. inst.Mov o (I n)) s h.0 (λ f ff q. (record { row = refl; modrm = (ff, refl); trailing = h.1 }, refl)) e
+chosen_fits (inst.Mov (M m) (I n)) s h e =
+    via (M m) (λ f. fill row.MovWord Eax f n) (λ o. inst.Mov o (I n)) s h.0 (λ f ff q. (record { row = refl; modrm = (ff, refl); trailing = h.1 }, refl)) e
 chosen_fits (inst.Mov (M m) (M k)) s h e = absurd cc
 chosen_fits (inst.Mov (I n) src) s h e = absurd cc
-chosen_fits (inst.Lea (R d) (M m)) s h e = via (M m) (λ f. fill row.Lea d f 0) (λ o. inst.Lea (R d) o) s h.1 (λ f ff q. (record { row = refl; modrm = (ff, memory_as f m q); trailing = refl }, refl)) e
+chosen_fits (inst.Lea (R d) (M m)) s h e =
+    via (M m) (λ f. fill row.Lea d f 0) (λ o. inst.Lea (R d) o) s h.1 (λ f ff q. (record { row = refl; modrm = (ff, memory_as f m q); trailing = refl }, refl)) e
 chosen_fits (inst.Lea (R d) (R r)) s h e = absurd cc
 chosen_fits (inst.Lea (R d) (I n)) s h e = absurd cc
 chosen_fits (inst.Lea (M m) src) s h e = absurd cc
 chosen_fits (inst.Lea (I n) src) s h e = absurd cc
-chosen_fits (inst.Test dst (R r)) s h e = via dst (λ f. fill row.TestStore r f 0) (λ o. inst.Test o (R r)) s h.0 (λ f ff q. (record { row = refl; modrm = ff; trailing = refl }, refl)) e
+chosen_fits (inst.Test dst (R r)) s h e =
+    via dst (λ f. fill row.TestStore r f 0) (λ o. inst.Test o (R r)) s h.0 (λ f ff q. (record { row = refl; modrm = ff; trailing = refl }, refl)) e
 chosen_fits (inst.Test dst (I n)) s h e = via dst (test_imm n) (λ o. inst.Test o (I n)) s h.0 (λ f ff q. let k = test_of_imm n f ff h.1 in (k.fits, k.same)) e
 chosen_fits (inst.Test dst (M m)) s h e = absurd cc
 chosen_fits (inst.Inc (R r)) s h e = exact _ s _ (record { row = refl; modrm = (refl, refl); trailing = refl }, refl) e
-chosen_fits (inst.Inc (M m)) s h e = via (M m) (λ f. fill row.Inc (reg 0) f 0) (λ o. inst.Inc o) s h (λ f ff q. (record { row = refl; modrm = (ff, refl); trailing = refl }, refl)) e
+chosen_fits (inst.Inc (M m)) s h e =
+    via (M m) (λ f. fill row.Inc (reg 0) f 0) (λ o. inst.Inc o) s h (λ f ff q. (record { row = refl; modrm = (ff, refl); trailing = refl }, refl)) e
 chosen_fits (inst.Inc (I n)) s h e = absurd cc
 chosen_fits (inst.Dec (R r)) s h e = exact _ s _ (record { row = refl; modrm = (refl, refl); trailing = refl }, refl) e
-chosen_fits (inst.Dec (M m)) s h e = via (M m) (λ f. fill row.Dec (reg 1) f 0) (λ o. inst.Dec o) s h (λ f ff q. (record { row = refl; modrm = (ff, refl); trailing = refl }, refl)) e
+chosen_fits (inst.Dec (M m)) s h e =
+    via (M m) (λ f. fill row.Dec (reg 1) f 0) (λ o. inst.Dec o) s h (λ f ff q. (record { row = refl; modrm = (ff, refl); trailing = refl }, refl)) e
 chosen_fits (inst.Dec (I n)) s h e = absurd cc
 chosen_fits (inst.Push (R r)) s h e = exact _ s _ (record { row = refl; modrm = (refl, refl); trailing = refl }, refl) e
-chosen_fits (inst.Push (M m)) s h e = via (M m) (λ f. fill row.Push (reg 6) f 0) (λ o. inst.Push o) s h (λ f ff q. (record { row = refl; modrm = (ff, refl); trailing = refl }, refl)) e
+chosen_fits (inst.Push (M m)) s h e =
+    via (M m) (λ f. fill row.Push (reg 6) f 0) (λ o. inst.Push o) s h (λ f ff q. (record { row = refl; modrm = (ff, refl); trailing = refl }, refl)) e
 chosen_fits (inst.Push (I n)) s h e = push_fits n s h e
 chosen_fits (inst.Not o) s h e = via o (λ f. fill row.Not (reg 2) f 0) (λ x. inst.Not x) s h (λ f ff q. (record { row = refl; modrm = (ff, refl); trailing = refl }, refl)) e
 chosen_fits (inst.Neg o) s h e = via o (λ f. fill row.Neg (reg 3) f 0) (λ x. inst.Neg x) s h (λ f ff q. (record { row = refl; modrm = (ff, refl); trailing = refl }, refl)) e
@@ -199,15 +215,21 @@ chosen_fits (inst.Mul o) s h e = via o (λ f. fill row.Mul (reg 4) f 0) (λ x. i
 chosen_fits (inst.Imul1 o) s h e = via o (λ f. fill row.Imul1 (reg 5) f 0) (λ x. inst.Imul1 x) s h (λ f ff q. (record { row = refl; modrm = (ff, refl); trailing = refl }, refl)) e
 chosen_fits (inst.Div o) s h e = via o (λ f. fill row.Div (reg 6) f 0) (λ x. inst.Div x) s h (λ f ff q. (record { row = refl; modrm = (ff, refl); trailing = refl }, refl)) e
 chosen_fits (inst.Idiv o) s h e = via o (λ f. fill row.Idiv (reg 7) f 0) (λ x. inst.Idiv x) s h (λ f ff q. (record { row = refl; modrm = (ff, refl); trailing = refl }, refl)) e
-chosen_fits (inst.CallAt o) s h e = via o (λ f. fill row.CallAt (reg 2) f 0) (λ x. inst.CallAt x) s h (λ f ff q. (record { row = refl; modrm = (ff, refl); trailing = refl }, refl)) e
-chosen_fits (inst.Imul2 (R d) src) s h e = via src (λ f. fill row.Imul2 d f 0) (λ o. inst.Imul2 (R d) o) s h.1 (λ f ff q. (record { row = refl; modrm = ff; trailing = refl }, refl)) e
+chosen_fits (inst.CallAt o) s h e =
+    via o (λ f. fill row.CallAt (reg 2) f 0) (λ x. inst.CallAt x) s h (λ f ff q. (record { row = refl; modrm = (ff, refl); trailing = refl }, refl)) e
+chosen_fits (inst.Imul2 (R d) src) s h e =
+    via src (λ f. fill row.Imul2 d f 0) (λ o. inst.Imul2 (R d) o) s h.1 (λ f ff q. (record { row = refl; modrm = ff; trailing = refl }, refl)) e
 chosen_fits (inst.Imul2 (M m) src) s h e = absurd cc
 chosen_fits (inst.Imul2 (I n) src) s h e = absurd cc
 chosen_fits (inst.Imul3 (R d) src n) s h e = via src (imul_imm n d) (λ o. inst.Imul3 (R d) o n) s h.1 (λ f ff q. let k = imul_of_imm n d f ff h.2 in (k.fits, k.same)) e
 chosen_fits (inst.Imul3 (M m) src n) s h e = absurd cc
 chosen_fits (inst.Imul3 (I k) src n) s h e = absurd cc
-chosen_fits (inst.Shift op o Cl) s h e = via o (λ f. fill (row.ShiftCl op) (reg (shift_number op)) f 0) (λ x. inst.Shift op x Cl) s h.0 (λ f ff q. (record { row = refl; modrm = (ff, shift_back op); trailing = refl }, refl)) e
-chosen_fits (inst.Shift op o (By n)) s h e = via o (λ f. cond (eqb n 1) (fill (row.ShiftOne op) (reg (shift_number op)) f 0) (fill (row.ShiftBy op) (reg (shift_number op)) f n)) (λ x. inst.Shift op x (By n)) s h.0 (λ f ff q. shift_fits op f n ff h.1) e
+chosen_fits (inst.Shift op o Cl) s h e =
+    via o (λ f. fill (row.ShiftCl op) (reg (shift_number op)) f 0) (λ x. inst.Shift op x Cl) s h.0
+    (λ f ff q. (record { row = refl; modrm = (ff, shift_back op); trailing = refl }, refl)) e
+chosen_fits (inst.Shift op o (By n)) s h e =
+    via o (λ f. cond (eqb n 1) (fill (row.ShiftOne op) (reg (shift_number op)) f 0) (fill (row.ShiftBy op) (reg (shift_number op)) f n))
+    (λ x. inst.Shift op x (By n)) s h.0 (λ f ff q. shift_fits op f n ff h.1) e
 chosen_fits inst.Cdq s h e = exact _ s _ (record { row = refl; modrm = (refl, refl); trailing = refl }, refl) e
 chosen_fits inst.Nop s h e = exact _ s _ (record { row = refl; modrm = (refl, refl); trailing = refl }, refl) e
 chosen_fits inst.Ret s h e = exact _ s _ (record { row = refl; modrm = (refl, refl); trailing = refl }, refl) e

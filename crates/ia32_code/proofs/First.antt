@@ -74,7 +74,8 @@ at_digit w g r f n m d z k =
     subst (λ (x : Reg). IsFirst (fill w x f n)) (ap reg (sym d) ∙ reg-number r) (subst (λ (y : ℕ). IsFirst (fill w (reg g) f y)) (sym z) k)
 
 -- the same of what precedes
-pub precedes_at : (w v : Row) (g : ℕ) (r q : Reg) (f h : OperandForm) (n m : ℕ) → number r ≡ g → Precedes (fill v q h m) (fill w (reg g) f n) → Precedes (fill v q h m) (fill w r f n)
+pub precedes_at : (w v : Row) (g : ℕ) (r q : Reg) (f h : OperandForm) (n m : ℕ) → number r ≡ g → Precedes (fill v q h m) (fill w (reg g) f n)
+    → Precedes (fill v q h m) (fill w r f n)
 precedes_at w v g r q f h n m d k = subst (λ (x : Reg). Precedes (fill v q h m) (fill w x f n)) (ap reg (sym d) ∙ reg-number r) k
 
 -- a number that is not spelled is 0

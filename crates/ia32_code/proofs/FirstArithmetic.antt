@@ -75,7 +75,8 @@ imm_of op n f h lt =
         | inr z ↦ rw (far, z) (record {
           fits = record { row = refl; modrm = (h, digit); trailing = lt };
           same = refl;
-          first = λ r g d b. precedes_at (row.AluWord op) (row.AluWord op) (alu_number op) r (reg (alu_number op)) g f n n d (by_better (row.AluWord op) (reg (alu_number op)) n 6 f g (λ y. simp length-append (omega arith)) b);
+          first = λ r g d b. precedes_at (row.AluWord op) (row.AluWord op) (alu_number op) r (reg (alu_number op)) g f n n d
+              (by_better (row.AluWord op) (reg (alu_number op)) n 6 f g (λ y. simp length-append (omega arith)) b);
         })
       ]
     ]
@@ -132,11 +133,17 @@ alu_eax op n lt =
 
 -- `01` to `39`
 pub alu_store : (op : Alu) (r : Reg) (f : OperandForm) → FormFits f → IsFirst (fill (row.AluStore op) r f 0)
-alu_store op r f h = by_form (row.AluStore op) r 0 2 (λ o. inst.Alu op o (R r)) f refl (λ y. refl) (λ y fits e. record { row = refl; modrm = fits; trailing = refl }) (λ y. simp length-append (omega arith)) h
+alu_store op r f h =
+    by_form (row.AluStore op) r 0 2 (λ o. inst.Alu op o (R r)) f refl (λ y. refl) (λ y fits e. record { row = refl; modrm = fits; trailing = refl })
+    (λ y. simp length-append (omega arith)) h
 
 -- `03` to `3B` with an operand in memory
-alu_load_memory : (op : Alu) (r : Reg) (f : OperandForm) → canonical_row (inst.Alu op (R r) (operand f)) ≡ with_form (shortest_form (operand f)) (λ y. fill (row.AluLoad op) r y 0) → FormFits f → IsFirst (fill (row.AluLoad op) r f 0)
-alu_load_memory op r f canon h = by_form (row.AluLoad op) r 0 2 (λ o. inst.Alu op (R r) o) f canon (λ y. refl) (λ y fits e. record { row = refl; modrm = fits; trailing = refl }) (λ y. simp length-append (omega arith)) h
+alu_load_memory : (op : Alu) (r : Reg) (f : OperandForm)
+    → canonical_row (inst.Alu op (R r) (operand f)) ≡ with_form (shortest_form (operand f)) (λ y. fill (row.AluLoad op) r y 0) → FormFits f
+    → IsFirst (fill (row.AluLoad op) r f 0)
+alu_load_memory op r f canon h =
+    by_form (row.AluLoad op) r 0 2 (λ o. inst.Alu op (R r) o) f canon (λ y. refl) (λ y fits e. record { row = refl; modrm = fits; trailing = refl })
+    (λ y. simp length-append (omega arith)) h
 
 -- `03` to `3B`
 pub alu_load : (op : Alu) (r : Reg) (f : OperandForm) → FormFits f → IsFirst (fill (row.AluLoad op) r f 0)
@@ -191,13 +198,17 @@ test_word r f n h d lt =
 
 -- `85`
 pub test_store : (r : Reg) (f : OperandForm) → FormFits f → IsFirst (fill row.TestStore r f 0)
-test_store r f h = by_form row.TestStore r 0 2 (λ o. inst.Test o (R r)) f refl (λ y. refl) (λ y fits e. record { row = refl; modrm = fits; trailing = refl }) (λ y. simp length-append (omega arith)) h
+test_store r f h =
+    by_form row.TestStore r 0 2 (λ o. inst.Test o (R r)) f refl (λ y. refl) (λ y fits e. record { row = refl; modrm = fits; trailing = refl })
+    (λ y. simp length-append (omega arith)) h
 
 -- ---- IMUL
 
 -- `0F AF`
 pub imul2 : (r : Reg) (f : OperandForm) → FormFits f → IsFirst (fill row.Imul2 r f 0)
-imul2 r f h = by_form row.Imul2 r 0 3 (λ o. inst.Imul2 (R r) o) f refl (λ y. refl) (λ y fits e. record { row = refl; modrm = fits; trailing = refl }) (λ y. simp length-append (omega arith)) h
+imul2 r f h =
+    by_form row.Imul2 r 0 3 (λ o. inst.Imul2 (R r) o) f refl (λ y. refl) (λ y fits e. record { row = refl; modrm = fits; trailing = refl })
+    (λ y. simp length-append (omega arith)) h
 
 -- what is said of the chosen row of IMUL with an immediate
 pub record ImulOf (n : ℕ) (d : Reg) (f : OperandForm) (s : Spelling) : Type 0 where
@@ -251,11 +262,15 @@ imul_byte d f n h lt =
 
 -- `D1`
 pub shift_one : (op : Shift) (f : OperandForm) → FormFits f → IsFirst (fill (row.ShiftOne op) (reg (shift_number op)) f 0)
-shift_one op f h = by_form (row.ShiftOne op) (reg (shift_number op)) 0 2 (λ o. inst.Shift op o (By 1)) f refl (λ y. refl) (λ y fits e. record { row = refl; modrm = (fits, shift_back op); trailing = refl }) (λ y. simp length-append (omega arith)) h
+shift_one op f h =
+    by_form (row.ShiftOne op) (reg (shift_number op)) 0 2 (λ o. inst.Shift op o (By 1)) f refl (λ y. refl)
+    (λ y fits e. record { row = refl; modrm = (fits, shift_back op); trailing = refl }) (λ y. simp length-append (omega arith)) h
 
 -- `D3`
 pub shift_cl : (op : Shift) (f : OperandForm) → FormFits f → IsFirst (fill (row.ShiftCl op) (reg (shift_number op)) f 0)
-shift_cl op f h = by_form (row.ShiftCl op) (reg (shift_number op)) 0 2 (λ o. inst.Shift op o Cl) f refl (λ y. refl) (λ y fits e. record { row = refl; modrm = (fits, shift_back op); trailing = refl }) (λ y. simp length-append (omega arith)) h
+shift_cl op f h =
+    by_form (row.ShiftCl op) (reg (shift_number op)) 0 2 (λ o. inst.Shift op o Cl) f refl (λ y. refl)
+    (λ y fits e. record { row = refl; modrm = (fits, shift_back op); trailing = refl }) (λ y. simp length-append (omega arith)) h
 
 -- `C1`, where the count 1 has a shorter row
 pub shift_by : (op : Shift) (f : OperandForm) (n : ℕ) → FormFits f → n < 256 → IsFirst (fill (row.ShiftBy op) (reg (shift_number op)) f n)

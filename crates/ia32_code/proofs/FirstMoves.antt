@@ -28,11 +28,16 @@ no_both false = refl
 -- ---- MOV from memory
 
 -- `8B` with an operand in memory, where the accumulator form does not serve
-load_at : (r : Reg) (f : OperandForm) → canonical_row (inst.Mov (R r) (operand f)) ≡ with_form (shortest_form (operand f)) (λ y. fill row.MovLoad r y 0) → FormFits f → IsFirst (fill row.MovLoad r f 0)
-load_at r f canon h = by_form row.MovLoad r 0 2 (λ o. inst.Mov (R r) o) f canon (λ y. refl) (λ y fits e. record { row = refl; modrm = fits; trailing = refl }) (λ y. simp length-append (omega arith)) h
+load_at : (r : Reg) (f : OperandForm)
+    → canonical_row (inst.Mov (R r) (operand f)) ≡ with_form (shortest_form (operand f)) (λ y. fill row.MovLoad r y 0) → FormFits f
+    → IsFirst (fill row.MovLoad r f 0)
+load_at r f canon h =
+    by_form row.MovLoad r 0 2 (λ o. inst.Mov (R r) o) f canon (λ y. refl) (λ y fits e. record { row = refl; modrm = fits; trailing = refl })
+    (λ y. simp length-append (omega arith)) h
 
 -- to EAX from an address alone
-load_eax : (r : Reg) (f : OperandForm) (n : ℕ) → n < 2 ^ 32 → number r ≡ 0 → operand f ≡ operand (Absolute n) → 5 < length (text (fill row.MovLoad Eax f 0)) → IsFirst (fill row.MovLoad r f 0)
+load_eax : (r : Reg) (f : OperandForm) (n : ℕ) → n < 2 ^ 32 → number r ≡ 0 → operand f ≡ operand (Absolute n)
+    → 5 < length (text (fill row.MovLoad Eax f 0)) → IsFirst (fill row.MovLoad r f 0)
 load_eax r f n lt z e long = rw (number_zero r z) (record {
   first = without_modrm row.MovLoadEax n;
   canonical = rw e refl;
@@ -69,11 +74,16 @@ mov_load r (Unbased s i n) h =
 -- ---- MOV to memory
 
 -- `89`, where the accumulator form does not serve
-store_at : (r : Reg) (f : OperandForm) → canonical_row (inst.Mov (operand f) (R r)) ≡ with_form (shortest_form (operand f)) (λ y. fill row.MovStore r y 0) → FormFits f → IsFirst (fill row.MovStore r f 0)
-store_at r f canon h = by_form row.MovStore r 0 2 (λ o. inst.Mov o (R r)) f canon (λ y. refl) (λ y fits e. record { row = refl; modrm = fits; trailing = refl }) (λ y. simp length-append (omega arith)) h
+store_at : (r : Reg) (f : OperandForm)
+    → canonical_row (inst.Mov (operand f) (R r)) ≡ with_form (shortest_form (operand f)) (λ y. fill row.MovStore r y 0) → FormFits f
+    → IsFirst (fill row.MovStore r f 0)
+store_at r f canon h =
+    by_form row.MovStore r 0 2 (λ o. inst.Mov o (R r)) f canon (λ y. refl) (λ y fits e. record { row = refl; modrm = fits; trailing = refl })
+    (λ y. simp length-append (omega arith)) h
 
 -- from EAX to an address alone
-store_eax : (r : Reg) (f : OperandForm) (n : ℕ) → n < 2 ^ 32 → number r ≡ 0 → operand f ≡ operand (Absolute n) → 5 < length (text (fill row.MovStore Eax f 0)) → IsFirst (fill row.MovStore r f 0)
+store_eax : (r : Reg) (f : OperandForm) (n : ℕ) → n < 2 ^ 32 → number r ≡ 0 → operand f ≡ operand (Absolute n)
+    → 5 < length (text (fill row.MovStore Eax f 0)) → IsFirst (fill row.MovStore r f 0)
 store_eax r f n lt z e long = rw (number_zero r z) (record {
   first = without_modrm row.MovStoreEax n;
   canonical = rw e refl;
@@ -104,8 +114,12 @@ mov_store r (Unbased s i n) h =
 -- ---- MOV of an immediate
 
 -- `C7` with an operand in memory
-mov_word_memory : (f : OperandForm) (n : ℕ) → canonical_row (inst.Mov (operand f) (I n)) ≡ with_form (shortest_form (operand f)) (λ y. fill row.MovWord Eax y n) → n < 2 ^ 32 → FormFits f → IsFirst (fill row.MovWord Eax f n)
-mov_word_memory f n canon lt h = by_form row.MovWord Eax n 6 (λ o. inst.Mov o (I n)) f canon (λ y. refl) (λ y fits e. record { row = refl; modrm = (fits, refl); trailing = lt }) (λ y. simp length-append (omega arith)) h
+mov_word_memory : (f : OperandForm) (n : ℕ)
+    → canonical_row (inst.Mov (operand f) (I n)) ≡ with_form (shortest_form (operand f)) (λ y. fill row.MovWord Eax y n) → n < 2 ^ 32 → FormFits f
+    → IsFirst (fill row.MovWord Eax f n)
+mov_word_memory f n canon lt h =
+    by_form row.MovWord Eax n 6 (λ o. inst.Mov o (I n)) f canon (λ y. refl) (λ y fits e. record { row = refl; modrm = (fits, refl); trailing = lt })
+    (λ y. simp length-append (omega arith)) h
 
 -- `C7`
 pub mov_word : (f : OperandForm) (n : ℕ) → FormFits f → n < 2 ^ 32 → IsFirst (fill row.MovWord Eax f n)
@@ -132,8 +146,19 @@ memory_as (Indexed s i b d) m e = tt
 memory_as (Unbased s i n) m e = tt
 
 -- `8D` with an operand in memory
-lea_at : (r : Reg) (f : OperandForm) (m : Mem) → operand f ≡ M m → canonical_row (inst.Lea (R r) (operand f)) ≡ with_form (shortest_form (operand f)) (λ y. fill row.Lea r y 0) → FormFits f → IsFirst (fill row.Lea r f 0)
-lea_at r f m e canon h = by_form row.Lea r 0 2 (λ o. inst.Lea (R r) o) f canon (λ y. refl) (λ y fits q. record { row = refl; modrm = (fits, memory_as y m (q ∙ e)); trailing = refl }) (λ y. simp length-append (omega arith)) h
+lea_at : (r : Reg) (f : OperandForm) (m : Mem) → operand f ≡ M m
+    → canonical_row (inst.Lea (R r) (operand f)) ≡ with_form (shortest_form (operand f)) (λ y. fill row.Lea r y 0) → FormFits f
+    → IsFirst (fill row.Lea r f 0)
+lea_at r f m e canon h =
+    by_form row.Lea r 0 2 (λ o. inst.Lea (R r) o) f canon (λ y. refl) (λ y fits q. record {
+      row = refl;
+      modrm = (
+        fits,
+        memory_as y m (q
+            ∙ e),
+      );
+      trailing = refl;
+    }) (λ y. simp length-append (omega arith)) h
 
 -- `8D`
 pub lea : (r : Reg) (f : OperandForm) → FormFits f × IsMemory f → IsFirst (fill row.Lea r f 0)
@@ -152,11 +177,14 @@ pub record IsUnary (w : Row) (g : ℕ) (make : Operand → Inst) : Type 0 where
   pub len : LongAs w (reg g) 0 2
 
 -- the canonical spelling is the same row with the shortest form
-pub unary : (w : Row) (g : ℕ) (make : Operand → Inst) → IsUnary w g make → (r : Reg) (f : OperandForm) (n : ℕ) → canonical_row (make (operand f)) ≡ with_digit w g (operand f) → FormFits f × (number r ≡ g) → n ≡ 0 → IsFirst (fill w r f n)
+pub unary : (w : Row) (g : ℕ) (make : Operand → Inst) → IsUnary w g make → (r : Reg) (f : OperandForm) (n : ℕ)
+    → canonical_row (make (operand f)) ≡ with_digit w g (operand f) → FormFits f × (number r ≡ g) → n ≡ 0 → IsFirst (fill w r f n)
 unary w g make u r f n canon h z = at_digit w g r f n 0 h.1 z (by_form w (reg g) 0 2 make f canon (λ y. u.means (reg g) y 0) (λ y fits e. u.fit y fits) u.len h.0)
 
 -- a row without a digit is shorter for a register
-pub unary_direct : (w short : Row) (g : ℕ) (make : Operand → Inst) → IsUnary w g make → (r k : Reg) (n : ℕ) → canonical_row (make (R k)) ≡ Some (without_modrm short 0) → Filled (without_modrm short 0) → meaning (without_modrm short 0) ≡ make (R k) → length (text (without_modrm short 0)) ≡ 1 → number r ≡ g → n ≡ 0 → IsFirst (fill w r (Direct k) n)
+pub unary_direct : (w short : Row) (g : ℕ) (make : Operand → Inst) → IsUnary w g make → (r k : Reg) (n : ℕ)
+    → canonical_row (make (R k)) ≡ Some (without_modrm short 0) → Filled (without_modrm short 0) → meaning (without_modrm short 0) ≡ make (R k)
+    → length (text (without_modrm short 0)) ≡ 1 → number r ≡ g → n ≡ 0 → IsFirst (fill w r (Direct k) n)
 unary_direct w short g make u r k n canon filled means one d z = at_digit w g r (Direct k) n 0 d z (record {
   first = without_modrm short 0;
   canonical = ap canonical_row (u.means (reg g) (Direct k) 0) ∙ canon;
@@ -195,7 +223,8 @@ push_unary = record { means = λ r f n. refl; fit = λ f h. record { row = refl;
 
 -- `FF` /6, where a register has a shorter row
 pub push : (r : Reg) (f : OperandForm) (n : ℕ) → FormFits f × (number r ≡ 6) → n ≡ 0 → IsFirst (fill row.Push r f n)
-push r (Direct k) n h z = unary_direct row.Push (row.PushReg k) 6 (λ o. inst.Push o) push_unary r k n refl (record { row = refl; modrm = (refl, refl); trailing = refl }) refl refl h.1 z
+push r (Direct k) n h z =
+    unary_direct row.Push (row.PushReg k) 6 (λ o. inst.Push o) push_unary r k n refl (record { row = refl; modrm = (refl, refl); trailing = refl }) refl refl h.1 z
 push r (Based b d) n h z = unary row.Push 6 (λ o. inst.Push o) push_unary r (Based b d) n refl h z
 push r (Absolute k) n h z = unary row.Push 6 (λ o. inst.Push o) push_unary r (Absolute k) n refl h z
 push r (Indexed s i b d) n h z = unary row.Push 6 (λ o. inst.Push o) push_unary r (Indexed s i b d) n refl h z

@@ -327,7 +327,8 @@ escaped_row b row lt h =
 -- a row that a digit opens is in the table with opcode and digit
 pub digit_row : (k : Group) (d : ℕ) (row : Row) → d < 8 → in_group k d ≡ Some row → IsLine row (group_code k ∷ []) (Digit d)
 digit_row k d row small h =
-    let t : agrees_digit k d (Some row) ≡ true = subst (λ (o : Option Row). agrees_digit k d o ≡ true) h (below_at (λ x. agrees_digit k x (in_group k x)) 8 d (all_digits k) small) in
+    let t : agrees_digit k d (Some row) ≡ true = subst (λ (o : Option Row). agrees_digit k d o ≡ true) h
+    (below_at (λ x. agrees_digit k x (in_group k x)) 8 d (all_digits k) small) in
     let one = both_true (same (line row).code (group_code k ∷ []) && is_digit d (line row).modrm) (is_row row) t in
     let two = both_true (same (line row).code (group_code k ∷ [])) (is_digit d (line row).modrm) one.0 in
     record { code_is = same_is (line row).code (group_code k ∷ []) two.0; modrm_is = is_digit_is d (line row).modrm two.1; is_row = one.1 }

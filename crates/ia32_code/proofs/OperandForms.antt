@@ -101,7 +101,8 @@ not_both true false e x y = absurd cc
 not_both false b e x y = absurd cc
 
 -- two readers in a row that gave something
-pub seq_ok : {A B : Type 0} (p : Read A) (f : A → Read B) (t : List ℕ) (y : B × List ℕ) (r : Result (A × List ℕ) Stop) → p t ≡ r → (r >>= λ x. f x.0 x.1) ≡ Ok y → (x : A × List ℕ) × (p t ≡ Ok x) × (f x.0 x.1 ≡ Ok y)
+pub seq_ok : {A B : Type 0} (p : Read A) (f : A → Read B) (t : List ℕ) (y : B × List ℕ) (r : Result (A × List ℕ) Stop) → p t ≡ r
+    → (r >>= λ x. f x.0 x.1) ≡ Ok y → (x : A × List ℕ) × (p t ≡ Ok x) × (f x.0 x.1 ≡ Ok y)
 seq_ok p f t y (Ok x) e h = (x, e, h)
 seq_ok p f t y (Err s) e h = absurd cc
 
@@ -169,7 +170,8 @@ not_alone : (b : Reg) (d : Displacement) (x y : ℕ) → x ≡ mode d → y ≡ 
 not_alone b d x y p q h = not_both_from (eqb x 0) (eqb y 5) (λ s t. h (sym q ∙ eqb-true y 5 t) (sym p ∙ eqb-true x 0 s))
 
 -- an index byte with a base that was spelled is read
-sib_indexed : (s : ℕ) (i b : Reg) (d : Displacement) (more : List ℕ) → FormFits (Indexed s i b d) → sib_at (mode d) (after_modrm (Indexed s i b d) ++ more) ≡ Ok (operand (Indexed s i b d), more)
+sib_indexed : (s : ℕ) (i b : Reg) (d : Displacement) (more : List ℕ) → FormFits (Indexed s i b d)
+    → sib_at (mode d) (after_modrm (Indexed s i b d) ++ more) ≡ Ok (operand (Indexed s i b d), more)
 unfolding sib_at
 sib_indexed s i b d more h =
     let k = 64 * s + 8 * number i + number b in
@@ -232,7 +234,8 @@ pub record OperandOf (m : ℕ) (t : List ℕ) (o : Operand) : Type 0 where
   pub memory : m / 64 ≢ 3 → IsMemory form
 
 -- a reader whose value was changed
-pub seq_done : {A B : Type 0} (p : Read A) (v : A → B) (t : List ℕ) (b : B) (r : Result (A × List ℕ) Stop) → p t ≡ r → (r >>= λ x. done (v x.0) x.1) ≡ Ok (b, []) → (a : A) × (p t ≡ Ok (a, [])) × (b ≡ v a)
+pub seq_done : {A B : Type 0} (p : Read A) (v : A → B) (t : List ℕ) (b : B) (r : Result (A × List ℕ) Stop) → p t ≡ r
+    → (r >>= λ x. done (v x.0) x.1) ≡ Ok (b, []) → (a : A) × (p t ≡ Ok (a, [])) × (b ≡ v a)
 seq_done {A} {B} p v t b (Ok x) e h =
     let k : (v x.0, x.1) ≡ (b, []) = ok_is (v x.0, x.1) (b, []) h in
     let rest : x.1 ≡ [] = ap (λ (y : B × List ℕ). y.1) k in
@@ -269,7 +272,8 @@ sib_unbased_takes s t o lt fits low e =
     }
 
 -- an index byte with a base that is read was spelled
-sib_indexed_takes : (m s : ℕ) (t : List ℕ) (o : Operand) → m < 3 → s < 256 → IsBytes t → (m ≡ 0 → s % 8 ≡ 5 → ⊥) → seq (disp_at m) (λ d. done (at_index (Some (reg (s % 8))) s d)) t ≡ Ok (o, []) → SibOf m (s ∷ t) o
+sib_indexed_takes : (m s : ℕ) (t : List ℕ) (o : Operand) → m < 3 → s < 256 → IsBytes t → (m ≡ 0 → s % 8 ≡ 5 → ⊥)
+    → seq (disp_at m) (λ d. done (at_index (Some (reg (s % 8))) s d)) t ≡ Ok (o, []) → SibOf m (s ∷ t) o
 sib_indexed_takes m s t o small lt fits other e =
     let w = seq_done (disp_at m) (λ d. at_index (Some (reg (s % 8))) s d) t o (disp_at m t) refl e in
     let k = disp_takes m t w.0 small fits w.1 in
@@ -338,7 +342,8 @@ absolute_takes m t o high low fits e =
     record { form = Absolute w.0; fits = k.0; modrm_is = omega (arith, parts_of m); bytes_is = k.1; operand_is = w.2; memory = λ h. tt }
 
 -- a base that is read was spelled
-based_takes : (m : ℕ) (t : List ℕ) (o : Operand) → m / 64 < 3 → m % 8 ≢ 4 → (m / 64 ≡ 0 → m % 8 ≡ 5 → ⊥) → IsBytes t → seq (disp_at (m / 64)) (λ d. done (based_at (reg (m % 8)) d)) t ≡ Ok (o, []) → OperandOf m t o
+based_takes : (m : ℕ) (t : List ℕ) (o : Operand) → m / 64 < 3 → m % 8 ≢ 4 → (m / 64 ≡ 0 → m % 8 ≡ 5 → ⊥) → IsBytes t
+    → seq (disp_at (m / 64)) (λ d. done (based_at (reg (m % 8)) d)) t ≡ Ok (o, []) → OperandOf m t o
 based_takes m t o small no_sib other fits e =
     let w = seq_done (disp_at (m / 64)) (λ d. based_at (reg (m % 8)) d) t o (disp_at (m / 64) t) refl e in
     let k = disp_takes (m / 64) t w.0 small fits w.1 in
@@ -357,18 +362,24 @@ based_takes m t o small no_sib other fits e =
 pub operand_takes : (m : ℕ) (t : List ℕ) (o : Operand) → m < 256 → IsBytes t → operand_at m t ≡ Ok (o, []) → OperandOf m t o
 unfolding operand_at
 operand_takes m t o lt fits e =
-    elim (chosen (eqb (m / 64) 3) (done (R (reg (m % 8)))) (cond (eqb (m % 8) 4) (sib_at (m / 64)) (cond (eqb (m / 64) 0 && eqb (m % 8) 5) (seq word_at (λ n. done (absolute_at n))) (seq (disp_at (m / 64)) (λ d. done (based_at (reg (m % 8)) d))))) t (Ok (o, [])) e) [
+    elim (chosen (eqb (m / 64) 3) (done (R (reg (m % 8)))) (cond (eqb (m % 8) 4) (sib_at (m / 64))
+    (cond (eqb (m / 64) 0 && eqb (m % 8) 5) (seq word_at (λ n. done (absolute_at n))) (seq (disp_at (m / 64)) (λ d. done (based_at (reg (m % 8)) d))))) t
+    (Ok (o, [])) e) [
       | inl h ↦ direct_takes m t o lt (eqb-true (m / 64) 3 h.0) h.1
       | inr h ↦
           let small : m / 64 < 3 = (let ne = eqb-false (m / 64) 3 h.0 in omega arith) in
-          elim (chosen (eqb (m % 8) 4) (sib_at (m / 64)) (cond (eqb (m / 64) 0 && eqb (m % 8) 5) (seq word_at (λ n. done (absolute_at n))) (seq (disp_at (m / 64)) (λ d. done (based_at (reg (m % 8)) d)))) t (Ok (o, [])) h.1) [
+          elim (chosen (eqb (m % 8) 4) (sib_at (m / 64))
+          (cond (eqb (m / 64) 0 && eqb (m % 8) 5) (seq word_at (λ n. done (absolute_at n))) (seq (disp_at (m / 64)) (λ d. done (based_at (reg (m % 8)) d)))) t
+          (Ok (o, [])) h.1) [
             | inl k ↦ with_sib m t o (eqb-true (m % 8) 4 k.0) (sib_takes (m / 64) t o small fits k.1)
             | inr k ↦
-                elim (chosen (eqb (m / 64) 0 && eqb (m % 8) 5) (seq word_at (λ n. done (absolute_at n))) (seq (disp_at (m / 64)) (λ d. done (based_at (reg (m % 8)) d))) t (Ok (o, [])) k.1) [
+                elim (chosen (eqb (m / 64) 0 && eqb (m % 8) 5) (seq word_at (λ n. done (absolute_at n)))
+                (seq (disp_at (m / 64)) (λ d. done (based_at (reg (m % 8)) d))) t (Ok (o, [])) k.1) [
                   | inl j ↦
                       let two = both_true (eqb (m / 64) 0) (eqb (m % 8) 5) j.0 in
                       absolute_takes m t o (eqb-true (m / 64) 0 two.0) (eqb-true (m % 8) 5 two.1) fits j.1
-                  | inr j ↦ based_takes m t o small (eqb-false (m % 8) 4 k.0) (λ z f. not_both (eqb (m / 64) 0) (eqb (m % 8) 5) j.0 (eq-eqb (m / 64) 0 z) (eq-eqb (m % 8) 5 f)) fits j.1
+                  | inr j ↦ based_takes m t o small (eqb-false (m % 8) 4 k.0)
+                      (λ z f. not_both (eqb (m / 64) 0) (eqb (m % 8) 5) j.0 (eq-eqb (m / 64) 0 z) (eq-eqb (m % 8) 5 f)) fits j.1
                 ]
           ]
     ]

@@ -40,15 +40,19 @@ size_again Byte n more h = refl
 size_again Word n more h = word_again n more h
 
 -- the end of a row is read
-end_again : (row : Row) (r : Reg) (o : Operand) (n : ℕ) (more : List ℕ) → TrailingFits (line row).trailing n → end_at row r o (trailing_bytes (line row).trailing n ++ more) ≡ Ok ((line row).gives r o n, more)
+end_again : (row : Row) (r : Reg) (o : Operand) (n : ℕ) (more : List ℕ) → TrailingFits (line row).trailing n
+    → end_at row r o (trailing_bytes (line row).trailing n ++ more) ≡ Ok ((line row).gives r o n, more)
 unfolding end_at
 end_again row r o n more h = rw (size_again (line row).trailing n more h) refl
 
 -- an operand and the end of a row are read
-modrm_again : (row : Row) (r : Reg) (f : OperandForm) (n : ℕ) (more : List ℕ) → FormFits f → TrailingFits (line row).trailing n → modrm_at row (modrm_byte (number r) f) (after_modrm f ++ (trailing_bytes (line row).trailing n ++ more)) ≡ Ok ((line row).gives r (operand f) n, more)
+modrm_again : (row : Row) (r : Reg) (f : OperandForm) (n : ℕ) (more : List ℕ) → FormFits f → TrailingFits (line row).trailing n
+    → modrm_at row (modrm_byte (number r) f) (after_modrm f ++ (trailing_bytes (line row).trailing n ++ more)) ≡ Ok ((line row).gives r (operand f) n, more)
 unfolding modrm_at
 modrm_again row r f n more ff sf =
-    rw (operand_again (number r) f (trailing_bytes (line row).trailing n ++ more) (number_below r) ff, modrm_middle (number r) f (number_below r), reg-number r) (end_again row r (operand f) n more sf)
+    rw
+    (operand_again (number r) f (trailing_bytes (line row).trailing n ++ more) (number_below r) ff, modrm_middle (number r) f (number_below r), reg-number r)
+    (end_again row r (operand f) n more sf)
 
 -- an operand in memory has not mode 3
 in_memory : (g : ℕ) (f : OperandForm) → g < 8 → IsMemory f → eqb (modrm_byte g f / 64) 3 ≡ false
@@ -66,15 +70,18 @@ again_at Absent row code r f n more leads sf nf =
     rw (e, sf.0, sf.1, leads (trailing_bytes (line row).trailing n ++ more)) (end_again row Eax (R Eax) n more nf)
 again_at Register row code r f n more leads sf nf =
     let m = modrm_byte (number r) f in
-    let e : (code ++ (m ∷ after_modrm f) ++ trailing_bytes (line row).trailing n) ++ more ≡ code ++ m ∷ (after_modrm f ++ (trailing_bytes (line row).trailing n ++ more)) = simp append_assoc in
+    let e : (code ++ (m ∷ after_modrm f) ++ trailing_bytes (line row).trailing n) ++ more ≡ code ++ m ∷
+    (after_modrm f ++ (trailing_bytes (line row).trailing n ++ more)) = simp append_assoc in
     rw (e, leads m (after_modrm f ++ (trailing_bytes (line row).trailing n ++ more))) (modrm_again row r f n more sf nf)
 again_at Memory row code r f n more leads sf nf =
     let m = modrm_byte (number r) f in
-    let e : (code ++ (m ∷ after_modrm f) ++ trailing_bytes (line row).trailing n) ++ more ≡ code ++ m ∷ (after_modrm f ++ (trailing_bytes (line row).trailing n ++ more)) = simp append_assoc in
+    let e : (code ++ (m ∷ after_modrm f) ++ trailing_bytes (line row).trailing n) ++ more ≡ code ++ m ∷
+    (after_modrm f ++ (trailing_bytes (line row).trailing n ++ more)) = simp append_assoc in
     rw (e, leads m (after_modrm f ++ (trailing_bytes (line row).trailing n ++ more)) (in_memory (number r) f (number_below r) sf.1)) (modrm_again row r f n more sf.0 nf)
 again_at (Digit g) row code r f n more leads sf nf =
     let m = modrm_byte (number r) f in
-    let e : (code ++ (m ∷ after_modrm f) ++ trailing_bytes (line row).trailing n) ++ more ≡ code ++ m ∷ (after_modrm f ++ (trailing_bytes (line row).trailing n ++ more)) = simp append_assoc in
+    let e : (code ++ (m ∷ after_modrm f) ++ trailing_bytes (line row).trailing n) ++ more ≡ code ++ m ∷
+    (after_modrm f ++ (trailing_bytes (line row).trailing n ++ more)) = simp append_assoc in
     rw (e, leads m (after_modrm f ++ (trailing_bytes (line row).trailing n ++ more)) (modrm_middle (number r) f (number_below r) ∙ sf.1)) (modrm_again row r f n more sf.0 nf)
 
 -- a filled row is read
@@ -153,7 +160,9 @@ modrm_takes row m t i lt fits e =
     }
 
 -- a spelling with a ModRM byte
-with_modrm : (row : Row) (sl : ModRm) (code : List ℕ) (m : ℕ) (t : List ℕ) (i : Inst) → IsLine row code sl → ((r : Reg) (f : OperandForm) → modrm_bytes sl r f ≡ modrm_byte (number r) f ∷ after_modrm f) → (w : ModrmOf row m t i) → ModRmFits sl (reg (m / 8 % 8)) w.form → Spells (code ++ m ∷ t) i
+with_modrm : (row : Row) (sl : ModRm) (code : List ℕ) (m : ℕ) (t : List ℕ) (i : Inst) → IsLine row code sl
+    → ((r : Reg) (f : OperandForm) → modrm_bytes sl r f ≡ modrm_byte (number r) f ∷ after_modrm f) → (w : ModrmOf row m t i)
+    → ModRmFits sl (reg (m / 8 % 8)) w.form → Spells (code ++ m ∷ t) i
 with_modrm row sl code m t i ln bytes w sf =
     let g : number (reg (m / 8 % 8)) ≡ m / 8 % 8 = number-reg (m / 8 % 8) (omega arith) in
     record {
@@ -162,7 +171,9 @@ with_modrm row sl code m t i ln bytes w sf =
       text_is =
           let e : m ∷ t ≡ modrm_bytes (line row).modrm (reg (m / 8 % 8)) w.form ++ trailing_bytes (line row).trailing w.number =
           rw (ln.modrm_is, bytes (reg (m / 8 % 8)) w.form, g) (ap (λ (x : ℕ). x ∷ t) w.modrm_is ∙ ap (λ (x : List ℕ). modrm_byte (m / 8 % 8) w.form ∷ x) w.bytes_is) in
-          ap (λ (x : List ℕ). code ++ x) e ∙ ap (λ (x : List ℕ). x ++ (modrm_bytes (line row).modrm (reg (m / 8 % 8)) w.form ++ trailing_bytes (line row).trailing w.number)) (sym ln.code_is) ∙ sym (append_assoc (line row).code (modrm_bytes (line row).modrm (reg (m / 8 % 8)) w.form) (trailing_bytes (line row).trailing w.number));
+          ap (λ (x : List ℕ). code ++ x) e
+          ∙ ap (λ (x : List ℕ). x ++ (modrm_bytes (line row).modrm (reg (m / 8 % 8)) w.form ++ trailing_bytes (line row).trailing w.number)) (sym ln.code_is)
+          ∙ sym (append_assoc (line row).code (modrm_bytes (line row).modrm (reg (m / 8 % 8)) w.form) (trailing_bytes (line row).trailing w.number));
       meaning_is = w.inst_is;
     }
 
@@ -196,7 +207,8 @@ plain_takes row Memory code (m ∷ t) i ln plain fits e =
 plain_takes row (Digit g) code t i ln plain fits e = absurd cc
 
 -- a row that is read by its digit was spelled
-digit_takes : (k : Group) (m : ℕ) (t : List ℕ) (i : Inst) (o : Option Row) → m < 256 → IsBytes t → in_group k (m / 8 % 8) ≡ o → digit_at o m t ≡ Ok (i, []) → Spells (group_code k ∷ m ∷ t) i
+digit_takes : (k : Group) (m : ℕ) (t : List ℕ) (i : Inst) (o : Option Row) → m < 256 → IsBytes t → in_group k (m / 8 % 8) ≡ o
+    → digit_at o m t ≡ Ok (i, []) → Spells (group_code k ∷ m ∷ t) i
 unfolding digit_at
 digit_takes k m t i None lt fits q e = absurd cc
 digit_takes k m t i (Some row) lt fits q e =
@@ -215,7 +227,8 @@ unfolding opened_at row_at
 opened_takes b t i opens.Nothing lt fits q e = absurd cc
 opened_takes b t i (opens.Row row) lt fits q e = let k = first_row b row lt q in plain_takes row (line row).modrm (b ∷ []) t i k.0 k.1 fits e
 opened_takes b [] i (opens.Digits k) lt fits q e = absurd cc
-opened_takes b (m ∷ t) i (opens.Digits k) lt fits q e = subst (λ (x : ℕ). Spells (x ∷ m ∷ t) i) (first_digits b k lt q) (digit_takes k m t i (in_group k (m / 8 % 8)) fits.0 fits.1 refl e)
+opened_takes b (m ∷ t) i (opens.Digits k) lt fits q e =
+    subst (λ (x : ℕ). Spells (x ∷ m ∷ t) i) (first_digits b k lt q) (digit_takes k m t i (in_group k (m / 8 % 8)) fits.0 fits.1 refl e)
 opened_takes b [] i opens.Escape lt fits q e = absurd cc
 opened_takes b (c ∷ t) i opens.Escape lt fits q e = subst (λ (x : ℕ). Spells (x ∷ c ∷ t) i) (sym (first_escape b lt q)) (escaped_takes c t i (escaped c) fits.0 fits.1 refl e)
 
@@ -261,7 +274,8 @@ TakesFront-opened_at : (o : Opening) → TakesFront (opened_at o)
 unfolding opened_at row_at
 TakesFront-opened_at opens.Nothing = TakesFront-none
 TakesFront-opened_at (opens.Row row) = TakesFront-by_modrm_at (line row).modrm row
-TakesFront-opened_at (opens.Digits k) = let l = live_digit k in TakesFront-byte (λ m. digit_at (in_group k (m / 8 % 8)) m) (λ m. TakesFront-digit_at (in_group k (m / 8 % 8)) m) (8 * l.0) l.1 l.2
+TakesFront-opened_at (opens.Digits k) =
+    let l = live_digit k in TakesFront-byte (λ m. digit_at (in_group k (m / 8 % 8)) m) (λ m. TakesFront-digit_at (in_group k (m / 8 % 8)) m) (8 * l.0) l.1 l.2
 TakesFront-opened_at opens.Escape = TakesFront-byte (λ b. escaped_at (escaped b)) (λ b. TakesFront-escaped_at (escaped b)) 0xAF (lit< tt) live_escaped
 
 -- some first byte has a row
@@ -290,7 +304,8 @@ goes_on bytes fits e =
     let whole : instruction_at (bytes ++ ends.text) ≡ Ok (ends.value, []) = ap (λ (x : List ℕ). instruction_at (bytes ++ x)) (sym (append-nil ends.text)) ∙ ends.reads [] in (
       ends.text,
       ends.value,
-      (λ nil. let again : instruction_at bytes ≡ Ok (ends.value, []) = ap instruction_at (sym (append-nil bytes)) ∙ ap (λ (x : List ℕ). instruction_at (bytes ++ x)) (sym nil) ∙ whole in cc),
+      (λ nil. let again : instruction_at bytes ≡ Ok (ends.value, []) = ap instruction_at (sym (append-nil bytes))
+          ∙ ap (λ (x : List ℕ). instruction_at (bytes ++ x)) (sym nil) ∙ whole in cc),
       instruction_takes (bytes ++ ends.text) ends.value (IsBytes-append bytes ends.text fits ends.fits) whole,
     )
 

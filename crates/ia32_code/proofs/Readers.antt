@@ -29,7 +29,8 @@ Whole-done v = record { takes = TakesFront-done v; live = Readable-done v }
 
 -- one after the other
 pub Whole-seq : {A B : Type 0} (p : Read A) (f : A → Read B) → Whole p → ((a : A) → Whole (f a)) → Whole (seq p f)
-Whole-seq p f x y = record { takes = TakesFront-seq p f x.takes (λ a. (y a).takes) (λ a. (y a).live); live = Readable-seq p f x.takes (λ a. (y a).takes) x.live (y x.live.value).live }
+Whole-seq p f x y =
+    record { takes = TakesFront-seq p f x.takes (λ a. (y a).takes) (λ a. (y a).live); live = Readable-seq p f x.takes (λ a. (y a).takes) x.live (y x.live.value).live }
 
 -- one or the other
 pub Whole-cond : {A : Type 0} (b : Bool) (p q : Read A) → Whole p → Whole q → Whole (cond b p q)
@@ -56,7 +57,9 @@ Whole-disp_at mode =
 pub Whole-sib_at : (mode : ℕ) → Whole (sib_at mode)
 unfolding sib_at
 Whole-sib_at mode =
-    Whole-seq byte_at (λ s. cond (eqb mode 0 && eqb (s % 8) 5) (seq word_at (λ n. done (at_index None s n))) (seq (disp_at mode) (λ d. done (at_index (Some (reg (s % 8))) s d)))) Whole-byte_at (λ s.
+    Whole-seq byte_at
+    (λ s. cond (eqb mode 0 && eqb (s % 8) 5) (seq word_at (λ n. done (at_index None s n))) (seq (disp_at mode) (λ d. done (at_index (Some (reg (s % 8))) s d)))) Whole-byte_at
+    (λ s.
     Whole-cond (eqb mode 0 && eqb (s % 8) 5) _ _
     (Whole-seq word_at (λ n. done (at_index None s n)) Whole-word_at (λ n. Whole-done (at_index None s n)))
     (Whole-seq (disp_at mode) (λ d. done (at_index (Some (reg (s % 8))) s d)) (Whole-disp_at mode) (λ d. Whole-done (at_index (Some (reg (s % 8))) s d))))
@@ -89,7 +92,8 @@ Whole-trailing_at trailing.Word = Whole-word_at
 -- the end of a row
 pub Whole-end_at : (row : Row) (r : Reg) (o : Operand) → Whole (end_at row r o)
 unfolding end_at
-Whole-end_at row r o = Whole-seq (trailing_at (line row).trailing) (λ n. done ((line row).gives r o n)) (Whole-trailing_at (line row).trailing) (λ n. Whole-done ((line row).gives r o n))
+Whole-end_at row r o =
+    Whole-seq (trailing_at (line row).trailing) (λ n. done ((line row).gives r o n)) (Whole-trailing_at (line row).trailing) (λ n. Whole-done ((line row).gives r o n))
 
 -- an operand and the end of a row
 pub Whole-modrm_at : (row : Row) (m : ℕ) → Whole (modrm_at row m)
@@ -102,7 +106,8 @@ unfolding by_modrm_at
 TakesFront-by_modrm_at Absent w = (Whole-end_at w Eax (R Eax)).takes
 TakesFront-by_modrm_at Register w = (Whole-seq byte_at (λ m. modrm_at w m) Whole-byte_at (λ m. Whole-modrm_at w m)).takes
 TakesFront-by_modrm_at Memory w =
-    TakesFront-byte (λ m. cond (eqb (m / 64) 3) none (modrm_at w m)) (λ m. TakesFront-cond (eqb (m / 64) 3) none (modrm_at w m) TakesFront-none (Whole-modrm_at w m).takes) 0 (lit< tt) (Whole-modrm_at w 0).live
+    TakesFront-byte (λ m. cond (eqb (m / 64) 3) none (modrm_at w m))
+    (λ m. TakesFront-cond (eqb (m / 64) 3) none (modrm_at w m) TakesFront-none (Whole-modrm_at w m).takes) 0 (lit< tt) (Whole-modrm_at w 0).live
 TakesFront-by_modrm_at (Digit g) w = TakesFront-none
 
 -- a row that is read without its digit

@@ -84,7 +84,8 @@ amount_below (Disp8 d) h = (extended_fits d h).2
 amount_below (Disp32 d) h = h
 
 -- a displacement is the shortest of its amount, or longer
-disp_first : (b : Reg) (d : Displacement) → DispFits d → (number b ≡ 5 → mode d ≢ 0) → (length (disp_bytes (shortest_disp b (amount d))) < length (disp_bytes d)) ⊎ (shortest_disp b (amount d) ≡ d)
+disp_first : (b : Reg) (d : Displacement) → DispFits d → (number b ≡ 5 → mode d ≢ 0)
+    → (length (disp_bytes (shortest_disp b (amount d))) < length (disp_bytes d)) ⊎ (shortest_disp b (amount d) ≡ d)
 disp_first b NoDisp h p = inr ((at_amount b 0 (lit< tt)).empty refl (λ five. p five refl))
 disp_first b (Disp8 d) h p =
     let x = extended_fits d h in
@@ -140,7 +141,9 @@ with_base b d f same fits present four other =
     ]
 
 -- the shortest displacement makes a form better
-better_disp : (b : Reg) (d : Displacement) (n : ℕ) (g : Displacement → OperandForm) → ((x : Displacement) → length (after_modrm (g x)) ≡ n + length (disp_bytes x)) → (f : OperandForm) → without_scale f ≡ g d → length (after_modrm f) ≡ n + length (disp_bytes d)
+better_disp : (b : Reg) (d : Displacement) (n : ℕ) (g : Displacement → OperandForm)
+    → ((x : Displacement) → length (after_modrm (g x)) ≡ n + length (disp_bytes x)) → (f : OperandForm) → without_scale f ≡ g d
+    → length (after_modrm f) ≡ n + length (disp_bytes d)
     → DispFits d → (number b ≡ 5 → mode d ≢ 0) → Better (g (shortest_disp b (amount d))) f
 better_disp b d n g len f plain long fits present =
     elim (disp_first b d fits present) [
@@ -149,7 +152,8 @@ better_disp b d n g len f plain long fits present =
     ]
 
 -- without an index byte a form is shorter by one
-better_based : (b : Reg) (d : Displacement) (f : OperandForm) → length (after_modrm f) ≡ 1 + length (disp_bytes d) → DispFits d → (number b ≡ 5 → mode d ≢ 0) → Better (Based b (shortest_disp b (amount d))) f
+better_based : (b : Reg) (d : Displacement) (f : OperandForm) → length (after_modrm f) ≡ 1 + length (disp_bytes d) → DispFits d
+    → (number b ≡ 5 → mode d ≢ 0) → Better (Based b (shortest_disp b (amount d))) f
 better_based b d f long fits present =
     elim (disp_first b d fits present) [
       | inl lt ↦ inl (omega arith)

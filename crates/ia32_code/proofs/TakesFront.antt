@@ -116,7 +116,8 @@ module _ {A B : Type 0} (p : Read A) (f : A → Read B) (steady_p : TakesFront p
   seq_unknown bytes more (Err Short) e h = absurd cc
 
   -- completes the first part so that the second can follow
-  seq_short : ((bytes : List ℕ) → p bytes ≡ Err Short → (ends : Ends p bytes) × Readable (f ends.value)) → (bytes : List ℕ) (r : Result (A × List ℕ) Stop) → p bytes ≡ r → (r >>= λ x. f x.0 x.1) ≡ Err Short → Ends (seq p f) bytes
+  seq_short : ((bytes : List ℕ) → p bytes ≡ Err Short → (ends : Ends p bytes) × Readable (f ends.value))
+      → (bytes : List ℕ) (r : Result (A × List ℕ) Stop) → p bytes ≡ r → (r >>= λ x. f x.0 x.1) ≡ Err Short → Ends (seq p f) bytes
   seq_short live bytes (Ok x) e h =
       let one = steady_p.took bytes x.0 x.1 e in
       let two = (steady_f x.0).short x.1 h in

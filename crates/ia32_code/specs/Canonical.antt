@@ -1,5 +1,6 @@
--- The canonical spelling of an instruction: a branch has its 32-bit form, everything else its shortest spelling, among
--- equals the first in the table, with scale bits 0 where there is no index. The laws show that this is what is chosen here.
+-- The canonical spelling of an instruction, which is this project's choice: a branch has its 32-bit form, everything else its
+-- shortest spelling, among equals the first in the table, with scale bits 0 where there is no index. The laws show that this is
+-- what is chosen here.
 use Rattle.std.specs.Prelude.{ℕ, ◌%◌, List, Option, Some, None, Bool, false, not, ◌&&◌, nat_lt, ◌==◌, if◌then◌else◌, length, option_map}
 use Rattle.std.specs.Int.{w32, cast_unsigned}
 use Rattle.ia32_code.specs.declared.instruction.Reg.{Reg}
@@ -86,7 +87,8 @@ is_absolute m = elim m.base as (λ _. Bool) [ None ↦ (elim m.index as (λ _. B
 
 -- a byte where it serves, else the row of EAX where it serves
 abbrev pub alu_imm : Alu → ℕ → OperandForm → Spelling
-alu_imm op n f = if fits_byte n then fill (AluByte op) (reg (alu_number op)) f (n % 256) else (if is_eax f then without_modrm (AluEax op) n else fill (AluWord op) (reg (alu_number op)) f n)
+alu_imm op n f =
+    if fits_byte n then fill (AluByte op) (reg (alu_number op)) f (n % 256) else (if is_eax f then without_modrm (AluEax op) n else fill (AluWord op) (reg (alu_number op)) f n)
 
 -- a register as source comes before one as destination
 abbrev pub alu_of : Alu → Operand → Operand → Option Spelling
@@ -159,7 +161,8 @@ push_of (I n) = Some (if fits_byte n then without_modrm PushByte (n % 256) else 
 
 -- by its opcode
 abbrev pub priv_of : ℕ → ℕ → Option Spelling
-priv_of op arg = if among priv_bare op && (arg == 0) then Some (without_modrm (PrivBare op) 0) else (if among priv_with_byte op then Some (without_modrm (PrivByte op) arg) else None)
+priv_of op arg =
+    if among priv_bare op && (arg == 0) then Some (without_modrm (PrivBare op) 0) else (if among priv_with_byte op then Some (without_modrm (PrivByte op) arg) else None)
 
 -- the filled row of the canonical spelling
 abbrev pub canonical_row : Inst → Option Spelling

@@ -1,5 +1,5 @@
--- How the code reads: from left to right, the row by the first bytes. No public clause speaks of it; the contract of `decode`
--- says that this is what is spelled.
+-- How the code reads: from left to right, the row by the first bytes. `decoded` and `front_of`, which public clauses cite, are
+-- made of it; `decoded_law` and `front_law` say that they are exactly what is spelled.
 use Rattle.std.specs.Prelude.{◌≡◌, ℕ, ◌+◌, ◌*◌, ◌/◌, ◌%◌, List, [], ◌∷◌, Option, Some, None, Result, Ok, Err, ◌==◌, ◌&&◌, if◌then◌else◌, slice_index_or}
 use Rattle.ia32_code.specs.declared.instruction.Reg.{Reg}
 use Rattle.ia32_code.specs.declared.instruction.Reg.TheVariants.{Eax}
@@ -22,6 +22,7 @@ use Rattle.ia32_code.specs.OperandForms.{reg, sign_extended, index_of, scale_of}
 use Rattle.ia32_code.specs.Table.{line}
 
 infixl 10 ◌>>=◌
+-- what was read goes on to a next reader; a stop stays
 abbrev pub ◌>>=◌ : {A B : Type 0} → Result A Stop → (A → Result B Stop) → Result B Stop
 (Ok x) >>= f = f x
 (Err e) >>= f = Err e

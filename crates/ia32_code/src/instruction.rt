@@ -1,3 +1,4 @@
+// Instructions as values, as the Intel 64 and IA-32 Architectures Software Developer's Manual, volume 2, has them.
 ghost use Rattle.std.specs.Prelude.{◌≡◌, ◌<◌};
 ghost use Rattle.ia32_code.specs.OperandForms.{number};
 ghost use Rattle.ia32_code.specs.Table.{alu_number, shift_number, cond_number};
@@ -15,29 +16,36 @@ pub enum Reg {
     Edi,
 }
 
-/// A condition on the flags. Parity has none here.
+/// A condition on the flags, by its letters in the manual (Intel SDM vol. 2, Jcc). Parity has none here.
 #[derive(Clone, Copy, Debug, PartialEq, Eq, Drop)]
 pub enum Cond {
-    /// OF.
+    /// Overflow: OF.
     O,
+    /// Not `O`.
     No,
-    /// CF: below, without sign.
+    /// Below, without sign: CF.
     B,
+    /// Not `B`.
     Ae,
-    /// ZF.
+    /// Equal: ZF.
     E,
+    /// Not `E`.
     Ne,
-    /// CF or ZF.
+    /// Below or equal: CF or ZF.
     Be,
+    /// Not `Be`.
     A,
-    /// SF.
+    /// Negative: SF.
     S,
+    /// Not `S`.
     Ns,
-    /// SF not equal to OF: less, with sign.
+    /// Less, with sign: SF is not OF.
     L,
+    /// Not `L`.
     Ge,
-    /// ZF or L.
+    /// Less or equal: ZF or `L`.
     Le,
+    /// Not `Le`.
     G,
 }
 
@@ -88,59 +96,81 @@ pub enum Operand {
 
 /// An instruction. Not each value has a spelling: `len_of` is 0 where there is none.
 ///
-/// Distances of calls, jumps and branches count from the next instruction.
+/// Distances of calls, jumps and branches count from the next instruction. The digit in a name counts the operands that are
+/// spelled (Intel SDM vol. 2, IMUL has three forms).
 #[derive(Clone, Copy, Debug, PartialEq, Eq, Drop)]
 pub enum Inst {
+    /// An operation on two operands: `dst` gets the result, but for `Cmp`'s, and the flags are set.
     Alu {
         op: Alu,
         dst: Operand,
         src: Operand,
     },
+    /// `dst` gets the word of `src`.
     Mov {
         dst: Operand,
         src: Operand,
     },
+    /// `dst` gets the address of `src`. No word is read.
     Lea {
         dst: Operand,
         src: Operand,
     },
+    /// The flags of an AND, whose result is dropped.
     Test {
         dst: Operand,
         src: Operand,
     },
+    /// One more. CF stays.
     Inc(Operand),
+    /// One less. CF stays.
     Dec(Operand),
+    /// Each bit turned round. All flags stay.
     Not(Operand),
+    /// 0 less the operand.
     Neg(Operand),
     /// EAX times the operand into EDX and EAX, without sign.
     Mul(Operand),
     /// The same with sign.
     Imul1(Operand),
+    /// EDX and EAX by the operand, without sign: EAX gets the quotient, EDX the remainder.
     Div(Operand),
+    /// The same with sign.
     Idiv(Operand),
+    /// `dst` gets the lower word of `dst` times `src`.
     Imul2 {
         dst: Operand,
         src: Operand,
     },
+    /// `dst` gets the lower word of `src` times `imm`.
     Imul3 {
         dst: Operand,
         src: Operand,
         imm: u32,
     },
+    /// `dst` is shifted.
     Shift {
         op: Shift,
         dst: Operand,
         by: Count,
     },
+    /// EDX gets copies of EAX's highest bit.
     Cdq,
+    /// Nothing.
     Nop,
+    /// The operand's word is put on the stack.
     Push(Operand),
+    /// The register gets the word on top of the stack, which is taken off.
     Pop(Reg),
+    /// A call by a distance.
     CallRel(i32),
     /// A call of the address in the operand.
     CallAt(Operand),
+    /// The return to the address on top of the stack.
     Ret,
+    /// A jump by a distance.
     Jmp(i32),
+    /// A jump by a distance where the condition holds.
     Jcc(Cond, i32),
     /// An instruction of the system, by its opcode; `arg` is the byte that follows it, or 0 where none does.
     Priv {

@@ -42,6 +42,18 @@ impl Displacement {
     }
 }
 
+/// An operand in memory.
+pub fn memory(base: Option<Reg>, index: Option<Reg>, scale: u8, disp: u32) -> Operand
+    ensures { result ≡ Operand.M (record { base = base; index = index; scale = scale; disp = disp }) }
+{
+    Operand::M(Mem {
+        base,
+        index,
+        scale,
+        disp,
+    })
+}
+
 /// The register of a number below 8.
 pub fn reg_of(number: u8) -> Reg
     ensures { result ≡ reg number }

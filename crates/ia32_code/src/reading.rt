@@ -4,9 +4,9 @@ ghost use Rattle.ia32_code.specs.OperandForms.{reg, index_of, scale_of};
 ghost use Rattle.ia32_code.specs.Spells.{TrailingFits};
 ghost use Rattle.ia32_code.specs.Reading.{Gives, byte_at, word_at, disp_at, sib_at, operand_at, trailing_at, end_at, modrm_at, by_modrm_at, row_at, digit_at, escaped_at, opening, escaped, in_group, opened_at, instruction_at};
 
-use crate::instruction::{Inst, Mem, Operand, Reg};
+use crate::instruction::{Inst, Operand, Reg};
 use crate::opcodes::{ESCAPED, GROUPS, Group, OPENINGS, Opening};
-use crate::operand_form::{reg_of, sign_extend};
+use crate::operand_form::{memory, reg_of, sign_extend};
 use crate::row::{ModRm, Row, Trailing};
 use crate::table::{build, modrm_kind, trailing_size};
 
@@ -76,27 +76,11 @@ fn sib_of(mode: u8, bytes: &[u8]) -> Result<(Operand, &[u8]), Stop>
     let scale = scale(index_number, sib / 64);
     if mode == 0 && sib % 8 == 5 {
         let (disp, rest) = word_of(rest)?;
-        Ok((
-            Operand::M(Mem {
-                base: None,
-                index,
-                scale,
-                disp,
-            }),
-            rest,
-        ))
+        Ok((memory(None, index, scale, disp), rest))
     } else {
         let (disp, rest) = displacement_of(mode, rest)?;
         let base = Some(reg_of(sib % 8));
-        Ok((
-            Operand::M(Mem {
-                base,
-                index,
-                scale,
-                disp,
-            }),
-            rest,
-        ))
+        Ok((memory(base, index, scale, disp), rest))
     }
 }
 
@@ -114,27 +98,11 @@ pub fn operand_of(modrm_byte: u8, bytes: &[u8]) -> Result<(Operand, &[u8]), Stop
     }
     if mode == 0 && rm == 5 {
         let (disp, rest) = word_of(bytes)?;
-        return Ok((
-            Operand::M(Mem {
-                base: None,
-                index: None,
-                scale: 0,
-                disp,
-            }),
-            rest,
-        ));
+        return Ok((memory(None, None, 0, disp), rest));
     }
     let (disp, rest) = displacement_of(mode, bytes)?;
     let base = Some(reg_of(rm));
-    Ok((
-        Operand::M(Mem {
-            base,
-            index: None,
-            scale: 0,
-            disp,
-        }),
-        rest,
-    ))
+    Ok((memory(base, None, 0, disp), rest))
 }
 
 #[tactic(auto, unfolding(crate::specs::Reading::trailing_at))]
@@ -185,6 +153,7 @@ fn row_of(row: Row, bytes: &[u8]) -> Result<(Inst, &[u8]), Stop>
             }
             modrm_of(row, modrm_byte, rest)
         }
+        // Rows with a digit are opened by `Opening::Digits`, which tells them apart.
         ModRm::Digit(_) => Err(Stop::Unknown),
     }
 }

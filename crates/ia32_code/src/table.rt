@@ -1,11 +1,12 @@
 // The table of spellings as the code has it: each row's opcode, ModRM byte, trailing number and meaning.
 ghost use Rattle.std.specs.Prelude.{◌≡◌, ◌<◌};
 ghost use Rattle.std.specs.Int.{w8, cast_signed};
-ghost use Rattle.ia32_code.specs.Table.{line, memory, opcode_bytes};
+ghost use Rattle.ia32_code.specs.Table.{line, opcode_bytes};
+ghost use Rattle.ia32_code.specs.Table as spec;
 ghost use Rattle.ia32_code.specs.Spells.{TrailingFits};
 
-use crate::instruction::{Count, Inst, Mem, Operand, Reg};
-use crate::operand_form::sign_extend;
+use crate::instruction::{Alu, Count, Inst, Operand, Reg, Shift};
+use crate::operand_form::{memory, sign_extend};
 use crate::row::{ModRm, Row, Trailing};
 
 /// The opcode of a row: whether the byte 0F comes first, and the byte.
@@ -176,14 +177,39 @@ fn distance(byte: u32) -> i32
 
 /// The word at an address.
 fn address(disp: u32) -> Operand
-    ensures { result ≡ memory disp }
+    ensures { result ≡ spec.memory disp }
 {
-    Operand::M(Mem {
-        base: None,
-        index: None,
-        scale: 0,
-        disp,
-    })
+    memory(None, None, 0, disp)
+}
+
+fn alu(op: Alu, dst: Operand, src: Operand) -> Inst
+    ensures { result ≡ Inst.Alu op dst src }
+{
+    Inst::Alu { op, dst, src }
+}
+
+fn mov(dst: Operand, src: Operand) -> Inst
+    ensures { result ≡ Inst.Mov dst src }
+{
+    Inst::Mov { dst, src }
+}
+
+fn test(dst: Operand, src: Operand) -> Inst
+    ensures { result ≡ Inst.Test dst src }
+{
+    Inst::Test { dst, src }
+}
+
+fn imul3(dst: Operand, src: Operand, imm: u32) -> Inst
+    ensures { result ≡ Inst.Imul3 dst src imm }
+{
+    Inst::Imul3 { dst, src, imm }
+}
+
+fn shift(op: Shift, dst: Operand, by: Count) -> Inst
+    ensures { result ≡ Inst.Shift op dst by }
+{
+    Inst::Shift { op, dst, by }
 }
 
 /// The instruction that a row spells with a register, an operand and a number.
@@ -195,51 +221,21 @@ pub fn build(row: Row, reg: Reg, operand: Operand, number: u32) -> Inst
     let eax = Operand::R(Reg::Eax);
     let m = operand;
     match row {
-        Row::AluStore(op) => Inst::Alu { op, dst: m, src: r },
-        Row::AluLoad(op) => Inst::Alu { op, dst: r, src: m },
-        Row::AluEax(op) => Inst::Alu {
-            op,
-            dst: eax,
-            src: Operand::I(number),
-        },
-        Row::AluWord(op) => Inst::Alu {
-            op,
-            dst: m,
-            src: Operand::I(number),
-        },
-        Row::AluByte(op) => Inst::Alu {
-            op,
-            dst: m,
-            src: Operand::I(sign_extend(number as u8)),
-        },
-        Row::MovStore => Inst::Mov { dst: m, src: r },
-        Row::MovLoad => Inst::Mov { dst: r, src: m },
-        Row::MovLoadEax => Inst::Mov {
-            dst: eax,
-            src: address(number),
-        },
-        Row::MovStoreEax => Inst::Mov {
-            dst: address(number),
-            src: eax,
-        },
-        Row::MovReg(dst) => Inst::Mov {
-            dst: Operand::R(dst),
-            src: Operand::I(number),
-        },
-        Row::MovWord => Inst::Mov {
-            dst: m,
-            src: Operand::I(number),
-        },
+        Row::AluStore(op) => alu(op, m, r),
+        Row::AluLoad(op) => alu(op, r, m),
+        Row::AluEax(op) => alu(op, eax, Operand::I(number)),
+        Row::AluWord(op) => alu(op, m, Operand::I(number)),
+        Row::AluByte(op) => alu(op, m, Operand::I(sign_extend(number as u8))),
+        Row::MovStore => mov(m, r),
+        Row::MovLoad => mov(r, m),
+        Row::MovLoadEax => mov(eax, address(number)),
+        Row::MovStoreEax => mov(address(number), eax),
+        Row::MovReg(dst) => mov(Operand::R(dst), Operand::I(number)),
+        Row::MovWord => mov(m, Operand::I(number)),
         Row::Lea => Inst::Lea { dst: r, src: m },
-        Row::TestStore => Inst::Test { dst: m, src: r },
-        Row::TestEax => Inst::Test {
-            dst: eax,
-            src: Operand::I(number),
-        },
-        Row::TestWord => Inst::Test {
-            dst: m,
-            src: Operand::I(number),
-        },
+        Row::TestStore => test(m, r),
+        Row::TestEax => test(eax, Operand::I(number)),
+        Row::TestWord => test(m, Operand::I(number)),
         Row::IncReg(dst) => Inst::Inc(Operand::R(dst)),
         Row::Inc => Inst::Inc(m),
         Row::DecReg(dst) => Inst::Dec(Operand::R(dst)),
@@ -251,31 +247,11 @@ pub fn build(row: Row, reg: Reg, operand: Operand, number: u32) -> Inst
         Row::Div => Inst::Div(m),
         Row::Idiv => Inst::Idiv(m),
         Row::Imul2 => Inst::Imul2 { dst: r, src: m },
-        Row::Imul3Byte => Inst::Imul3 {
-            dst: r,
-            src: m,
-            imm: sign_extend(number as u8),
-        },
-        Row::Imul3Word => Inst::Imul3 {
-            dst: r,
-            src: m,
-            imm: number,
-        },
-        Row::ShiftOne(op) => Inst::Shift {
-            op,
-            dst: m,
-            by: Count::By(1),
-        },
-        Row::ShiftBy(op) => Inst::Shift {
-            op,
-            dst: m,
-            by: Count::By(number as u8),
-        },
-        Row::ShiftCl(op) => Inst::Shift {
-            op,
-            dst: m,
-            by: Count::Cl,
-        },
+        Row::Imul3Byte => imul3(r, m, sign_extend(number as u8)),
+        Row::Imul3Word => imul3(r, m, number),
+        Row::ShiftOne(op) => shift(op, m, Count::By(1)),
+        Row::ShiftBy(op) => shift(op, m, Count::By(number as u8)),
+        Row::ShiftCl(op) => shift(op, m, Count::Cl),
         Row::Cdq => Inst::Cdq,
         Row::Nop => Inst::Nop,
         Row::PushReg(src) => Inst::Push(Operand::R(src)),

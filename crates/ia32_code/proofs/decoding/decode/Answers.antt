@@ -1,7 +1,7 @@
 use Rattle.std.proofs.Common.{Ok, Err, refl, sym, arith}
 use Rattle.ia32_code.specs.declared.reading.Stop.TheVariants.{Short, Unknown}
-use Rattle.ia32_code.proofs.FrontLemmas.{counted_is, decoded_is}
-use Rattle.ia32_code.proofs.Answered.{front_of, read_is, cut_at, no_front_at, no_cut_at, has_front}
+use Rattle.ia32_code.proofs.FrontLemmas.{front_is, decoded_is}
+use Rattle.ia32_code.proofs.Answered.{front_facts, read_is, cut_at, no_front_at, no_cut_at, has_front}
 use Rattle.ia32_code.proofs.Encoded.{canonical_text}
 use Rattle.ia32_code.proofs.decoding.decode.Goals as goal
 use Rattle.ia32_code.proofs.decoding.decode.Goals.{In-Ok, In-Err-Short, In-Err-Unknown}
@@ -9,16 +9,16 @@ use Rattle.ia32_code.proofs.decoding.decode.Goals.{In-Ok, In-Err-Short, In-Err-U
 -- ---- an instruction and what follows it
 
 pub overflow_sub-result : goal.overflow_sub-result
-overflow_sub-result c = (front_of c.args.bytes.now c.in-Ok.inst c.in-Ok.rest.now (λ i. omega (arith, c.type_inv.bytes i)) c.in-Ok.ensures).shorter
+overflow_sub-result c = (front_facts c.args.bytes.now c.in-Ok.inst c.in-Ok.rest.now (λ i. omega (arith, c.type_inv.bytes i)) c.in-Ok.ensures).shorter
 
 pub overflow_cast-result : goal.overflow_cast-result
 overflow_cast-result c =
-    let f = front_of c.args.bytes.now c.in-Ok.inst c.in-Ok.rest.now (λ i. omega (arith, c.type_inv.bytes i)) c.in-Ok.ensures in
+    let f = front_facts c.args.bytes.now c.in-Ok.inst c.in-Ok.rest.now (λ i. omega (arith, c.type_inv.bytes i)) c.in-Ok.ensures in
     omega (arith, f.short)
 
 pub returns-in-Ok-clause-answers : goal.returns-in-Ok-clause-answers
 returns-in-Ok-clause-answers c =
-    let f = front_of c.args.bytes.now c.in-Ok.inst c.in-Ok.rest.now (λ i. omega (arith, c.type_inv.bytes i)) c.in-Ok.ensures in
+    let f = front_facts c.args.bytes.now c.in-Ok.inst c.in-Ok.rest.now (λ i. omega (arith, c.type_inv.bytes i)) c.in-Ok.ensures in
     (f.some, omega arith, f.spells)
 
 pub returns-in-Ok-clause-spelled : goal.returns-in-Ok-clause-spelled
@@ -29,11 +29,11 @@ returns-in-Ok-clause-canonical c = λ inst text more h e q. returns-in-Ok-clause
 
 pub returns-in-Ok-clause-cut : goal.returns-in-Ok-clause-cut
 returns-in-Ok-clause-cut c = λ h.
-    let f = front_of c.args.bytes.now c.in-Ok.inst c.in-Ok.rest.now (λ i. omega (arith, c.type_inv.bytes i)) c.in-Ok.ensures in
+    let f = front_facts c.args.bytes.now c.in-Ok.inst c.in-Ok.rest.now (λ i. omega (arith, c.type_inv.bytes i)) c.in-Ok.ensures in
     absurd (f.whole h)
 
 pub returns-in-Ok-clause-front : goal.returns-in-Ok-clause-front
-returns-in-Ok-clause-front c = counted_is c.args.bytes.now (Ok (c.in-Ok.inst, c.in-Ok.rest.now)) c.in-Ok.ensures
+returns-in-Ok-clause-front c = front_is c.args.bytes.now (Ok (c.in-Ok.inst, c.in-Ok.rest.now)) c.in-Ok.ensures
 
 -- ---- bytes that end too early
 
@@ -47,7 +47,7 @@ pub returns-in-Err-Short-clause-canonical : goal.returns-in-Err-Short-clause-can
 returns-in-Err-Short-clause-canonical c = λ inst text more h e q. returns-in-Err-Short-clause-spelled c text more inst (canonical_text inst text h e) q
 
 pub returns-in-Err-Short-clause-front : goal.returns-in-Err-Short-clause-front
-returns-in-Err-Short-clause-front c = counted_is c.args.bytes.now (Err Short) (rw c.in-Err-Short.field-0-is at c.in-Err-Short.ensures)
+returns-in-Err-Short-clause-front c = front_is c.args.bytes.now (Err Short) (rw c.in-Err-Short.field-0-is at c.in-Err-Short.ensures)
 
 -- ---- bytes with which no spelling begins
 
@@ -66,7 +66,7 @@ pub returns-in-Err-Unknown-clause-cut : goal.returns-in-Err-Unknown-clause-cut
 returns-in-Err-Unknown-clause-cut c = λ h. absurd ((returns-in-Err-Unknown-clause-answers c).1 h)
 
 pub returns-in-Err-Unknown-clause-front : goal.returns-in-Err-Unknown-clause-front
-returns-in-Err-Unknown-clause-front c = counted_is c.args.bytes.now (Err Unknown) (rw c.in-Err-Unknown.field-0-is at c.in-Err-Unknown.ensures)
+returns-in-Err-Unknown-clause-front c = front_is c.args.bytes.now (Err Unknown) (rw c.in-Err-Unknown.field-0-is at c.in-Err-Unknown.ensures)
 
 -- ---- the one answer
 
