@@ -17,10 +17,13 @@ pub header_apart : (i j k : ℕ) → i % 4 ≡ 0 → j % 4 ≡ 0 → (k ≡ 1) �
 header_apart i j k h g (inl q) e = omega arith
 header_apart i j k h g (inr q) e = omega arith
 
+-- words of two blocks at the same distance from their first words are apart
 pub differ : (i j k : ℕ) → i ≢ j → i + k ≢ j + k
 differ i j k n e = n (omega arith)
 
-pub chain-others : (u v list : List ℕ) (back link : ℕ) → ((j : ℕ) → In j list → get_or v (j + 1) 0 ≡ get_or u (j + 1) 0) → ((j : ℕ) → In j list → get_or v (j + 2) 0 ≡ get_or u (j + 2) 0) → Chain u back link list → Chain v back link list
+-- a list stays where the links of its blocks stay
+pub chain-others : (u v list : List ℕ) (back link : ℕ) → ((j : ℕ) → In j list → get_or v (j + 1) 0 ≡ get_or u (j + 1) 0)
+    → ((j : ℕ) → In j list → get_or v (j + 2) 0 ≡ get_or u (j + 2) 0) → Chain u back link list → Chain v back link list
 chain-others u v [] back link f g c = c
 chain-others u v (i ∷ rest) back link f g c =
     (c.0, g i (inl refl) ∙ c.1, rw (f i (inl refl)) (chain-others u v rest (i + 1) (get_or u (i + 1) 0) (λ j m. f j (inr m)) (λ j m. g j (inr m)) c.2))
@@ -30,7 +33,8 @@ pub once-rest : (x j : ℕ) (xs : List ℕ) → Once (x ∷ xs) → In j xs → 
 once-rest x j xs o m e = o.0 (let P : ℕ → Type 0 = λ i. In i xs in subst P e m)
 
 -- the list that a new block is put in front of
-pub chain-pushed : (u v list : List ℕ) (i head : ℕ) → Inserted u v i head → i % 4 ≡ 0 → ((j : ℕ) → In j list → j % 4 ≡ 0) → (In i list → ⊥) → Once list → Chain u 0 head list → Chain v (i + 1) head list
+pub chain-pushed : (u v list : List ℕ) (i head : ℕ) → Inserted u v i head → i % 4 ≡ 0 → ((j : ℕ) → In j list → j % 4 ≡ 0) → (In i list → ⊥) → Once list
+    → Chain u 0 head list → Chain v (i + 1) head list
 chain-pushed u v [] i head p r a n o c = c
 chain-pushed u v (g ∷ rest) i head p r a n o c = (c.0, p.next g c.0, rw link (chain-others u v rest (g + 1) (get_or u (g + 1) 0) links backs c.2))
   where
@@ -54,7 +58,8 @@ chain-pushed u v (g ∷ rest) i head p r a n o c = (c.0, p.next g c.0, rw link (
         p.others (j + 2) (λ q. rows i j r (a j (inr m)) (sym q)) (differ j i 2 (apart j (inr m))) (λ h e q. differ j g 2 (once-rest g j rest o m) (q ∙ ap (λ x. x + 2) (one h e)))
 
 -- a list of another class
-pub chain-aside : (u v list : List ℕ) (i head first : ℕ) → Inserted u v i head → i % 4 ≡ 0 → ((j : ℕ) → In j list → j % 4 ≡ 0) → (In i list → ⊥) → ((h : ℕ) → head ≡ h + 1 → (h % 4 ≡ 0) × (In h list → ⊥)) → Chain u 0 first list → Chain v 0 first list
+pub chain-aside : (u v list : List ℕ) (i head first : ℕ) → Inserted u v i head → i % 4 ≡ 0 → ((j : ℕ) → In j list → j % 4 ≡ 0) → (In i list → ⊥)
+    → ((h : ℕ) → head ≡ h + 1 → (h % 4 ≡ 0) × (In h list → ⊥)) → Chain u 0 first list → Chain v 0 first list
 chain-aside u v list i head first p r a n o c = chain-others u v list 0 first link_of back_of c
   where
     apart : (h : ℕ) → (In h list → ⊥) → (j : ℕ) → In j list → j ≢ h
@@ -79,7 +84,10 @@ first_of u (g ∷ rest) back head h c e = inl (let q = c.0 in omega arith)
 abbrev pub More : (ℕ → Type 0) → ℕ → ℕ → Type 0
 More Listed i j = Listed j ⊎ (j ≡ i)
 
-pub listed-insert : (u v heads : List ℕ) (Listed : ℕ → Type 0) (i : ℕ) → ((j : ℕ) → Listed j → Begins u j) → AreListed u Listed heads → Begins u i → (Listed i → ⊥) → length heads ≡ 32 → class_of (size_at u i) < 32 → Inserted u v i (get_or heads (class_of (size_at u i)) 0) → AreListed v (More Listed i) (set heads (class_of (size_at u i)) (i + 1))
+-- putting a block in front of the list of its class lists it, and leaves the other lists
+pub listed-insert : (u v heads : List ℕ) (Listed : ℕ → Type 0) (i : ℕ) → ((j : ℕ) → Listed j → Begins u j) → AreListed u Listed heads → Begins u i
+    → (Listed i → ⊥) → length heads ≡ 32 → class_of (size_at u i) < 32 → Inserted u v i (get_or heads (class_of (size_at u i)) 0)
+    → AreListed v (More Listed i) (set heads (class_of (size_at u i)) (i + 1))
 listed-insert u v heads Listed i begins lists b n size below p class h = choose (same_place class (class_of (size_at u i)))
   where
     row : (j : ℕ) → Listed j → j % 4 ≡ 0

@@ -24,6 +24,7 @@ inside_apart u i j k d f b c n h l g e = choose (order i j)
     choose (inr (inl m)) = n (sym m)
     choose (inr (inr m)) = let a = apart u j i c b m in omega arith
 
+-- a used block is no free one
 free_used : (u : List ℕ) (i j : ℕ) → IsFree u i → IsUsed u j → j ≢ i
 free_used u i j f g e = let h : used_at u i ≡ true = subst (λ k. used_at u k ≡ true) e g.used in let k = f.free in cc
 
@@ -33,15 +34,19 @@ only-headers u v j o b = o.others j (λ i f. let q = begins-row u i f.begins in 
 
 -- and no words of used blocks
 pub only-words : (u v : List ℕ) (j k : ℕ) → Formed u → OnlyLinks u v → IsUsed u j → j ≤ k → k < j + size_at u j → get_or v k 0 ≡ get_or u k 0
-only-words u v j k z o h l m = o.others k (λ i f. (inside_apart u i j k 1 z f.begins h.begins (free_used u i j f h) (omega arith) l m, inside_apart u i j k 2 z f.begins h.begins (free_used u i j f h) (omega arith) l m))
+only-words u v j k z o h l m =
+    o.others k (λ i f.
+    (inside_apart u i j k 1 z f.begins h.begins (free_used u i j f h) (omega arith) l m, inside_apart u i j k 2 z f.begins h.begins (free_used u i j f h) (omega arith) l m))
 
 -- blocks stay used or free
 pub used-only : (u v : List ℕ) (i : ℕ) → OnlyLinks u v → IsUsed u i → IsUsed v i
 used-only u v i o h = record { begins = o.blocks.forth i h.begins; used = ap used_of (only-headers u v i o h.begins) ∙ h.used }
 
+-- free blocks stay free
 pub free-only : (u v : List ℕ) (i : ℕ) → OnlyLinks u v → IsFree u i → IsFree v i
 free-only u v i o f = free-through u v i o.blocks (only-headers u v i o f.begins) f
 
+-- and no other block becomes free
 pub free-only-back : (u v : List ℕ) (i : ℕ) → OnlyLinks u v → IsFree v i → IsFree u i
 free-only-back u v i o f = let b = o.blocks.back i f.begins in record { begins = b; free = sym (ap used_of (only-headers u v i o b)) ∙ f.free }
 
@@ -49,9 +54,11 @@ free-only-back u v i o f = let b = o.blocks.back i f.begins in record { begins =
 pub only-list : (u v : List ℕ) → Formed u → OnlyLinks u v → Blocks v ≡ Blocks u
 only-list u v f o = same-list u v f o.blocks (λ j b. ap used_of (only-headers u v j o b))
 
+-- no change at all changes links alone
 pub only-refl : (u : List ℕ) → OnlyLinks u u
 only-refl u = record { blocks = record { size = refl; forth = λ _ b. b; back = λ _ b. b; sizes = λ _ _. refl }; others = λ _ _. refl }
 
+-- two changes of links are one
 pub only-trans : (u v w : List ℕ) → OnlyLinks u v → OnlyLinks v w → OnlyLinks u w
 only-trans u v w a b = record { blocks = trans-blocks u v w a.blocks b.blocks; others = λ k h. b.others k (λ i f. h i (free-only-back u v i a f)) ∙ a.others k h }
 
@@ -59,5 +66,6 @@ only-trans u v w a b = record { blocks = trans-blocks u v w a.blocks b.blocks; o
 pub only-inserted : (u v : List ℕ) (i head : ℕ) → IsFree u i → Names u head → Inserted u v i head → OnlyLinks u v
 only-inserted u v i head g n p = record { blocks = p.blocks; others = λ k h. p.others k (h i g).0 (h i g).1 (λ x e. (h x (n x e)).1) }
 
+-- and so does taking out
 pub only-removed : (u v : List ℕ) (i : ℕ) → Names u (get_or u (i + 1) 0) → Names u (get_or u (i + 2) 0) → Removed u v i → OnlyLinks u v
 only-removed u v i n b p = record { blocks = p.blocks; others = λ k h. p.others k (λ x e. (h x (b x e)).0) (λ x e. (h x (n x e)).1) }

@@ -43,6 +43,7 @@ pub record Fronted (u b : List ℕ) (i head : ℕ) : Type 0 where
   pub back : get_or b (i + 2) 0 ≡ 0
   pub others : (k : ℕ) → k ≢ i + 1 → k ≢ i + 2 → get_or b k 0 ≡ get_or u k 0
 
+-- what the first two writes of an insertion leave
 pub fronted : (u a b : List ℕ) (i head : ℕ) → Formed u → Begins u i → a ≡ set u (i + 1) head → SameBlocks u a → b ≡ set a (i + 2) 0 → SameBlocks a b → Fronted u b i head
 fronted u a b i head f g e s d t = record {
   blocks = trans-blocks u a b s t;
@@ -54,6 +55,7 @@ fronted u a b i head f g e s d t = record {
     one : (i : ℕ) → i + 1 ≢ i + 2
     one i h = omega arith
 
+-- after them the old first block is still free
 pub fronted-names : (u b : List ℕ) (i head : ℕ) → Fronted u b i head → Begins u i → Names u head → Names b head
 fronted-names u b i head p g n h e =
     let r = named_row u head h n e in
@@ -61,7 +63,9 @@ fronted-names u b i head p g n h e =
     free-through u b h p.blocks (p.others h (header_apart i h 1 q r (inl refl)) (header_apart i h 2 q r (inr refl))) (n h e)
 
 -- an insertion by its three writes
-pub inserted : (u b v : List ℕ) (i head : ℕ) → Fronted u b i head → Begins u i → Names u head → head ≢ i + 1 → SameBlocks b v → ((p : ℕ) → head ≡ p + 1 → get_or v (p + 2) 0 ≡ i + 1) → ((k : ℕ) → ((p : ℕ) → head ≡ p + 1 → k ≢ p + 2) → get_or v k 0 ≡ get_or b k 0) → Inserted u v i head
+pub inserted : (u b v : List ℕ) (i head : ℕ) → Fronted u b i head → Begins u i → Names u head → head ≢ i + 1 → SameBlocks b v
+    → ((p : ℕ) → head ≡ p + 1 → get_or v (p + 2) 0 ≡ i + 1) → ((k : ℕ) → ((p : ℕ) → head ≡ p + 1 → k ≢ p + 2) → get_or v k 0 ≡ get_or b k 0)
+    → Inserted u v i head
 inserted u b v i head p g n d s w o = record {
   blocks = trans-blocks u b v p.blocks s;
   link = o (i + 1) (λ h e. rows i h (begins-row u i g) (named_row u head h n e)) ∙ p.link;
@@ -71,13 +75,17 @@ inserted u b v i head p g n d s w o = record {
 }
 
 -- after the first write of a removal the other link still names a free block
-pub removed-names : (u a : List ℕ) (next back : ℕ) → Names u next → Names u back → SameBlocks u a → ((k : ℕ) → ((p : ℕ) → back ≡ p + 1 → k ≢ p + 1) → get_or a k 0 ≡ get_or u k 0) → Names a next
+pub removed-names : (u a : List ℕ) (next back : ℕ) → Names u next → Names u back → SameBlocks u a
+    → ((k : ℕ) → ((p : ℕ) → back ≡ p + 1 → k ≢ p + 1) → get_or a k 0 ≡ get_or u k 0) → Names a next
 removed-names u a next back n b s o g e =
     let r = named_row u next g n e in
     free-through u a g s (o g (λ p q. header_apart p g 1 (named_row u back p b q) r (inl refl))) (n g e)
 
 -- a removal by its two writes
-pub removed : (u a v : List ℕ) (i next back : ℕ) → next ≡ get_or u (i + 1) 0 → back ≡ get_or u (i + 2) 0 → Names u next → Names u back → SameBlocks u a → ((p : ℕ) → back ≡ p + 1 → get_or a (p + 1) 0 ≡ next) → ((k : ℕ) → ((p : ℕ) → back ≡ p + 1 → k ≢ p + 1) → get_or a k 0 ≡ get_or u k 0) → SameBlocks a v → ((g : ℕ) → next ≡ g + 1 → get_or v (g + 2) 0 ≡ back) → ((k : ℕ) → ((g : ℕ) → next ≡ g + 1 → k ≢ g + 2) → get_or v k 0 ≡ get_or a k 0) → Removed u v i
+pub removed : (u a v : List ℕ) (i next back : ℕ) → next ≡ get_or u (i + 1) 0 → back ≡ get_or u (i + 2) 0 → Names u next → Names u back → SameBlocks u a
+    → ((p : ℕ) → back ≡ p + 1 → get_or a (p + 1) 0 ≡ next) → ((k : ℕ) → ((p : ℕ) → back ≡ p + 1 → k ≢ p + 1) → get_or a k 0 ≡ get_or u k 0)
+    → SameBlocks a v → ((g : ℕ) → next ≡ g + 1 → get_or v (g + 2) 0 ≡ back)
+    → ((k : ℕ) → ((g : ℕ) → next ≡ g + 1 → k ≢ g + 2) → get_or v k 0 ≡ get_or a k 0) → Removed u v i
 removed u a v i next back x y n b s w o t z q = record {
   blocks = trans-blocks u a v s t;
   before = λ p e. let h : back ≡ p + 1 = y ∙ e in q (p + 1) (λ g f. rows p g (named_row u back p b h) (named_row u next g n f)) ∙ (w p h ∙ x);

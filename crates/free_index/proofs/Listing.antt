@@ -15,7 +15,9 @@ use Rattle.free_index.proofs.Removal.{Without, taken_out, link_in, back_in, back
 abbrev pub Fewer : (ℕ → Type 0) → ℕ → ℕ → Type 0
 Fewer Listed i j = Listed j × (j ≢ i)
 
-pub listed-remove : (u v heads heads' : List ℕ) (Listed : ℕ → Type 0) (i : ℕ) → ((j : ℕ) → Listed j → Begins u j) → AreListed u Listed heads → Listed i → length heads ≡ 32 → Removed u v i → Unheaded u heads heads' i (class_of (size_at u i)) → AreListed v (Fewer Listed i) heads'
+-- taking a block out of the list of its class leaves all others listed
+pub listed-remove : (u v heads heads' : List ℕ) (Listed : ℕ → Type 0) (i : ℕ) → ((j : ℕ) → Listed j → Begins u j) → AreListed u Listed heads → Listed i
+    → length heads ≡ 32 → Removed u v i → Unheaded u heads heads' i (class_of (size_at u i)) → AreListed v (Fewer Listed i) heads'
 listed-remove u v heads heads' Listed i begins lists here size r h class below = choose (same_place class mine)
   where
     mine : ℕ
@@ -74,9 +76,11 @@ listed-remove u v heads heads' Listed i begins lists here size r h class below =
     shorter : (rest : List ℕ) × Without i old.list rest → ClassList v (Fewer Listed i) mine (get_or heads' mine 0)
     shorter (rest, w) = record {
       list = rest;
-      chain = chain-removed u v i old.list rest 0 _ _ w r (λ j m. row j (old.each j m).0) old.once (λ p e. let b = before p e in (row p (old.each p b.0).0, b.1)) member first old.chain;
+      chain = chain-removed u v i old.list rest 0 _ _ w r (λ j m. row j (old.each j m).0) old.once
+          (λ p e. let b = before p e in (row p (old.each p b.0).0, b.1)) member first old.chain;
       once = once_without i old.list rest w old.once;
-      each = λ j m. let l = old.each j (without_in i j old.list rest w m) in ((l.0, λ e. without_not i old.list rest w old.once (let P : ℕ → Type 0 = λ k. In k rest in subst P e m)), classes j (begins j l.0) ∙ l.1);
+      each = λ j m. let l = old.each j (without_in i j old.list rest w m) in
+          ((l.0, λ e. without_not i old.list rest w old.once (let P : ℕ → Type 0 = λ k. In k rest in subst P e m)), classes j (begins j l.0) ∙ l.1);
       all = λ j l e. in_without i j old.list rest w l.1 (old.all j l.0 (sym (classes j (begins j l.0)) ∙ e));
     }
 
@@ -103,7 +107,9 @@ listed-remove u v heads heads' Listed i begins lists here size r h class below =
     choose (inr d) = aside d (lists class below)
 
 -- the same lists of other words
-pub listed-change : (u v heads : List ℕ) (L M : ℕ → Type 0) → AreListed u L heads → ((j : ℕ) → L j → get_or v (j + 1) 0 ≡ get_or u (j + 1) 0) → ((j : ℕ) → L j → get_or v (j + 2) 0 ≡ get_or u (j + 2) 0) → ((j : ℕ) → L j → size_at v j ≡ size_at u j) → ((j : ℕ) → L j → M j) → ((j : ℕ) → M j → L j) → AreListed v M heads
+pub listed-change : (u v heads : List ℕ) (L M : ℕ → Type 0) → AreListed u L heads → ((j : ℕ) → L j → get_or v (j + 1) 0 ≡ get_or u (j + 1) 0)
+    → ((j : ℕ) → L j → get_or v (j + 2) 0 ≡ get_or u (j + 2) 0) → ((j : ℕ) → L j → size_at v j ≡ size_at u j) → ((j : ℕ) → L j → M j)
+    → ((j : ℕ) → M j → L j) → AreListed v M heads
 listed-change u v heads L M lists links backs sizes forth back class below = record {
   list = old.list;
   chain = chain-others u v old.list 0 _ (λ j m. links j (old.each j m).0) (λ j m. backs j (old.each j m).0) old.chain;
@@ -119,6 +125,7 @@ listed-change u v heads L M lists links backs sizes forth back class below = rec
 pub head-names : (u heads : List ℕ) (L : ℕ → Type 0) (class : ℕ) → AreListed u L heads → ((j : ℕ) → L j → IsFree u j) → class < 32 → Names u (get_or heads class 0)
 head-names u heads L class lists free below p e = let old = lists class below in free p (old.each p (first_of u old.list 0 _ p old.chain e)).0
 
+-- the first of a list is no block that is not listed
 pub head-other : (u heads : List ℕ) (L : ℕ → Type 0) (class i : ℕ) → AreListed u L heads → class < 32 → (L i → ⊥) → get_or heads class 0 ≢ i + 1
 head-other u heads L class i lists below n e = let old = lists class below in n (old.each i (first_of u old.list 0 _ i old.chain e)).0
 
@@ -128,6 +135,7 @@ next-names u heads i lists f p e =
     let old = lists (class_of (size_at u i)) (class-most (size_at u i)) in
     (old.each p (link_in u old.list 0 _ p i old.chain (old.all i f refl) e)).0
 
+-- the back link of a listed block names a free block
 pub back-names : (u heads : List ℕ) (i : ℕ) → AreListed u (IsFree u) heads → IsFree u i → Names u (get_or u (i + 2) 0)
 back-names u heads i lists f p e = cases (back_in u old.list 0 _ i p old.chain (old.all i f refl) e)
   where

@@ -9,6 +9,7 @@ pub data Without (i : ℕ) : List ℕ → List ℕ → Type 0 where
   here : (xs : List ℕ) → Without i (i ∷ xs) xs
   there : (x : ℕ) (xs ys : List ℕ) → x ≢ i → Without i xs ys → Without i (x ∷ xs) (x ∷ ys)
 
+-- a member can be taken out of a list
 pub taken_out : (i : ℕ) (list : List ℕ) → In i list → (rest : List ℕ) × Without i list rest
 taken_out i [] m = absurd m
 taken_out i (x ∷ xs) m = choose (same_place x i) m (taken_out i xs)
@@ -28,12 +29,14 @@ link_in u (g ∷ rest) back link i j c (inl q) e = inr (first_of u rest (g + 1) 
 link_in u (g ∷ rest) back link i j c (inr m) e = inr (link_in u rest (g + 1) (get_or u (g + 1) 0) i j c.2 m e)
 
 -- what a back link says
-pub back_in : (u list : List ℕ) (back link i p : ℕ) → Chain u back link list → In i list → get_or u (i + 2) 0 ≡ p + 1 → ((back ≡ p + 1) × (link ≡ i + 1)) ⊎ (In p list × (get_or u (p + 1) 0 ≡ i + 1))
+pub back_in : (u list : List ℕ) (back link i p : ℕ) → Chain u back link list → In i list → get_or u (i + 2) 0 ≡ p + 1
+    → ((back ≡ p + 1) × (link ≡ i + 1)) ⊎ (In p list × (get_or u (p + 1) 0 ≡ i + 1))
 back_in u [] back link i p c m e = absurd m
 back_in u (g ∷ rest) back link i p c (inl q) e = inl (sym c.1 ∙ rw (← q) e, c.0 ∙ rw q refl)
 back_in u (g ∷ rest) back link i p c (inr m) e = choose (back_in u rest (g + 1) (get_or u (g + 1) 0) i p c.2 m e)
   where
-    choose : ((g + 1 ≡ p + 1) × (get_or u (g + 1) 0 ≡ i + 1)) ⊎ (In p rest × (get_or u (p + 1) 0 ≡ i + 1)) → ((back ≡ p + 1) × (link ≡ i + 1)) ⊎ (In p (g ∷ rest) × (get_or u (p + 1) 0 ≡ i + 1))
+    choose : ((g + 1 ≡ p + 1) × (get_or u (g + 1) 0 ≡ i + 1)) ⊎ (In p rest × (get_or u (p + 1) 0 ≡ i + 1))
+        → ((back ≡ p + 1) × (link ≡ i + 1)) ⊎ (In p (g ∷ rest) × (get_or u (p + 1) 0 ≡ i + 1))
     choose (inl h) = let q : p ≡ g = let a = h.0 in omega arith in inr (inl q, rw q h.1)
     choose (inr h) = inr (inr h.0, h.1)
 
@@ -49,41 +52,53 @@ back_none u [] back link i c m e = absurd m
 back_none u (g ∷ rest) back link i c (inl q) e = c.0 ∙ rw q refl
 back_none u (g ∷ rest) back link i c (inr m) e = absurd (back_some u rest g (get_or u (g + 1) 0) i c.2 m e)
 
+-- what is left was in the list
 pub without_in : (i j : ℕ) (list rest : List ℕ) → Without i list rest → In j rest → In j list
 without_in i j _ _ (here xs) m = inr m
 without_in i j _ _ (there x xs ys n w) (inl e) = inl e
 without_in i j _ _ (there x xs ys n w) (inr m) = inr (without_in i j xs ys w m)
 
+-- what was taken out is not left
 pub without_not : (i : ℕ) (list rest : List ℕ) → Without i list rest → Once list → In i rest → ⊥
 without_not i _ _ (here xs) o m = o.0 m
 without_not i _ _ (there x xs ys n w) o (inl e) = n (sym e)
 without_not i _ _ (there x xs ys n w) o (inr m) = without_not i xs ys w o.1 m
 
+-- all else is left
 pub in_without : (i j : ℕ) (list rest : List ℕ) → Without i list rest → j ≢ i → In j list → In j rest
 in_without i j _ _ (here xs) d (inl e) = absurd (d e)
 in_without i j _ _ (here xs) d (inr m) = m
 in_without i j _ _ (there x xs ys n w) d (inl e) = inl e
 in_without i j _ _ (there x xs ys n w) d (inr m) = inr (in_without i j xs ys w d m)
 
+-- what stood once stands once in what is left
 pub once_without : (i : ℕ) (list rest : List ℕ) → Without i list rest → Once list → Once rest
 once_without i _ _ (here xs) o = o.1
 once_without i _ _ (there x xs ys n w) o = (λ m. o.0 (without_in i x xs ys w m), once_without i xs ys w o.1)
 
 -- the list behind the removed block
-chain-behind : (u v list : List ℕ) (i back : ℕ) → Removed u v i → i % 4 ≡ 0 → ((j : ℕ) → In j list → j % 4 ≡ 0) → (In i list → ⊥) → Once list → ((p : ℕ) → get_or u (i + 2) 0 ≡ p + 1 → (p % 4 ≡ 0) × (get_or u (p + 1) 0 ≡ i + 1)) → get_or u (i + 2) 0 ≡ back → Chain u (i + 1) (get_or u (i + 1) 0) list → Chain v back (get_or u (i + 1) 0) list
+chain-behind : (u v list : List ℕ) (i back : ℕ) → Removed u v i → i % 4 ≡ 0 → ((j : ℕ) → In j list → j % 4 ≡ 0) → (In i list → ⊥) → Once list
+    → ((p : ℕ) → get_or u (i + 2) 0 ≡ p + 1 → (p % 4 ≡ 0) × (get_or u (p + 1) 0 ≡ i + 1)) → get_or u (i + 2) 0 ≡ back
+    → Chain u (i + 1) (get_or u (i + 1) 0) list → Chain v back (get_or u (i + 1) 0) list
 chain-behind u v [] i back r a b n o p e c = c
-chain-behind u v (h ∷ rest) i back r a b n o p e c = (c.0, r.after h c.0 ∙ e, rw (link h (inl refl)) (chain-others u v rest (h + 1) (get_or u (h + 1) 0) (λ j m. link j (inr m)) backs c.2))
+chain-behind u v (h ∷ rest) i back r a b n o p e c =
+    (c.0, r.after h c.0 ∙ e, rw (link h (inl refl)) (chain-others u v rest (h + 1) (get_or u (h + 1) 0) (λ j m. link j (inr m)) backs c.2))
   where
     one : (g : ℕ) → get_or u (i + 1) 0 ≡ g + 1 → g ≡ h
     one g q = let z = c.0 in omega arith
 
     link : (j : ℕ) → In j (h ∷ rest) → get_or v (j + 1) 0 ≡ get_or u (j + 1) 0
-    link j m = r.others (j + 1) (λ q s t. n (link_in u (h ∷ rest) (i + 1) (get_or u (i + 1) 0) i j c m (ap (λ k. get_or u k 0) t ∙ (p q s).1))) (λ g s t. rows j h (b j m) (b h (inl refl)) (t ∙ ap (λ x. x + 2) (one g s)))
+    link j m = r.others (j + 1)
+        (λ q s t. n (link_in u (h ∷ rest) (i + 1) (get_or u (i + 1) 0) i j c m (ap (λ k. get_or u k 0) t ∙ (p q s).1)))
+        (λ g s t. rows j h (b j m) (b h (inl refl)) (t ∙ ap (λ x. x + 2) (one g s)))
 
     backs : (j : ℕ) → In j rest → get_or v (j + 2) 0 ≡ get_or u (j + 2) 0
     backs j m = r.others (j + 2) (λ q s t. rows q j (p q s).0 (b j (inr m)) (sym t)) (λ g s t. differ j h 2 (once-rest h j rest o m) (t ∙ ap (λ x. x + 2) (one g s)))
 
-pub chain-removed : (u v : List ℕ) (i : ℕ) (list rest : List ℕ) (back link link' : ℕ) → Without i list rest → Removed u v i → ((j : ℕ) → In j list → j % 4 ≡ 0) → Once list → ((p : ℕ) → get_or u (i + 2) 0 ≡ p + 1 → (p % 4 ≡ 0) × (get_or u (p + 1) 0 ≡ i + 1)) → In i list → NewFirst u i link link' → Chain u back link list → Chain v back link' rest
+-- the writes of a removal link what is left
+pub chain-removed : (u v : List ℕ) (i : ℕ) (list rest : List ℕ) (back link link' : ℕ) → Without i list rest → Removed u v i
+    → ((j : ℕ) → In j list → j % 4 ≡ 0) → Once list → ((p : ℕ) → get_or u (i + 2) 0 ≡ p + 1 → (p % 4 ≡ 0) × (get_or u (p + 1) 0 ≡ i + 1)) → In i list
+    → NewFirst u i link link' → Chain u back link list → Chain v back link' rest
 chain-removed u v i _ _ back link link' (here xs) r a o p m f c =
     rw (f.front c.0) (chain-behind u v xs i back r (a i (inl refl)) (λ j m. a j (inr m)) o.0 o.1 p c.1 c.2)
 chain-removed u v i _ _ back link link' (there g xs ys n w) r a o p m f c =

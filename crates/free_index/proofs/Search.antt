@@ -15,6 +15,7 @@ length-without : (i : ℕ) (list rest : List ℕ) → Without i list rest → le
 length-without i _ _ (here xs) = refl
 length-without i _ _ (there x xs ys n w) = ap suc (length-without i xs ys w)
 
+-- a number is in a list or not
 member : (n : ℕ) (xs : List ℕ) → In n xs ⊎ (In n xs → ⊥)
 member n [] = inr (λ m. m)
 member n (x ∷ xs) = choose (same_place n x) (member n xs)
@@ -28,9 +29,11 @@ member n (x ∷ xs) = choose (same_place n x) (member n xs)
     choose (inr d) (inl m) = inl (inr m)
     choose (inr d) (inr f) = inr (neither d f)
 
+-- a member is not what is no member
 in_not : (i j : ℕ) (xs : List ℕ) → (In i xs → ⊥) → In j xs → j ≢ i
 in_not i j xs f m e = f (let P : ℕ → Type 0 = λ k. In k xs in subst P e m)
 
+-- different numbers below n are at most n
 pub once-most : (n : ℕ) (xs : List ℕ) → Once xs → ((i : ℕ) → In i xs → i < n) → length xs ≤ n
 once-most zero [] o h = omega arith
 once-most zero (x ∷ xs) o h = let l = h x (inl refl) in absurd (omega arith)
@@ -82,10 +85,13 @@ links-chain u (x ∷ xs) (suc n) back link c l =
     let q : links_from n u (get_or u (suc x) 0) ≡ length xs = rw p r in
     rw e (ap suc q)
 
+-- one step of a search
 pub search-step : (u : List ℕ) (class need link : ℕ) → Searching u class need link → 0 < link → SearchStep u class need link
 search-step u class need link s h = go s.rest s.chain s.free s.seen s.few
   where
-    go : (xs : List ℕ) → Chain u s.before link xs → ((i : ℕ) → In i xs → IsFree u i) → ((i : ℕ) → IsFree u i → class_of (size_at u i) ≡ class → In i xs ⊎ (size_at u i < need)) → length xs ≤ length u → SearchStep u class need link
+    go : (xs : List ℕ) → Chain u s.before link xs → ((i : ℕ) → In i xs → IsFree u i)
+        → ((i : ℕ) → IsFree u i → class_of (size_at u i) ≡ class → In i xs ⊎ (size_at u i < need)) → length xs ≤ length u
+        → SearchStep u class need link
     go [] c f g n = absurd (omega arith)
     go (x ∷ xs) c f g n = record {
       free = rw e (f x (inl refl));

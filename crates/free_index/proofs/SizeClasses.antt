@@ -6,9 +6,11 @@ use Rattle.std.proofs.lemmas.Bool.Decides.{nat_tests}
 use Rattle.std.proofs.lemmas.List.Sums.{count_by-le-length, sum_by-le-sum_by}
 use Rattle.free_index.specs.Classes.{limits, class_of}
 
+-- a limit below a size is below each greater size
 one_less : (l a b : ℕ) → a ≤ b → cond (nat_lt l a) 1 0 ≤ cond (nat_lt l b) 1 0
 one_less l a b h = grind (arith, nat_tests)
 
+-- a greater size has no fewer limits below it
 count-mono : (ls : List ℕ) (a b : ℕ) → a ≤ b → count_by (λ l. nat_lt l a) ls ≤ count_by (λ l. nat_lt l b) ls
 count-mono ls a b h = sum_by-le-sum_by (λ l. cond (nat_lt l a) 1 0) (λ l. cond (nat_lt l b) 1 0) ls (λ l. one_less l a b h)
 
@@ -27,6 +29,7 @@ all_below : (ℕ → Bool) → ℕ → Bool
 all_below p zero = true
 all_below p (suc n) = p n && all_below p n
 
+-- both of two tests that hold
 first-of : (a b : Bool) → a && b ≡ true → a ≡ true
 first-of true b h = refl
 first-of false b h = absurd (false≢true h)
@@ -35,6 +38,7 @@ second-of : (a b : Bool) → a && b ≡ true → b ≡ true
 second-of true b h = h
 second-of false b h = absurd (false≢true h)
 
+-- a test that holds below n holds at each number below n
 at-below : (p : ℕ → Bool) (n k : ℕ) → all_below p n ≡ true → k < n → p k ≡ true
 unfolding all_below
 at-below p zero k h l = absurd (omega arith)
@@ -47,12 +51,14 @@ at-below p (suc n) k h l = choose (order k n) (at-below p n k (second-of (p n) (
     choose (inl q) r = rw q (first-of (p n) (all_below p n) h)
     choose (inr d) r = r (omega arith)
 
+-- the tests of the classes: of the sizes to 64, and of those above
 small_at : ℕ → Bool
 small_at k = class_of (4 * (k + 1)) == k
 
 large_at : ℕ → Bool
 large_at j = (class_of (64 * 2 ^ j + 1) == 16 + j) && (class_of (128 * 2 ^ j) == 16 + j)
 
+-- each of them holds, by computing
 all_small : all_below small_at 16 ≡ true
 unfolding all_below small_at class_of limits
 all_small = refl
@@ -61,13 +67,16 @@ all_large : all_below large_at 16 ≡ true
 unfolding all_below large_at class_of limits
 all_large = refl
 
+-- numbers that compare alike are alike
 same-number : (a b : ℕ) → (a == b) ≡ true → a ≡ b
 same-number a b h = grind (arith, nat_tests)
 
+-- the class of a size to 64
 small-true : (k : ℕ) → k < 16 → (class_of (4 * (k + 1)) == k) ≡ true
 unfolding small_at
 small-true k l = at-below small_at 16 k all_small l
 
+-- the class of a size above 64: from one limit to the next
 large-true : (j : ℕ) → j < 16 → ((class_of (64 * 2 ^ j + 1) == 16 + j) && (class_of (128 * 2 ^ j) == 16 + j)) ≡ true
 unfolding large_at
 large-true j l = at-below large_at 16 j all_large l

@@ -16,15 +16,18 @@ use Rattle.free_index.proofs.Listing.{listed-change, head-names, head-other, Few
 use Rattle.free_index.proofs.LinkWrites.{free-through}
 use Rattle.free_index.proofs.LinkChanges.{only-refl, only-trans, only-headers, only-words, only-inserted, free-only, free-only-back}
 
+-- all are 0
 abbrev pub Zeros : List ℕ → Type 0
 Zeros [] = Unit {0}
 Zeros (x ∷ xs) = (x ≡ 0) × Zeros xs
 
+-- what stands in zeros is 0
 pub zeros-get : (xs : List ℕ) (k : ℕ) → Zeros xs → get_or xs k 0 ≡ 0
 zeros-get [] k z = refl
 zeros-get (x ∷ xs) zero z = z.0
 zeros-get (x ∷ xs) (suc k) z = zeros-get xs k z.1
 
+-- before the first block nothing is listed
 pub rebuilding-first : (u heads : List ℕ) → Formed u → Zeros heads → length heads ≡ 32 → Rebuilding u u 0 heads
 rebuilding-first u heads f z n = record {
   stands = inr (begins-first u (let l = f.least in omega arith));
@@ -33,6 +36,7 @@ rebuilding-first u heads f z n = record {
   size = n;
 }
 
+-- a block before the next one is this one or before it
 earlier : (v : List ℕ) (at i : ℕ) → Begins v at → Begins v i → i < at + size_at v at → (i < at) ⊎ (i ≡ at)
 earlier v at i b d l = choose (order i at)
   where
@@ -44,11 +48,13 @@ earlier v at i b d l = choose (order i at)
     choose (inr (inl h)) = inr h
     choose (inr (inr h)) = let a = apart v at i b d h in absurd (omega arith)
 
+-- a used block is passed over
 pub rebuilding-used : (u v heads : List ℕ) (at : ℕ) → Rebuilding u v at heads → Begins v at → Formed v → used_at v at ≡ true → Rebuilding u v (at + size_at v at) heads
 rebuilding-used u v heads at r b f h = record {
   stands = next_place v at f b;
   only = r.only;
-  lists = listed-change v v heads _ _ r.lists (λ _ _. refl) (λ _ _. refl) (λ _ _. refl) (λ j l. let q = l.1 in (l.0, omega arith)) (λ j l. (l.0, back j l.0 (earlier v at j b l.0.begins l.1)));
+  lists = listed-change v v heads _ _ r.lists (λ _ _. refl) (λ _ _. refl) (λ _ _. refl) (λ j l. let q = l.1 in (l.0, omega arith))
+      (λ j l. (l.0, back j l.0 (earlier v at j b l.0.begins l.1)));
   size = r.size;
 }
   where
@@ -56,13 +62,18 @@ rebuilding-used u v heads at r b f h = record {
     back j l (inl q) = q
     back j l (inr e) = let k : used_at v at ≡ false = subst (λ i. used_at v i ≡ false) e l.free in absurd (cc)
 
+-- while the lists are made anew, their first links name free blocks
 pub rebuilding-names : (u v heads : List ℕ) (at : ℕ) → Rebuilding u v at heads → Names v (get_or heads (class_of (size_at v at)) 0)
 rebuilding-names u v heads at r = head-names v heads _ _ r.lists (λ j l. l.0) (class-most (size_at v at))
 
+-- and none names the block that is next
 pub rebuilding-other : (u v heads : List ℕ) (at : ℕ) → Rebuilding u v at heads → get_or heads (class_of (size_at v at)) 0 ≢ at + 1
 rebuilding-other u v heads at r = head-other v heads _ _ at r.lists (class-most (size_at v at)) (λ l. let q = l.1 in omega arith)
 
-pub rebuilding-free : (u v w heads heads' : List ℕ) (at : ℕ) → Rebuilding u v at heads → IsFree v at → Formed v → Inserted v w at (get_or heads (class_of (size_at v at)) 0) → heads' ≡ set heads (class_of (size_at v at)) (at + 1) → Formed w → Rebuilding u w (at + size_at v at) heads'
+-- a free block is listed
+pub rebuilding-free : (u v w heads heads' : List ℕ) (at : ℕ) → Rebuilding u v at heads → IsFree v at → Formed v
+    → Inserted v w at (get_or heads (class_of (size_at v at)) 0) → heads' ≡ set heads (class_of (size_at v at)) (at + 1) → Formed w
+    → Rebuilding u w (at + size_at v at) heads'
 rebuilding-free u v w heads heads' at r g f p e z = record {
   stands = rw (← p.blocks.sizes at g.begins) (next_place w at z (p.blocks.forth at g.begins));
   only = only-trans u v w r.only only;
@@ -87,6 +98,7 @@ rebuilding-free u v w heads heads' at r g f p e z = record {
     back j l (inl q) = inl (free-only-back v w j only l, q)
     back j l (inr q) = inr q
 
+-- at the end the heads stand for the free blocks
 pub rebuilding-last : (u v heads : List ℕ) (at : ℕ) → Rebuilding u v at heads → length v ≤ at → FreeLists heads v
 rebuilding-last u v heads at r h = record { count = r.size; lists = listed }
   where
@@ -95,7 +107,9 @@ rebuilding-last u v heads at r h = record { count = r.size; lists = listed }
 
 -- a block that becomes free is the one that is not listed
 pub give-listed : (u v heads : List ℕ) (i x : ℕ) → AreListed u (IsFree u) heads → v ≡ set u i x → SameBlocks u v → IsUsed u i → AreListed v (Fewer (IsFree v) i) heads
-give-listed u v heads i x s e b h = listed-change u v heads _ _ s (λ j f. other (j + 1) (header_apart j i 1 (begins-row u j f.begins) row (inl refl))) (λ j f. other (j + 2) (header_apart j i 2 (begins-row u j f.begins) row (inr refl)))
+give-listed u v heads i x s e b h =
+    listed-change u v heads _ _ s (λ j f. other (j + 1) (header_apart j i 1 (begins-row u j f.begins) row (inl refl)))
+    (λ j f. other (j + 2) (header_apart j i 2 (begins-row u j f.begins) row (inr refl)))
     (λ j f. b.sizes j f.begins) (λ j f. forth j f (same_place j i)) (λ j m. back j m.0 m.1)
   where
     row : i % 4 ≡ 0
@@ -115,10 +129,13 @@ give-listed u v heads i x s e b h = listed-change u v heads _ _ s (λ j f. other
 pub put-names : (v heads : List ℕ) (i : ℕ) → AreListed v (Fewer (IsFree v) i) heads → Names v (get_or heads (class_of (size_at v i)) 0)
 put-names v heads i l = head-names v heads _ _ l (λ j m. m.0) (class-most (size_at v i))
 
+-- a block that is not listed is no first of a list
 pub put-other : (v heads : List ℕ) (i : ℕ) → AreListed v (Fewer (IsFree v) i) heads → get_or heads (class_of (size_at v i)) 0 ≢ i + 1
 put-other v heads i l = head-other v heads _ _ i l (class-most (size_at v i)) (λ m. m.1 refl)
 
-pub put-stands : (v w heads heads' : List ℕ) (i : ℕ) → AreListed v (Fewer (IsFree v) i) heads → IsFree v i → length heads ≡ 32 → Inserted v w i (get_or heads (class_of (size_at v i)) 0) → heads' ≡ set heads (class_of (size_at v i)) (i + 1) → FreeLists heads' w
+-- once the free block that was not listed is put in, the heads stand for the free blocks
+pub put-stands : (v w heads heads' : List ℕ) (i : ℕ) → AreListed v (Fewer (IsFree v) i) heads → IsFree v i → length heads ≡ 32
+    → Inserted v w i (get_or heads (class_of (size_at v i)) 0) → heads' ≡ set heads (class_of (size_at v i)) (i + 1) → FreeLists heads' w
 put-stands v w heads heads' i l g n p e = rw e (record { count = rw length-set n; lists = listed })
   where
     only : OnlyLinks v w
@@ -138,9 +155,11 @@ put-stands v w heads heads' i l g n p e = rw e (record { count = rw length-set n
     listed : AreListed w (IsFree w) (set heads (class_of (size_at v i)) (i + 1))
     listed = listed-change w w _ _ _ lists (λ _ _. refl) (λ _ _. refl) (λ _ _. refl) forth (λ j m. back j m (same_place j i))
 
+-- putting it in changes links alone
 pub put-only : (v w heads : List ℕ) (i : ℕ) → AreListed v (Fewer (IsFree v) i) heads → IsFree v i → Inserted v w i (get_or heads (class_of (size_at v i)) 0) → OnlyLinks v w
 put-only v w heads i l g p = only-inserted v w i _ g (put-names v heads i l) p
 
+-- what was given, with links written afterwards
 pub given-through : (u v w : List ℕ) (i : ℕ) → Formed v → Given u v i → OnlyLinks v w → Given u w i
 given-through u v w i z g o = record {
   free = free-only v w i o g.free;
@@ -155,19 +174,23 @@ given-through u v w i z g o = record {
     still : (j : ℕ) → IsUsed u j → j ≢ i → IsUsed v j
     still j h n = record { begins = g.kept j h.begins; used = ap used_of (g.same j h.begins n) ∙ h.used }
 
+-- a list that begins with no link has no block
 none_in : (u list : List ℕ) (i : ℕ) → Chain u 0 0 list → In i list → ⊥
 none_in u [] i c m = m
 none_in u (x ∷ xs) i c m = let q = c.0 in omega arith
 
+-- a head of 0: its class has no free block
 pub head-none : (heads : List ℕ) (class : ℕ) → class < 32 → get_or heads class 0 ≡ 0 → IsEmptyClass heads class
 head-none heads class l e words s i f q =
     let old = s.lists class l in
     none_in words old.list i (subst (λ h. Chain words 0 h old.list) e old.chain) (old.all i f q)
 
+-- the first of a list has no back link
 first_back : (u list : List ℕ) (link i : ℕ) → Chain u 0 link list → link ≡ i + 1 → In i list × (get_or u (i + 2) 0 ≡ 0)
 first_back u [] link i c e = absurd (omega arith)
 first_back u (x ∷ xs) link i c e = let q : i ≡ x = let z = c.0 in omega arith in (inl q, rw q c.1)
 
+-- another head names the first free block of its class
 pub head-some : (heads : List ℕ) (class i : ℕ) → class < 32 → get_or heads class 0 ≡ i + 1 → IsFirst heads class i
 head-some heads class i l e words s =
     let old = s.lists class l in

@@ -40,7 +40,8 @@ taken-whole u w need i x e s t f n = record {
 
 -- a block that was cut first
 pub taken-cut : (u v w : List ℕ) (need i x : ℕ) → w ≡ set v i x → SameBlocks v w → used_at w i ≡ true → Fits u need i → need % 4 ≡ 0 → 0 < need → need < size_at u i
-    → get_or v i 0 ≡ need → get_or v (i + need) 0 ≡ size_at u i - need → ((j : ℕ) → j ≢ i → j ≢ i + need → get_or v j 0 ≡ get_or u j 0) → Splits u v (i + need) → length v ≡ length u → Taken u w need i
+    → get_or v i 0 ≡ need → get_or v (i + need) 0 ≡ size_at u i - need → ((j : ℕ) → j ≢ i → j ≢ i + need → get_or v j 0 ≡ get_or u j 0)
+    → Splits u v (i + need) → length v ≡ length u → Taken u w need i
 taken-cut u v w need i x e s t f r p l front rest others c n = record {
   fitted = f;
   used = record { begins = s.forth i begins; used = t };
@@ -92,7 +93,8 @@ taken-cut u v w need i x e s t f r p l front rest others c n = record {
         after k q ∙ others k q (beyond j k b.begins g a h)
 
 -- the same by the words of a split
-pub taken-split : (u v w : List ℕ) (need i x : ℕ) → w ≡ set v i x → SameBlocks v w → used_at w i ≡ true → Fits u need i → need % 4 ≡ 0 → 0 < need → need < size_at u i → Formed u → v ≡ split_words u i need → Splits u v (i + need) → Taken u w need i
+pub taken-split : (u v w : List ℕ) (need i x : ℕ) → w ≡ set v i x → SameBlocks v w → used_at w i ≡ true → Fits u need i → need % 4 ≡ 0 → 0 < need
+    → need < size_at u i → Formed u → v ≡ split_words u i need → Splits u v (i + need) → Taken u w need i
 taken-split u v w need i x e s t f r p l z k c =
     taken-cut u v w need i x e s t f r p l (rw k split.front) (rw k split.rest) (λ j n m. rw k (split.others j n m)) c (rw k split.size)
   where
@@ -118,7 +120,9 @@ same_header u v j e = same-block u v j (ap size_of e) (ap used_of e)
 used-block : (u : List ℕ) (i : ℕ) → IsUsed u i → block_at u i ≡ used_block i (size_at u i)
 used-block u i f = rw f.used refl
 
-pub given-list : (u v : List ℕ) (i : ℕ) → Formed u → Formed v → IsUsed u i → Given u v i → Replaces (Blocks u) (Blocks v) (used_block i (size_at u i) ∷ []) (free_block i (size_at u i) ∷ [])
+-- in the list of blocks the used block that was given is free
+pub given-list : (u v : List ℕ) (i : ℕ) → Formed u → Formed v → IsUsed u i → Given u v i
+    → Replaces (Blocks u) (Blocks v) (used_block i (size_at u i) ∷ []) (free_block i (size_at u i) ∷ [])
 given-list u v i f h g t = subst P (free-block v i t.free ∙ rw t.exact refl) (subst Q (used-block u i g) (replaces-one u v i d t.exact))
   where
     d : Differs u v i
@@ -130,7 +134,9 @@ given-list u v i f h g t = subst P (free-block v i t.free ∙ rw t.exact refl) (
     Q : Block → Type 0
     Q b = Replaces (Blocks u) (Blocks v) (b ∷ []) (block_at v i ∷ [])
 
-pub taken-list : (u v : List ℕ) (need i : ℕ) → Formed u → Formed v → Taken u v need i → Replaces (Blocks u) (Blocks v) (free_block i (size_at u i) ∷ []) (taken_blocks i need (size_at u i))
+-- in the list of blocks the free block that was taken is a used one, with the rest behind it
+pub taken-list : (u v : List ℕ) (need i : ℕ) → Formed u → Formed v → Taken u v need i
+    → Replaces (Blocks u) (Blocks v) (free_block i (size_at u i) ∷ []) (taken_blocks i need (size_at u i))
 unfolding taken_blocks
 taken-list u v need i f h t = choose (nat_lt need (size_at u i)) refl
   where
@@ -176,7 +182,8 @@ taken-list u v need i f h t = choose (nat_lt need (size_at u i)) refl
     above m n e = grind (arith, nat_tests)
 
     choose : (b : Bool) → nat_lt need (size_at u i) ≡ b
-        → Replaces (Blocks u) (Blocks v) (free_block i (size_at u i) ∷ []) (if nat_lt need (size_at u i) then used_block i need ∷ free_block (i + need) (size_at u i - need) ∷ [] else used_block i need ∷ [])
+        → Replaces (Blocks u) (Blocks v) (free_block i (size_at u i) ∷ [])
+        (if nat_lt need (size_at u i) then used_block i need ∷ free_block (i + need) (size_at u i - need) ∷ [] else used_block i need ∷ [])
     choose true e = rw e (cut (below need (size_at u i) e))
     choose false e = rw e (whole (above need (size_at u i) e))
 

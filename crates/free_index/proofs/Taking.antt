@@ -12,9 +12,11 @@ use Rattle.free_index.proofs.Listing.{listed-change, listed-remove, next-names, 
 use Rattle.free_index.proofs.LinkChanges.{only-removed, only-headers, only-words, free-only, free-only-back, used-only}
 
 -- a block that was taken out of its list
-pub cut-listed : (u v heads heads' : List ℕ) (i : ℕ) → AreListed u (IsFree u) heads → IsFree u i → Removed u v i → Unheaded u heads heads' i (class_of (size_at u i)) → length heads ≡ 32 → AreListed v (Fewer (IsFree v) i) heads'
+pub cut-listed : (u v heads heads' : List ℕ) (i : ℕ) → AreListed u (IsFree u) heads → IsFree u i → Removed u v i
+    → Unheaded u heads heads' i (class_of (size_at u i)) → length heads ≡ 32 → AreListed v (Fewer (IsFree v) i) heads'
 cut-listed u v heads heads' i s f r h n =
-    listed-change v v heads' _ _ (listed-remove u v heads heads' (IsFree u) i (λ j g. g.begins) s f n r h) (λ _ _. refl) (λ _ _. refl) (λ _ _. refl) (λ j m. (free-only u v j only m.0, m.1)) (λ j m. (free-only-back u v j only m.0, m.1))
+    listed-change v v heads' _ _ (listed-remove u v heads heads' (IsFree u) i (λ j g. g.begins) s f n r h) (λ _ _. refl) (λ _ _. refl) (λ _ _. refl)
+    (λ j m. (free-only u v j only m.0, m.1)) (λ j m. (free-only-back u v j only m.0, m.1))
   where
     only : OnlyLinks u v
     only = only-removed u v i (next-names u heads i s f) (back-names u heads i s f) r
@@ -35,9 +37,12 @@ unheaded-length u heads heads' i class h n = choose (zero_or (get_or u (i + 2) 0
     choose (inr d) = rw (h.behind d) n
 
 -- the lists stay while the block becomes used: what is left of it is not listed yet
-pub taken-listed : (a c heads : List ℕ) (need i : ℕ) → Taken a c need i → ((k : ℕ) → k ≢ i → k ≢ i + need → get_or c k 0 ≡ get_or a k 0) → need % 4 ≡ 0 → 0 < need → AreListed a (Fewer (IsFree a) i) heads
+pub taken-listed : (a c heads : List ℕ) (need i : ℕ) → Taken a c need i → ((k : ℕ) → k ≢ i → k ≢ i + need → get_or c k 0 ≡ get_or a k 0) → need % 4 ≡ 0
+    → 0 < need → AreListed a (Fewer (IsFree a) i) heads
     → AreListed c (λ j. IsFree c j × (need < size_at a i → j ≢ i + need)) heads
-taken-listed a c heads need i t others r positive l = listed-change a c heads _ _ l (λ j m. word j 1 m.0.begins (inl refl)) (λ j m. word j 2 m.0.begins (inr refl)) (λ j m. ap size_of (t.same j m.0.begins m.1)) (λ j m. forth j m.0 m.1) (λ j m. back j m.0 m.1)
+taken-listed a c heads need i t others r positive l =
+    listed-change a c heads _ _ l (λ j m. word j 1 m.0.begins (inl refl)) (λ j m. word j 2 m.0.begins (inr refl))
+    (λ j m. ap size_of (t.same j m.0.begins m.1)) (λ j m. forth j m.0 m.1) (λ j m. back j m.0 m.1)
   where
     row : i % 4 ≡ 0
     row = begins-row a i t.fitted.free.begins
@@ -75,13 +80,22 @@ cut-fits u a heads need i s f r = record { free = free-only u a i only f.free; e
     only = cut-only u a heads i s f.free r
 
 -- the lists once the block is out of its list and used
-pub used-listed : (u a c heads heads' : List ℕ) (need i : ℕ) → FreeLists heads u → IsFree u i → need % 4 ≡ 0 → 0 < need → Removed u a i → Unheaded u heads heads' i (class_of (size_at u i)) → Taken a c need i
+pub used-listed : (u a c heads heads' : List ℕ) (need i : ℕ) → FreeLists heads u → IsFree u i → need % 4 ≡ 0 → 0 < need → Removed u a i
+    → Unheaded u heads heads' i (class_of (size_at u i)) → Taken a c need i
     → ((k : ℕ) → k ≢ i → k ≢ i + need → get_or c k 0 ≡ get_or a k 0) → AreListed c (λ j. IsFree c j × (need < size_at a i → j ≢ i + need)) heads'
 used-listed u a c heads heads' need i s f r p q h t o = taken-listed a c heads' need i t o r p (cut-listed u a heads heads' i s.lists f q h s.count)
 
 -- where something is left, it alone is not listed
-pub rest-listed : (a c heads : List ℕ) (need i : ℕ) → need < size_at a i → AreListed c (λ j. IsFree c j × (need < size_at a i → j ≢ i + need)) heads → AreListed c (Fewer (IsFree c) (i + need)) heads
+pub rest-listed : (a c heads : List ℕ) (need i : ℕ) → need < size_at a i → AreListed c (λ j. IsFree c j × (need < size_at a i → j ≢ i + need)) heads
+    → AreListed c (Fewer (IsFree c) (i + need)) heads
 rest-listed a c heads need i h l = listed-change c c heads _ _ l (λ _ _. refl) (λ _ _. refl) (λ _ _. refl) (λ j m. (m.0, m.1 h)) (λ j m. (m.0, λ _. m.1))
+
+-- the same once the block is out of its list and used
+pub rest-unlisted : (u a c heads heads' : List ℕ) (need i : ℕ) → FreeLists heads u → IsFree u i → need % 4 ≡ 0 → 0 < need → Removed u a i
+    → Unheaded u heads heads' i (class_of (size_at u i)) → Taken a c need i
+    → ((k : ℕ) → k ≢ i → k ≢ i + need → get_or c k 0 ≡ get_or a k 0) → need < size_at a i → AreListed c (Fewer (IsFree c) (i + need)) heads'
+rest-unlisted u a c heads heads' need i s f r p q h t o less =
+    rest-listed a c heads' need i less (used-listed u a c heads heads' need i s f r p q h t o)
 
 -- where nothing is left, all are
 pub whole-listed : (a c heads : List ℕ) (need i : ℕ) → size_at a i ≤ need → AreListed c (λ j. IsFree c j × (need < size_at a i → j ≢ i + need)) heads → AreListed c (IsFree c) heads

@@ -197,8 +197,6 @@ fn use_front(heap: &mut Heap, i: u32, need: u32)
 {
     if need < heap.block_size(i) {
         heap.split(i, need);
-        heap.set_used(i, true);
-    } else {
-        heap.set_used(i, true);
     }
+    heap.set_used(i, true);
 }

@@ -39,6 +39,7 @@ step-out words (suc n) i l = go (nat_lt i (length words)) (test i (length words)
     go false e = refl
     go true e = cc
 
+-- no block is read where none may be
 read-none : (words : List ℕ) (i : ℕ) → blocks_from zero words i ≡ []
 unfolding blocks_from
 read-none words i = refl
@@ -54,6 +55,7 @@ at-next words i b = go (order (i + size_at words i) (length words))
     go (inl l) = inl (begins-next words i b l)
     go (inr l) = inr l
 
+-- a heap begins with a block
 at-first : (words : List ℕ) → Formed words → AtBlock words 0
 at-first words f = inl (begins-first words (let l = f.least in omega arith))
 
@@ -84,6 +86,7 @@ tiles-from words f (suc n) i (inl b) h g =
     let p = w.positive in
     rw (step-in words n i b.inside) (refl, p, tiles-from words f n (i + size_at words i) (at-next words i b) w.within (omega arith))
 
+-- the list tiles the heap from its first word to its end
 pub tiles : (words : List ℕ) → Formed words → Tiles 0 (Blocks words) (length words)
 tiles words f = tiles-from words f (length words) 0 (at-first words f) (omega arith) (omega arith)
 
@@ -94,6 +97,7 @@ pub record SameFront (u v : List ℕ) (i : ℕ) : Type 0 where
   pub right : Blocks v ≡ front ++ rest v i
   pub begins : Begins v i
 
+-- a block moves from the back of a list to its front
 longer : (front back all : List Block) (b : Block) → all ≡ front ++ (b ∷ back) → all ≡ (front ++ (b ∷ [])) ++ back
 longer front back all b e = e ∙ sym (append_assoc front (b ∷ []) back)
 
@@ -131,9 +135,11 @@ backs u v e (suc n) i (inl b) h =
     let r = backs u v e n (i + size_at u i) (at-next u i b) (λ j d l. h j d (omega arith)) in
     rw (step-in u n i b.inside, step-in v n i (rw e b.inside), q, s, r) refl
 
+-- the blocks from a place on, where the headers from there on are the same
 pub same-rest : (u v : List ℕ) (i : ℕ) → length v ≡ length u → AtBlock u i → ((j : ℕ) → Begins u j → i ≤ j → block_at v j ≡ block_at u j) → rest v i ≡ rest u i
 same-rest u v i e a h = rw e (backs u v e (length u) i a h)
 
+-- the same size and use make the same block
 pub same-block : (u v : List ℕ) (j : ℕ) → size_at v j ≡ size_at u j → used_at v j ≡ used_at u j → block_at v j ≡ block_at u j
 same-block u v j s t = rw (s, t) refl
 
@@ -149,15 +155,18 @@ pub record Differs (u v : List ℕ) (i : ℕ) : Type 0 where
   pub begins : Begins u i
   pub others : (j : ℕ) → Begins u j → j ≢ i → block_at v j ≡ block_at u j
 
+-- a block before i is not that at i, and neither is one behind its end
 below : (i j : ℕ) → j < i → j ≢ i
 below i j l e = omega arith
 
 above : (i j s : ℕ) → 0 < s → i + s ≤ j → j ≢ i
 above i j s p l e = omega arith
 
+-- up to the block that differs the lists are the same
 front-of : (u v : List ℕ) (i : ℕ) → Differs u v i → SameFront u v i
 front-of u v i d = fronts u v i d.formed d.formed_after d.size d.begins (λ j b l. d.others j b (below i j l))
 
+-- behind the block that differs the lists are the same
 behind : (u v : List ℕ) (i : ℕ) → Differs u v i → rest v (i + size_at u i) ≡ rest u (i + size_at u i)
 behind u v i d = same-rest u v (i + size_at u i) d.size (at-next u i d.begins) (λ j b l. d.others j b (above i j (size_at u i) (d.formed.whole i d.begins).positive l))
 
@@ -168,6 +177,7 @@ replaces-one u v i d e =
     let r : rest v i ≡ block_at v i ∷ rest u (i + size_at u i) = rest-block v i d.formed_after s.begins ∙ rw (e, behind u v i d) refl in
     record { front = s.front; back = rest u (i + size_at u i); was = longer _ _ _ _ (rw (← rest-block u i d.formed d.begins) s.left); becomes = longer _ _ _ _ (rw (← r) s.right) }
 
+-- two blocks move from the back of a list to its front
 longer_by_two : (front back all : List Block) (b c : Block) → all ≡ front ++ (b ∷ c ∷ back) → all ≡ (front ++ (b ∷ c ∷ [])) ++ back
 longer_by_two front back all b c e = e ∙ sym (append_assoc front (b ∷ c ∷ []) back)
 
@@ -178,9 +188,17 @@ replaces-two u v i need d h b e =
     let s = front-of u v i d in
     let k : i + need + size_at v (i + need) ≡ i + size_at u i = omega arith in
     let q : rest v (i + need) ≡ block_at v (i + need) ∷ rest u (i + size_at u i) = rest-block v (i + need) d.formed_after b ∙ rw (k, behind u v i d) refl in
-    let r : rest v i ≡ block_at v i ∷ block_at v (i + need) ∷ rest u (i + size_at u i) = rest-block v i d.formed_after s.begins ∙ ap (λ m. block_at v i ∷ rest v (i + m)) h ∙ rw q refl in
-    record { front = s.front; back = rest u (i + size_at u i); was = longer _ _ _ _ (rw (← rest-block u i d.formed d.begins) s.left); becomes = longer_by_two _ _ _ _ _ (rw (← r) s.right) }
+    let r : rest v i ≡ block_at v i ∷ block_at v (i + need) ∷ rest u (i + size_at u i) = rest-block v i d.formed_after s.begins
+    ∙ ap (λ m. block_at v i ∷ rest v (i + m)) h ∙ rw q refl in
+    record {
+      front = s.front;
+      back = rest u (i + size_at u i);
+      was = longer _ _ _ _
+          (rw (← rest-block u i d.formed d.begins) s.left);
+      becomes = longer_by_two _ _ _ _ _ (rw (← r) s.right);
+    }
 
+-- a replacement read backwards
 pub replaces-back : (a b p q : List Block) → Replaces a b p q → Replaces b a q p
 replaces-back a b p q r = record { front = r.front; back = r.back; was = r.becomes; becomes = r.was }
 
@@ -188,9 +206,11 @@ replaces-back a b p q r = record { front = r.front; back = r.back; was = r.becom
 holds-none : (b : Block) → Contains [] b → ⊥
 holds-none b c = let l = c.1 in omega arith
 
+-- a list has its first block
 holds-first : (b : Block) (xs : List Block) → Contains (b ∷ xs) b
 holds-first b xs = (zero, omega arith, refl)
 
+-- what stands in the list from a block on is a block of the heap
 listed-from : (words : List ℕ) (b : Block) → Formed words → (n i : ℕ) → AtBlock words i → Contains (blocks_from n words i) b → IsBlock words b
 listed-from words b f n i (inr l) c = absurd (holds-none b (rw (step-out words n i l) at c))
 listed-from words b f zero i (inl d) c = absurd (holds-none b (rw (read-none words i) at c))
@@ -200,9 +220,11 @@ listed-from words b f (suc n) i (inl d) c = go (rw (step-in words n i d.inside) 
     go (zero, l, e) r = rw (← e) (record { begins = d; size = refl; used = refl })
     go (suc k, l, e) r = r (k, omega arith, e)
 
+-- what stands in the list is a block of the heap
 pub listed-block : (words : List ℕ) (b : Block) → Formed words → Contains (Blocks words) b → IsBlock words b
 listed-block words b f c = listed-from words b f (length words) 0 (at-first words f) c
 
+-- each block of the heap stands in the list
 pub block-listed : (words : List ℕ) (b : Block) → Formed words → IsBlock words b → Contains (Blocks words) b
 block-listed words b f i =
     let s = fronts words words b.place f f refl i.begins (λ j d l. refl) in

@@ -18,12 +18,15 @@ pub record Cut (u v : List ℕ) (i need : ℕ) : Type 0 where
   pub rest : need + size_at v (i + need) ≡ size_at u i
   pub others : (j : ℕ) → j ≢ i → j ≢ i + need → size_at v j ≡ size_at u j
 
+-- no block begins inside the block that is cut
 between : (u : List ℕ) (i j need : ℕ) → Begins u i → Begins u j → 0 < need → need < size_at u i → j ≢ i + need
 between u i j need b c g h e = let a = apart u i j b c (omega arith) in omega arith
 
+-- a block begins at the same place under another name
 moved : (v : List ℕ) (i j : ℕ) → i ≡ j → Begins v i → Begins v j
 moved v i j e b = subst (Begins v) e b
 
+-- after a cut the blocks begin where they did, and at the rest
 pub splits-cut : (u v : List ℕ) (i need : ℕ) → Cut u v i need → Splits u v (i + need)
 splits-cut u v i need c = record { kept = kept; added = added; each = λ j b. begins-ind v P first_block (λ j b p g. next j p g) j b }
   where
@@ -79,6 +82,7 @@ splits-cut u v i need c = record { kept = kept; added = added; each = λ j b. be
     next j (inl b) g = by_place j b g (same_place j i)
     next j (inr e) g = after_rest j e g
 
+-- a cut leaves a heap
 pub formed-cut : (u v : List ℕ) (i need : ℕ) → Cut u v i need → Formed u → Formed v
 formed-cut u v i need c f = record { whole = λ j b. whole j ((splits-cut u v i need c).each j b); rows = rw c.size f.rows; least = rw c.size f.least; most = rw c.size f.most }
   where
@@ -109,6 +113,7 @@ pub record Joined (u v : List ℕ) (i : ℕ) : Type 0 where
   pub sum : size_at v i ≡ size_at u i + size_at u (i + size_at u i)
   pub others : (j : ℕ) → j ≢ i → size_at v j ≡ size_at u j
 
+-- a join read backwards is a cut
 pub cut-joined : (u v : List ℕ) (i : ℕ) → Formed u → Joined u v i → Cut v u i (size_at u i)
 cut-joined u v i f c = record {
   size = sym c.size;
@@ -133,8 +138,10 @@ cut-joined u v i f c = record {
         absurd (omega arith)
     step j b d g h (inr n) = moved v _ _ (ap (λ s. j + s) (c.others j n)) (begins-next v j (d (omega arith)) (let e = c.others j n in let l = c.size in omega arith))
 
+-- a join leaves a heap
 pub formed-joined : (u v : List ℕ) (i : ℕ) → Joined u v i → Formed u → Formed v
-formed-joined u v i c f = record { whole = λ j b. whole j b ((splits-cut v u i _ cut).kept j b) (same_place j i); rows = rw c.size f.rows; least = rw c.size f.least; most = rw c.size f.most }
+formed-joined u v i c f =
+    record { whole = λ j b. whole j b ((splits-cut v u i _ cut).kept j b) (same_place j i); rows = rw c.size f.rows; least = rw c.size f.least; most = rw c.size f.most }
   where
     cut : Cut v u i (size_at u i)
     cut = cut-joined u v i f c
@@ -146,6 +153,7 @@ formed-joined u v i c f = record { whole = λ j b. whole j b ((splits-cut v u i 
         let e = c.others j n in
         record { positive = rw e w.positive; within = rw (e, c.size) w.within }
 
+-- the difference and the sum of multiples of 4 are multiples of 4
 less_rows : (a b : ℕ) → a % 4 ≡ 0 → b % 4 ≡ 0 → (a - b) % 4 ≡ 0
 less_rows a b h g = omega arith
 
@@ -171,6 +179,7 @@ pub record SplitWords (u : List ℕ) (i need : ℕ) : Type 0 where
   pub others : (j : ℕ) → j ≢ i → j ≢ i + need → get_or (split_words u i need) j 0 ≡ get_or u j 0
   pub size : length (split_words u i need) ≡ length u
 
+-- the two writes of a split give the sizes of a cut
 pub split-words : (u : List ℕ) (i need : ℕ) → i + need < length u → 0 < need → SplitWords u i need
 split-words u i need l s = record {
   front = get_or-set_same _ i need 0 inside;
@@ -191,6 +200,7 @@ pub record SplitFacts (u v : List ℕ) (i need : ℕ) : Type 0 where
   pub splits : Splits u v (i + need)
   pub replaces : Replaces (Blocks u) (Blocks v) (free_block i (size_at u i) ∷ []) (free_block i need ∷ free_block (i + need) (size_at u i - need) ∷ [])
 
+-- what holds after the two writes of a split
 pub split-facts : (u : List ℕ) (i need : ℕ) → Formed u → IsFree u i → need % 4 ≡ 0 → 0 < need → need < size_at u i → SplitFacts u (split_words u i need) i need
 split-facts u i need f free r s l = record { formed = formed; splits = splits; replaces = subst P front (subst Q rest (subst R (free-block u i free) replaced)) }
   where
@@ -240,7 +250,8 @@ split-facts u i need f free r s l = record { formed = formed; splits = splits; r
     R b = Replaces (Blocks u) (Blocks (split_words u i need)) (b ∷ []) (block_at (split_words u i need) i ∷ block_at (split_words u i need) (i + need) ∷ [])
 
 -- the same with the words and the size as the code has them
-pub split-made : (u w : List ℕ) (i need s : ℕ) → w ≡ u → Formed w → IsFree u i → need % 4 ≡ 0 → 0 < need → need < size_at u i → s ≡ size_at u i → SplitFacts u (set (set w (i + need) (s - need)) i need) i need
+pub split-made : (u w : List ℕ) (i need s : ℕ) → w ≡ u → Formed w → IsFree u i → need % 4 ≡ 0 → 0 < need → need < size_at u i → s ≡ size_at u i
+    → SplitFacts u (set (set w (i + need) (s - need)) i need) i need
 split-made u w i need s e f free r p l g = rw (e, g) (split-facts u i need (subst Formed e f) free r p l)
 
 -- the write of a join
@@ -251,10 +262,19 @@ join_words u i = set u i (size_at u i + size_at u (i + size_at u i))
 pub record JoinFacts (u v : List ℕ) (i : ℕ) : Type 0 where
   pub formed : Formed v
   pub splits : Splits v u (i + size_at u i)
-  pub replaces : Replaces (Blocks u) (Blocks v) (free_block i (size_at u i) ∷ free_block (i + size_at u i) (size_at u (i + size_at u i)) ∷ []) (free_block i (size_at u i + size_at u (i + size_at u i)) ∷ [])
+  pub replaces : Replaces (Blocks u) (Blocks v)
+      (free_block i (size_at u i) ∷ free_block (i + size_at u i) (size_at u (i + size_at u i)) ∷ [])
+      (free_block i (size_at u i + size_at u (i + size_at u i)) ∷ [])
 
+-- what holds after the write of a join
 pub join-facts : (u : List ℕ) (i : ℕ) → Formed u → IsFree u i → IsFree u (i + size_at u i) → JoinFacts u (join_words u i) i
-join-facts u i f free next = record { formed = formed; splits = splits-cut _ u i _ cut; replaces = replaces-back _ _ _ _ (subst P (free-block u i free) (subst Q (free-block u _ next) (subst R made replaced))) }
+join-facts u i f free next =
+    record {
+      formed = formed;
+      splits = splits-cut _ u i _ cut;
+      replaces = replaces-back _ _ _ _
+          (subst P (free-block u i free) (subst Q (free-block u _ next) (subst R made replaced)));
+    }
   where
     total : ℕ
     total = size_at u i + size_at u (i + size_at u i)
@@ -266,7 +286,14 @@ join-facts u i f free next = record { formed = formed; splits = splits-cut _ u i
     made = plain-block _ i total rows (get_or-set_same u i total 0 free.begins.inside)
 
     joined : Joined u (join_words u i) i
-    joined = record { size = length-set u i _; begins = free.begins; next = next.begins; sum = ap (λ (b : Block). b.size) made; others = λ j g. ap size_of (get_or-set_other u i j _ 0 g) }
+    joined = record {
+      size = length-set u i _;
+      begins = free.begins;
+      next = next.begins;
+      sum = ap
+          (λ (b : Block). b.size) made;
+      others = λ j g. ap size_of (get_or-set_other u i j _ 0 g);
+    }
 
     cut : Cut (join_words u i) u i (size_at u i)
     cut = cut-joined u _ i f joined

@@ -8,7 +8,8 @@ use Rattle.heap_words.proofs.BlockLists.{rest, rest-block, rest-end}
 
 -- words whose first one is their number are one block
 pub formed-one : (u : List ℕ) → length u % 4 ≡ 0 → 64 ≤ length u → length u ≤ 4194304 → get_or u 0 0 ≡ length u → Formed u × Begins u 0
-formed-one u r p m e = (record { whole = λ i b. whole i (begins-ind u (λ i. i ≡ 0) (λ _. refl) (λ i _ h g. absurd (past i h g)) i b); rows = r; least = p; most = m }, begins-first u (omega arith))
+formed-one u r p m e =
+    (record { whole = λ i b. whole i (begins-ind u (λ i. i ≡ 0) (λ _. refl) (λ i _ h g. absurd (past i h g)) i b); rows = r; least = p; most = m }, begins-first u (omega arith))
   where
     size : size_at u 0 ≡ length u
     size = rw e (whole-size _ r)
@@ -25,6 +26,7 @@ pub record NewHeap (u : List ℕ) (n : ℕ) : Type 0 where
   pub free : IsFree (set u 0 n) 0
   pub listed : Blocks (set u 0 n) ≡ free_block 0 n ∷ []
 
+-- words whose first one is their number are a heap of one free block
 pub new-heap : (u : List ℕ) (n : ℕ) → length u ≡ n → n % 4 ≡ 0 → 64 ≤ n → n ≤ 4194304 → NewHeap u n
 new-heap u n e r l m = record { formed = both.0; free = free; listed = rest-block (set u 0 n) 0 both.0 both.1 ∙ rw (whole-size-at, last) (rw free.free refl) }
   where

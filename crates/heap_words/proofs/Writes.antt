@@ -70,9 +70,11 @@ pub aside-list : (u : List ℕ) (i w : ℕ) → Formed u → ((j : ℕ) → Begi
 aside-list u i w f h =
     same-list u (set u i w) f (same-set u i w (λ b. absurd (h i b refl))) (λ j b. ap used_of (get_or-set_other u i j w 0 (λ e. h j b (sym e))))
 
+-- a link that is written leaves the list of blocks
 pub link-list : (u : List ℕ) (i w : ℕ) → Formed u → Begins u i → Blocks (set u (i + 1) w) ≡ Blocks u
 link-list u i w f b = aside-list u (i + 1) w f (λ j d e. off_row u i j b d (sym e))
 
+-- and so does a back link
 pub back-list : (u : List ℕ) (i w : ℕ) → Formed u → Begins u i → Blocks (set u (i + 2) w) ≡ Blocks u
 back-list u i w f b = aside-list u (i + 2) w f (λ j d e. off_row_2 u i j b d (sym e))
 
@@ -80,12 +82,15 @@ back-list u i w f b = aside-list u (i + 2) w f (λ j d e. off_row_2 u i j b d (s
 abbrev pub reheaded : List ℕ → ℕ → Bool → Bool → List ℕ
 reheaded u i used marked = set u i (header_word (size_at u i) used marked)
 
+-- a header with the same size leaves where blocks begin
 pub reheaded-same : (u : List ℕ) (i : ℕ) (used marked : Bool) → SameBlocks u (reheaded u i used marked)
 reheaded-same u i used marked = same-set u i _ (λ _. size-kept (get_or u i 0) used marked)
 
+-- a header that is written leaves the other blocks
 other-block : (u : List ℕ) (i j w : ℕ) → j ≢ i → block_at (set u i w) j ≡ block_at u j
 other-block u i j w n = let e = get_or-set_other u i j w 0 n in rw e refl
 
+-- in the list the block has the use that was written
 pub reheaded-list : (u : List ℕ) (i : ℕ) (used marked : Bool) → Formed u → Begins u i
     → Replaces (Blocks u) (Blocks (reheaded u i used marked)) (block_at u i ∷ []) (record { place = i; size = size_at u i; used = used } ∷ [])
 reheaded-list u i used marked f b =

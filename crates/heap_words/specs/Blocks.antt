@@ -1,12 +1,15 @@
 use Rattle.std.specs.Prelude.{Bool, ◌≡◌, ◌≢◌, ℕ, ◌+◌, ◌<◌, ◌≤◌, ◌%◌, ◌⊎◌, true, false, List, length, zero, suc, [], ◌∷◌, ◌++◌, cond, nat_lt}
 use Rattle.heap_words.specs.Headers.{size_at, used_at}
 
+-- The blocks of a heap's words: a list by which contracts speak, and where each begins.
+
 -- a block: its first word's place, its size in words, and whether it is used
 pub record Block : Type 0 where
   pub place : ℕ
   pub size : ℕ
   pub used : Bool
 
+-- a free block, and a used one
 abbrev pub free_block : ℕ → ℕ → Block
 free_block place size = record { place = place; size = size; used = false }
 

@@ -145,6 +145,7 @@ impl Heap {
         ensures link { result ≡ slice_index self.now (i + 1) }
         ensures formed { Formed self.now }
     {
+        // The heap's words are formed, which the place's proof needs.
         let _words = &self.words;
         self.word(i + 1)
     }
@@ -157,6 +158,7 @@ impl Heap {
         ensures same { SameBlocks self.old self.new }
         ensures formed { Formed self.new }
     {
+        // The heap's words are formed, which the place's proof needs.
         let _words = &self.words;
         self.put(i + 1, w);
     }
@@ -169,6 +171,7 @@ impl Heap {
         ensures same { SameBlocks self.old self.new }
         ensures formed { Formed self.new }
     {
+        // The heap's words are formed, which the place's proof needs.
         let _words = &self.words;
         self.put(i + 2, w);
     }

@@ -9,9 +9,11 @@ pub link_from-requires-clause-named : goal.link_from-requires-clause-named
 link_from-requires-clause-named c = rw c.word-back.ensures c.requires.back
 
 pub back_from-requires-clause-named : goal.back_from-requires-clause-named
-back_from-requires-clause-named c = removed-names _ _ _ _ (rw c.link-next.ensures.link c.requires.next) (rw c.word-back.ensures c.requires.back) c.link_from.ensures.same c.link_from.ensures.others
+back_from-requires-clause-named c =
+    removed-names _ _ _ _ (rw c.link-next.ensures.link c.requires.next) (rw c.word-back.ensures c.requires.back) c.link_from.ensures.same c.link_from.ensures.others
 
 pub returns-clause-removed : goal.returns-clause-removed
 returns-clause-removed c =
-    removed _ _ _ _ _ _ c.link-next.ensures.link c.word-back.ensures (rw c.link-next.ensures.link c.requires.next) (rw c.word-back.ensures c.requires.back) c.link_from.ensures.same c.link_from.ensures.written
+    removed _ _ _ _ _ _ c.link-next.ensures.link c.word-back.ensures (rw c.link-next.ensures.link c.requires.next)
+    (rw c.word-back.ensures c.requires.back) c.link_from.ensures.same c.link_from.ensures.written
     c.link_from.ensures.others c.back_from.ensures.same c.back_from.ensures.written c.back_from.ensures.others

@@ -25,7 +25,10 @@ pub returns-clause-given : goal.returns-clause-given
 returns-clause-given c = is_given c
 
 pub returns-clause-blocks : goal.returns-clause-blocks
-returns-clause-blocks c = given-list _ _ _ (formed-same _ _ (same-back _ _ c.set_used.ensures.same) c.set_used.ensures.formed) c.put.ensures.formed_after c.requires.used (is_given c)
+returns-clause-blocks c =
+    given-list _ _ _ (formed-same _ _ (same-back _ _ c.set_used.ensures.same) c.set_used.ensures.formed) c.put.ensures.formed_after c.requires.used (is_given c)
 
 pub returns-clause-lists : goal.returns-clause-lists
-returns-clause-lists c = put-stands _ _ _ _ _ (give-listed _ _ _ _ _ c.requires.lists.lists c.set_used.ensures.words c.set_used.ensures.same c.requires.used) (freed c) c.requires.lists.count c.put.ensures.inserted c.put.ensures.heads
+returns-clause-lists c =
+    put-stands _ _ _ _ _ (give-listed _ _ _ _ _ c.requires.lists.lists c.set_used.ensures.words c.set_used.ensures.same c.requires.used)
+    (freed c) c.requires.lists.count c.put.ensures.inserted c.put.ensures.heads

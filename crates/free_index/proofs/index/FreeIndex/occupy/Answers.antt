@@ -2,7 +2,7 @@ use Rattle.std.proofs.Common.{arith}
 use Rattle.free_index.proofs.Listing.{next-names, back-names}
 use Rattle.free_index.proofs.LinkChanges.{only-refl}
 use Rattle.free_index.proofs.Standing.{put-names, put-other, put-stands, put-only}
-use Rattle.free_index.proofs.Taking.{cut-fits, cut-only, taken-between, used-listed, rest-listed, whole-listed, unheaded-length}
+use Rattle.free_index.proofs.Taking.{cut-fits, cut-only, taken-between, used-listed, rest-unlisted, whole-listed, unheaded-length}
 use Rattle.free_index.proofs.index.FreeIndex.occupy.Goals as goal
 
 pub cut-requires-clause-next : goal.cut-requires-clause-next
@@ -20,30 +20,46 @@ put-requires-clause-free c = (c.use_front.ensures.taken.rest (omega (arith, c.if
 pub put-requires-clause-head : goal.put-requires-clause-head
 put-requires-clause-head c =
     put-names _ _ _
-    (rest-listed c.cut.new.heap _ _ c.args.need c.args.i (omega (arith, c.if-need-size.true, c.block_size-size.ensures.size)) (used-listed _ _ _ _ _ _ _ c.requires.lists c.requires.fits.free c.requires.rows c.requires.some c.cut.ensures.removed c.cut.ensures.heads c.use_front.ensures.taken c.use_front.ensures.others))
+    (rest-unlisted _ c.cut.new.heap _ _ _ c.args.need c.args.i c.requires.lists c.requires.fits.free c.requires.rows c.requires.some
+    c.cut.ensures.removed c.cut.ensures.heads c.use_front.ensures.taken c.use_front.ensures.others
+    (omega (arith, c.if-need-size.true, c.block_size-size.ensures.size)))
 
 pub put-requires-clause-other : goal.put-requires-clause-other
 put-requires-clause-other c =
     put-other _ _ _
-    (rest-listed c.cut.new.heap _ _ c.args.need c.args.i (omega (arith, c.if-need-size.true, c.block_size-size.ensures.size)) (used-listed _ _ _ _ _ _ _ c.requires.lists c.requires.fits.free c.requires.rows c.requires.some c.cut.ensures.removed c.cut.ensures.heads c.use_front.ensures.taken c.use_front.ensures.others))
+    (rest-unlisted _ c.cut.new.heap _ _ _ c.args.need c.args.i c.requires.lists c.requires.fits.free c.requires.rows c.requires.some
+    c.cut.ensures.removed c.cut.ensures.heads c.use_front.ensures.taken c.use_front.ensures.others
+    (omega (arith, c.if-need-size.true, c.block_size-size.ensures.size)))
 
 pub returns-then-need-size-clause-taken : goal.returns-then-need-size-clause-taken
 returns-then-need-size-clause-taken c =
-    taken-between _ _ _ _ _ _ c.cut.ensures.formed c.use_front.ensures.formed (cut-only _ _ _ _ c.requires.lists.lists c.requires.fits.free c.cut.ensures.removed) c.use_front.ensures.taken
-    (put-only _ _ _ _ (rest-listed c.cut.new.heap _ _ c.args.need c.args.i (omega (arith, c.if-need-size.true, c.block_size-size.ensures.size)) (used-listed _ _ _ _ _ _ _ c.requires.lists c.requires.fits.free c.requires.rows c.requires.some c.cut.ensures.removed c.cut.ensures.heads c.use_front.ensures.taken c.use_front.ensures.others)) (c.use_front.ensures.taken.rest (omega (arith, c.if-need-size.true, c.block_size-size.ensures.size))).0 c.put.ensures.inserted)
+    taken-between _ _ _ _ _ _ c.cut.ensures.formed c.use_front.ensures.formed
+    (cut-only _ _ _ _ c.requires.lists.lists c.requires.fits.free c.cut.ensures.removed) c.use_front.ensures.taken
+    (put-only _ _ _ _
+    (rest-unlisted _ c.cut.new.heap _ _ _ c.args.need c.args.i c.requires.lists c.requires.fits.free c.requires.rows c.requires.some
+    c.cut.ensures.removed c.cut.ensures.heads c.use_front.ensures.taken c.use_front.ensures.others
+    (omega (arith, c.if-need-size.true, c.block_size-size.ensures.size)))
+    (c.use_front.ensures.taken.rest (omega (arith, c.if-need-size.true, c.block_size-size.ensures.size))).0 c.put.ensures.inserted)
 
 pub returns-then-need-size-clause-lists : goal.returns-then-need-size-clause-lists
 returns-then-need-size-clause-lists c =
-    put-stands _ _ _ _ _ (rest-listed c.cut.new.heap _ _ c.args.need c.args.i (omega (arith, c.if-need-size.true, c.block_size-size.ensures.size)) (used-listed _ _ _ _ _ _ _ c.requires.lists c.requires.fits.free c.requires.rows c.requires.some c.cut.ensures.removed c.cut.ensures.heads c.use_front.ensures.taken c.use_front.ensures.others)) (c.use_front.ensures.taken.rest (omega (arith, c.if-need-size.true, c.block_size-size.ensures.size))).0
+    put-stands _ _ _ _ _
+    (rest-unlisted _ c.cut.new.heap _ _ _ c.args.need c.args.i c.requires.lists c.requires.fits.free c.requires.rows c.requires.some
+    c.cut.ensures.removed c.cut.ensures.heads c.use_front.ensures.taken c.use_front.ensures.others
+    (omega (arith, c.if-need-size.true, c.block_size-size.ensures.size)))
+    (c.use_front.ensures.taken.rest (omega (arith, c.if-need-size.true, c.block_size-size.ensures.size))).0
     (unheaded-length _ _ _ _ _ c.cut.ensures.heads c.requires.lists.count) c.put.ensures.inserted c.put.ensures.heads
 
 pub returns-else-need-size-clause-taken : goal.returns-else-need-size-clause-taken
 returns-else-need-size-clause-taken c =
-    taken-between _ _ _ _ _ _ c.cut.ensures.formed c.use_front.ensures.formed (cut-only _ _ _ _ c.requires.lists.lists c.requires.fits.free c.cut.ensures.removed) c.use_front.ensures.taken (only-refl _)
+    taken-between _ _ _ _ _ _ c.cut.ensures.formed c.use_front.ensures.formed
+    (cut-only _ _ _ _ c.requires.lists.lists c.requires.fits.free c.cut.ensures.removed) c.use_front.ensures.taken (only-refl _)
 
 pub returns-else-need-size-clause-lists : goal.returns-else-need-size-clause-lists
 returns-else-need-size-clause-lists c =
     record {
       count = unheaded-length _ _ _ _ _ c.cut.ensures.heads c.requires.lists.count;
-      lists = whole-listed c.cut.new.heap _ _ c.args.need c.args.i (omega (arith, c.if-need-size.false, c.block_size-size.ensures.size)) (used-listed _ _ _ _ _ _ _ c.requires.lists c.requires.fits.free c.requires.rows c.requires.some c.cut.ensures.removed c.cut.ensures.heads c.use_front.ensures.taken c.use_front.ensures.others);
+      lists = whole-listed c.cut.new.heap _ _ c.args.need c.args.i (omega (arith, c.if-need-size.false, c.block_size-size.ensures.size))
+          (used-listed _ _ _ _ _ _ _ c.requires.lists c.requires.fits.free c.requires.rows c.requires.some c.cut.ensures.removed c.cut.ensures.heads
+          c.use_front.ensures.taken c.use_front.ensures.others);
     }

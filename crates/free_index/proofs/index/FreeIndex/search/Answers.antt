@@ -9,7 +9,12 @@ pub block_size-requires : goal.block_size-requires
 block_size-requires c = (search-step _ _ _ _ c.loop-link.invariant (omega (arith, c.loop-link-test.true))).free.begins
 
 pub returns-then-need-block_size : goal.returns-then-need-block_size
-returns-then-need-block_size c = record { free = (search-step _ _ _ _ c.loop-link.invariant (omega (arith, c.loop-link-test.true))).free; enough = omega (arith, c.if-need-block_size.true, c.block_size.ensures.size) }
+returns-then-need-block_size c =
+    record {
+      free = (search-step _ _ _ _ c.loop-link.invariant (omega (arith, c.loop-link-test.true))).free;
+      enough = omega
+          (arith, c.if-need-block_size.true, c.block_size.ensures.size);
+    }
 
 pub link-link-requires : goal.link-link-requires
 link-link-requires c = (search-step _ _ _ _ c.loop-link.invariant (omega (arith, c.loop-link-test.true))).free.begins
@@ -18,7 +23,9 @@ pub loop-link-smaller : goal.loop-link-smaller
 loop-link-smaller c = rw c.link-link.ensures.link (search-step _ _ _ _ c.loop-link.invariant (omega (arith, c.loop-link-test.true))).nearer
 
 pub loop-link-preserved : goal.loop-link-preserved
-loop-link-preserved c = rw c.link-link.ensures.link ((search-step _ _ _ _ c.loop-link.invariant (omega (arith, c.loop-link-test.true))).next (omega (arith, c.if-need-block_size.false, c.block_size.ensures.size)))
+loop-link-preserved c =
+    rw c.link-link.ensures.link
+    ((search-step _ _ _ _ c.loop-link.invariant (omega (arith, c.loop-link-test.true))).next (omega (arith, c.if-need-block_size.false, c.block_size.ensures.size)))
 
 pub returns : goal.returns
 returns c = searching-none _ _ _ _ c.loop-link.invariant (omega (arith, c.loop-link-test.false))

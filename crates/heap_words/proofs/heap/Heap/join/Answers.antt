@@ -11,4 +11,5 @@ pub returns-clause-begins : goal.returns-clause-begins
 returns-clause-begins c = (join-made _ _ _ _ _ c.self.view_is c.self.invariant c.requires.free c.requires.next c.block_size-size.ensures.size c.block_size-more.ensures.size).splits
 
 pub returns-clause-blocks : goal.returns-clause-blocks
-returns-clause-blocks c = (join-made _ _ _ _ _ c.self.view_is c.self.invariant c.requires.free c.requires.next c.block_size-size.ensures.size c.block_size-more.ensures.size).replaces
+returns-clause-blocks c =
+    (join-made _ _ _ _ _ c.self.view_is c.self.invariant c.requires.free c.requires.next c.block_size-size.ensures.size c.block_size-more.ensures.size).replaces
