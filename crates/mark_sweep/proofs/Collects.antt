@@ -42,6 +42,7 @@ pub record Collects (shapes : ShapesView) (u list v : List ℕ) : Type 0 where
   pub words : (i k : ℕ) → IsUsed v i → i + 2 ≤ k → k < i + size_at u i → get_or v k 0 ≡ get_or u k 0
   pub size : length v ≡ length u
 
+-- a collection by its four passes
 pub collects : (shapes : ShapesView) (list a b c d e : List ℕ) → Kept a b → MarksReached shapes b list c → Swept c d → Formed d → KeepsUsed d e → Collects shapes a list e
 collects shapes list a b c d e k m s f n = record {
   used = λ i. (λ h. sound i h, λ r. all i r);
@@ -91,6 +92,7 @@ keeps-only u v f o = record { size = o.blocks.size; forth = λ i h. used-only u 
     back : (i : ℕ) → IsUsed v i → IsUsed u i
     back i h = let b = o.blocks.back i h.begins in record { begins = b; used = sym (ap used_of (only-headers u v i o b)) ∙ h.used }
 
+-- a change of links brings no free neighbours
 pub apart-only : (u v : List ℕ) → OnlyLinks u v → NoNeighbours u → NoNeighbours v
 apart-only u v o n i f g =
     let b = free-only-back u v i o f in

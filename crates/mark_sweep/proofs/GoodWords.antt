@@ -30,7 +30,8 @@ in-index w (x ∷ xs) (inr m) = next (in-index w xs m)
     next (k, l, e) = (suc k, omega arith, e)
 
 -- listed words and references of used blocks that are good make all good
-pub all-good : (s : ShapesView) (u list : List ℕ) → ((w : ℕ) → In w list → IsGood s u w) → ((j k : ℕ) → IsUsed u j → IsReference s u j k → IsGood s u (get_or u (j + 2 + k) 0)) → AllGood s u list
+pub all-good : (s : ShapesView) (u list : List ℕ) → ((w : ℕ) → In w list → IsGood s u w)
+    → ((j k : ℕ) → IsUsed u j → IsReference s u j k → IsGood s u (get_or u (j + 2 + k) 0)) → AllGood s u list
 all-good s u list r f = record { roots = r; fields = λ j k q i. f j k (reached-used s u list j q) i }
 
 -- words 2 and 3 of a used block are an object's
@@ -55,6 +56,7 @@ object-word u i k h e = record { header = λ j b q. header j b q e; link = λ j 
     back j f q (inl z) = same j f (omega arith)
     back j f q (inr z) = let r = row in let t = begins-row u j f.begins in omega arith
 
+-- a list whose words were all tried is good
 pub all-words : (s : ShapesView) (u list : List ℕ) (n : ℕ) → ((k : ℕ) → k < n → IsGood s u (get_or list k 0)) → length list ≤ n → (w : ℕ) → In w list → IsGood s u w
 all-words s u list n h l w m = found (in-index w list m)
   where
@@ -63,7 +65,8 @@ all-words s u list n h l w m = found (in-index w list m)
 
 -- the references of one block more are good
 pub objects-step : (s : ShapesView) (u : List ℕ) (at : ℕ) → Begins u at → ((j k : ℕ) → IsUsed u j → j < at → IsReference s u j k → IsGood s u (get_or u (j + 2 + k) 0))
-    → (IsUsed u at → (k : ℕ) → IsReference s u at k → IsGood s u (get_or u (at + 2 + k) 0)) → (j k : ℕ) → IsUsed u j → j < at + size_at u at → IsReference s u j k → IsGood s u (get_or u (j + 2 + k) 0)
+    → (IsUsed u at → (k : ℕ) → IsReference s u at k → IsGood s u (get_or u (at + 2 + k) 0)) →
+    (j k : ℕ) → IsUsed u j → j < at + size_at u at → IsReference s u j k → IsGood s u (get_or u (j + 2 + k) 0)
 objects-step s u at b before here j k h l r = choose (earlier u at j b h.begins l)
   where
     P : ℕ → Type 0

@@ -12,6 +12,7 @@ use Rattle.mark_sweep.specs.Swept.{Kept}
 use Rattle.mark_sweep.specs.Marking.{Pushed}
 use Rattle.object_layout.specs.Classes.{ShapesView}
 
+-- blocks that begin alike with the same sizes: the same words, through two changes, and backwards
 pub blocks-refl : (u : List ℕ) → SameBlocks u u
 blocks-refl u = record { size = refl; forth = λ _ b. b; back = λ _ b. b; sizes = λ _ _. refl }
 
@@ -26,6 +27,7 @@ blocks-trans u v w a b = record {
 pub blocks-sym : (u v : List ℕ) → SameBlocks u v → SameBlocks v u
 blocks-sym u v a = record { size = sym a.size; forth = a.back; back = a.forth; sizes = λ i h. sym (a.sizes i (a.back i h)) }
 
+-- the same of blocks whose objects keep their words
 pub kept-refl : (u : List ℕ) → Kept u u
 kept-refl u = record { blocks = blocks-refl u; used = λ _ _. refl; words = λ _ _ _ _ _. refl }
 
@@ -70,6 +72,7 @@ link_apart u i j k f b d n l h e = choose (order i j)
     choose (inr (inl g)) = n (sym g)
     choose (inr (inr g)) = let a = apart u j i d b g in omega arith
 
+-- a link that is written keeps the words of objects
 pub kept-link : (u v : List ℕ) (i x : ℕ) → v ≡ set u (i + 1) x → SameBlocks u v → Formed u → Begins u i → Kept u v
 kept-link u v i x e s f b = record { blocks = s; used = λ j d. ap used_of (other j (off_row u i j b d)); words = λ j k d l g. word j k d l g (same_place j i) }
   where
@@ -81,7 +84,8 @@ kept-link u v i x e s f b = record { blocks = s; used = λ j d. ap used_of (othe
     word j k d l g (inr n) = other k (link_apart u i j k f b d n (omega arith) g)
 
 -- a mark and a link: v is u marked at i, w is v linked at i
-pub pushed : (u v w : List ℕ) (i x first : ℕ) → Formed u → Begins u i → marked_at u i ≡ false → v ≡ set u i x → SameBlocks u v → used_at v i ≡ used_at u i → marked_at v i ≡ true → w ≡ set v (i + 1) first → SameBlocks v w → Formed v → Pushed u w i first
+pub pushed : (u v w : List ℕ) (i x first : ℕ) → Formed u → Begins u i → marked_at u i ≡ false → v ≡ set u i x → SameBlocks u v
+    → used_at v i ≡ used_at u i → marked_at v i ≡ true → w ≡ set v (i + 1) first → SameBlocks v w → Formed v → Pushed u w i first
 pushed u v w i x first f b m e s h t d r g = record {
   begins = b;
   white = m;
@@ -101,12 +105,15 @@ pushed u v w i x first f b m e s h t d r g = record {
     inside : i + 1 < length u
     inside = let q = room u i f b in let a = q.four in let c = q.within in omega arith
 
+-- used blocks stay used
 pub used-kept : (u v : List ℕ) (i : ℕ) → Kept u v → IsUsed u i → IsUsed v i
 used-kept u v i a h = record { begins = a.blocks.forth i h.begins; used = a.used i h.begins ∙ h.used }
 
+-- the words of an object stay
 pub word_kept : (u v : List ℕ) (i k : ℕ) → Kept u v → Begins u i → k + 2 < size_at u i → get_or v (i + 2 + k) 0 ≡ get_or u (i + 2 + k) 0
 word_kept u v i k a b h = a.words i (i + 2 + k) b (omega arith) (omega arith)
 
+-- what is reached is used
 pub reached-used : (shapes : ShapesView) (u list : List ℕ) (i : ℕ) → Reached shapes u list i → IsUsed u i
 reached-used shapes u list i (listed _ m h) = h
 reached-used shapes u list i (named j k _ r g m h) = h
@@ -126,7 +133,8 @@ reference-kept shapes u v j k a b r = record { behind = r.behind; within = rw (a
 
 -- an object stays
 pub object-kept : (shapes : ShapesView) (u v : List ℕ) (i : ℕ) → Formed u → Kept u v → IsObject shapes u i → IsObject shapes v i
-object-kept shapes u v i f a o = record { used = used-kept u v i a o.used; there = rw table o.there; named = rw table o.named; exact = rw (a.blocks.sizes i o.used.begins, table, second) o.exact }
+object-kept shapes u v i f a o =
+    record { used = used-kept u v i a o.used; there = rw table o.there; named = rw table o.named; exact = rw (a.blocks.sizes i o.used.begins, table, second) o.exact }
   where
     four : 4 ≤ size_at u i
     four = (room u i f o.used.begins).four

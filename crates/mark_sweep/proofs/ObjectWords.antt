@@ -65,7 +65,8 @@ within-need s (Kind q) n k h = let p = tests (nat_lt 1 k) (nat_lt k (2 + n)) (is
     tests false b c e f h = absurd (false≢true h)
 
 -- an object's references lie within its block
-pub lie-within : (s : ShapesView) (words : List ℕ) (i k : ℕ) → IsObject s words i → IsTrue (refers s (shape_named (get_or words (i + 2) 0)) (get_or words (i + 3) 0) k) → IsReference s words i k
+pub lie-within : (s : ShapesView) (words : List ℕ) (i k : ℕ) → IsObject s words i
+    → IsTrue (refers s (shape_named (get_or words (i + 2) 0)) (get_or words (i + 3) 0) k) → IsReference s words i k
 lie-within s words i k o h =
     let w = within-need s (shape_named (get_or words (i + 2) 0)) (get_or words (i + 3) 0) k h in
     record { behind = w.0; within = rw o.exact w.1; refers = h }

@@ -15,26 +15,41 @@ placed-kept : (u v : List ℕ) (w : ℕ) → Kept u v → IsPlaced u w → IsPla
 placed-kept u v w k (inl l) = inl l
 placed-kept u v w k (inr (i, e, b)) = inr (i, e, k.blocks.forth i b)
 
+-- a scan begins behind the word that names the shape
 pub scanning-first : (shapes : ShapesView) (v : List ℕ) (at next : ℕ) → Formed v → Scanning shapes v at next 1 v next
 scanning-first shapes v at next f = record { kept = kept-refl v; formed = f; scanned = λ u list a g r s. (s, omega arith) }
 
 -- what the code's test says
-pub reference-here : (shapes : ShapesView) (u : List ℕ) (at k table second : ℕ) → table ≡ get_or u (at + 2) 0 → second ≡ get_or u (at + 3) 0 → 1 ≤ k → k + 2 < size_at u at → refers shapes (shape_named table) second k ≡ true → IsReference shapes u at k
+pub reference-here : (shapes : ShapesView) (u : List ℕ) (at k table second : ℕ) → table ≡ get_or u (at + 2) 0 → second ≡ get_or u (at + 3) 0 → 1 ≤ k
+    → k + 2 < size_at u at → refers shapes (shape_named table) second k ≡ true → IsReference shapes u at k
 reference-here shapes u at k table second e f l m h = record { behind = l; within = m; refers = rw (← e, ← f) h }
 
-pub no-reference-here : (shapes : ShapesView) (u : List ℕ) (at k table second : ℕ) → table ≡ get_or u (at + 2) 0 → second ≡ get_or u (at + 3) 0 → refers shapes (shape_named table) second k ≡ false → IsReference shapes u at k → ⊥
+-- and where it fails the word is no reference
+pub no-reference-here : (shapes : ShapesView) (u : List ℕ) (at k table second : ℕ) → table ≡ get_or u (at + 2) 0 → second ≡ get_or u (at + 3) 0
+    → refers shapes (shape_named table) second k ≡ false → IsReference shapes u at k → ⊥
 no-reference-here shapes u at k table second e f h r = let t : refers shapes (shape_named table) second k ≡ true = rw (e, f) r.refers in cc
 
 -- the reference word that the scan stands at
-pub scanning-placed : (shapes : ShapesView) (u v : List ℕ) (at next k first w : ℕ) → Scanning shapes u at next k v first → Begins u at → IsReference shapes u at k → IsPlaced u (get_or u (at + 2 + k) 0) → w ≡ get_or v (at + 2 + k) 0 → IsPlaced v w
+pub scanning-placed : (shapes : ShapesView) (u v : List ℕ) (at next k first w : ℕ) → Scanning shapes u at next k v first → Begins u at
+    → IsReference shapes u at k → IsPlaced u (get_or u (at + 2 + k) 0) → w ≡ get_or v (at + 2 + k) 0 → IsPlaced v w
 scanning-placed shapes u v at next k first w c b r p e = rw (e, word_kept u v at k c.kept b r.within) (placed-kept u v _ c.kept p)
 
 -- it is marked
-pub scanning-step : (shapes : ShapesView) (o v v' : List ℕ) (at next k first first' w : ℕ) → Scanning shapes o at next k v first → Begins o at → IsReference shapes o at k → w ≡ get_or v (at + 2 + k) 0 → Marks v v' w first first' → Formed v' → Scanning shapes o at next (k + 1) v' first'
-scanning-step shapes o v v' at next k first first' w c b r e m f = record { kept = kept-trans o v v' c.kept (marks-kept v v' w first first' m); formed = f; scanned = λ u list a g h s. step u list a h (c.scanned u list a g h s) s.state.kept }
+pub scanning-step : (shapes : ShapesView) (o v v' : List ℕ) (at next k first first' w : ℕ) → Scanning shapes o at next k v first → Begins o at
+    → IsReference shapes o at k → w ≡ get_or v (at + 2 + k) 0 → Marks v v' w first first' → Formed v' → Scanning shapes o at next (k + 1) v' first'
+scanning-step shapes o v v' at next k first first' w c b r e m f =
+    record { kept = kept-trans o v v' c.kept (marks-kept v v' w first first' m); formed = f; scanned = λ u list a g h s. step u list a h (c.scanned u list a g h s) s.state.kept }
   where
-    step : (u list : List ℕ) → AllGood shapes u list → Reached shapes u list at → Scanned shapes u list at k v first × (left v first ≤ left o next) → Kept u o → Scanned shapes u list at (k + 1) v' first' × (left v' first' ≤ left o next)
-    step u list a h (s, l) q = (record { state = state-next shapes u list at k v' first' t.state (λ _. subst (IsMarked v') same t.marked); listed = λ x i. t.grows x (s.listed x i) }, let z = t.less in omega arith)
+    step : (u list : List ℕ) → AllGood shapes u list → Reached shapes u list at → Scanned shapes u list at k v first × (left v first ≤ left o next)
+        → Kept u o → Scanned shapes u list at (k + 1) v' first' × (left v' first' ≤ left o next)
+    step u list a h (s, l) q = (
+      record {
+        state = state-next shapes u list at k v' first' t.state
+            (λ _. subst (IsMarked v') same t.marked);
+        listed = λ x i. t.grows x (s.listed x i);
+      },
+      let z = t.less in omega arith,
+    )
       where
         reference : IsReference shapes u at k
         reference = reference-kept shapes o u at k (kept-sym u o q) b r
@@ -49,15 +64,20 @@ scanning-step shapes o v v' at next k first first' w c b r e m f = record { kept
         t = state-step shapes u list at k v v' w first first' c.formed s.state reached m
 
 -- another word is passed over
-pub scanning-skip : (shapes : ShapesView) (o v : List ℕ) (at next k first : ℕ) → Scanning shapes o at next k v first → Begins o at → (IsReference shapes o at k → ⊥) → Scanning shapes o at next (k + 1) v first
+pub scanning-skip : (shapes : ShapesView) (o v : List ℕ) (at next k first : ℕ) → Scanning shapes o at next k v first → Begins o at
+    → (IsReference shapes o at k → ⊥) → Scanning shapes o at next (k + 1) v first
 scanning-skip shapes o v at next k first c b n = record { kept = c.kept; formed = c.formed; scanned = λ u list a g h s. skip u list (c.scanned u list a g h s) s.state.kept }
   where
-    skip : (u list : List ℕ) → Scanned shapes u list at k v first × (left v first ≤ left o next) → Kept u o → Scanned shapes u list at (k + 1) v first × (left v first ≤ left o next)
-    skip u list (s, l) q = (record { state = state-next shapes u list at k v first s.state (λ r. absurd (n (reference-kept shapes u o at k q (q.blocks.back at b) r))); listed = s.listed }, l)
+    skip : (u list : List ℕ) → Scanned shapes u list at k v first × (left v first ≤ left o next) → Kept u o
+        → Scanned shapes u list at (k + 1) v first × (left v first ≤ left o next)
+    skip u list (s, l) q =
+        (record { state = state-next shapes u list at k v first s.state (λ r. absurd (n (reference-kept shapes u o at k q (q.blocks.back at b) r))); listed = s.listed }, l)
 
 -- the scan is over
 pub scanning-last : (shapes : ShapesView) (o v : List ℕ) (at next k first end : ℕ) → Scanning shapes o at next k v first → Begins o at → size_at o at ≤ end + 2 → end ≤ k
-    → (u list : List ℕ) → AllGood shapes u list → Formed u → Reached shapes u list at → Scanned shapes u list at 1 o next → Waits shapes u list v first × (left v first ≤ left o next)
+    →
+    (u list : List ℕ) → AllGood shapes u list → Formed u → Reached shapes u list at → Scanned shapes u list at 1 o next → Waits shapes u list v first ×
+    (left v first ≤ left o next)
 scanning-last shapes o v at next k first end c b e h u list a g r s = over (c.scanned u list a g r s)
   where
     size : size_at o at ≡ size_at u at
@@ -74,6 +94,7 @@ pub record Taken (shapes : ShapesView) (u list v : List ℕ) (first : ℕ) : Typ
   pub less : left v (get_or v (first - 1 + 1) 0) < left v first
   pub placed : (k : ℕ) → IsReference shapes v (first - 1) k → IsPlaced v (get_or v (first - 1 + 2 + k) 0)
 
+-- then the blocks that wait are the others, and its object is scanned
 pub taken : (shapes : ShapesView) (u list v : List ℕ) (first : ℕ) → AllGood shapes u list → Waits shapes u list v first → 0 < first → Taken shapes u list v first
 taken shapes u list v first a s h = record { begins = p.black.begins; reached = p.reached; scanned = record { state = p.state; listed = s.listed }; less = p.less; placed = placed }
   where

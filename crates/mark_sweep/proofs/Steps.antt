@@ -12,10 +12,12 @@ use Rattle.object_layout.specs.Classes.{ShapesView}
 use Rattle.mark_sweep.proofs.Keeping.{kept-refl, kept-trans, reached-used}
 use Rattle.mark_sweep.proofs.Counting.{whites-push, whites-most}
 
+-- two objects have two addresses
 pub address-one : (i j : ℕ) → address i ≡ address j → i ≡ j
 unfolding address
 address-one i j h = omega arith
 
+-- an object lies in the heap
 pub address-high : (i : ℕ) → address i < 8388608 → ⊥
 unfolding address
 address-high i h = omega arith
@@ -32,10 +34,12 @@ named_block v w (inr (i, e, b)) h = go ((w - 8388608) / 4 - 2) (same w e)
     go : (j : ℕ) → j ≡ i → (w ≡ address j) × Begins v j
     go j q = rw q (e, b)
 
+-- a list of waiting blocks stays where their links stay
 linked-same : (u v list : List ℕ) (first : ℕ) → ((j : ℕ) → In j list → get_or v (j + 1) 0 ≡ get_or u (j + 1) 0) → Linked u first list → Linked v first list
 linked-same u v [] first h l = l
 linked-same u v (i ∷ list) first h l = (l.0, rw (h i (inl refl)) (linked-same u v list (get_or u (i + 1) 0) (λ j m. h j (inr m)) l.1))
 
+-- a marked block stays marked when another is pushed
 pub black-push : (u v : List ℕ) (i j first : ℕ) → Pushed u v i first → IsBlack u j → IsBlack v j
 black-push u v i j first p b = choose (same_place j i)
   where
@@ -43,10 +47,12 @@ black-push u v i j first p b = choose (same_place j i)
     choose (inl e) = record { begins = p.kept.blocks.forth j b.begins; marked = rw e p.black }
     choose (inr n) = record { begins = p.kept.blocks.forth j b.begins; marked = p.others j b.begins n ∙ b.marked }
 
+-- and so does what a word names
 pub marked-push : (u v : List ℕ) (i first w : ℕ) → Pushed u v i first → IsMarked u w → IsMarked v w
 marked-push u v i first w p (inl l) = inl l
 marked-push u v i first w p (inr (j, e, b)) = inr (j, e, black-push u v i j first p b)
 
+-- a marked block is none without a mark
 black_not : (u : List ℕ) (i j : ℕ) → marked_at u i ≡ false → IsBlack u j → j ≢ i
 black_not u i j h b e = let m : marked_at u i ≡ true = subst (λ k. marked_at u k ≡ true) e b.marked in cc
 
@@ -54,7 +60,9 @@ black_not u i j h b e = let m : marked_at u i ≡ true = subst (λ k. marked_at 
 pushed-links : (v w list : List ℕ) (first i : ℕ) → Pushed v w i first → ((j : ℕ) → In j list → IsBlack v j) → Linked v first list → Linked w (i + 1) (i ∷ list)
 pushed-links v w list first i p g l = (refl, rw p.link (linked-same v w list first (λ j m. let b = g j m in p.links j b.begins (black_not v i j p.white b)) l))
 
-pub state-push : (shapes : ShapesView) (u list : List ℕ) (at n : ℕ) (v w : List ℕ) (first i : ℕ) → Formed v → State shapes u list at n v first → Pushed v w i first → Reached shapes u list i → State shapes u list at n w (i + 1)
+-- what is known of marking after a block was pushed
+pub state-push : (shapes : ShapesView) (u list : List ℕ) (at n : ℕ) (v w : List ℕ) (first i : ℕ) → Formed v → State shapes u list at n v first
+    → Pushed v w i first → Reached shapes u list i → State shapes u list at n w (i + 1)
 state-push shapes u list at n v w first i f s p r = record {
   waiting = i ∷ s.waiting;
   linked = pushed-links v w s.waiting first i p (λ j m. s.grey j m) s.linked;
@@ -105,7 +113,8 @@ left-linked : (u v list : List ℕ) (first : ℕ) → Linked v first list → wh
 left-linked u v list first l h n = ap (λ k. whites v + k) (links-linked v list (length v) first l (omega arith))
 
 -- a pushed block takes one that had no mark
-left-push : (shapes : ShapesView) (u list : List ℕ) (at n : ℕ) (v w : List ℕ) (first i : ℕ) → Formed v → State shapes u list at n v first → Pushed v w i first → left w (i + 1) ≤ left v first
+left-push : (shapes : ShapesView) (u list : List ℕ) (at n : ℕ) (v w : List ℕ) (first i : ℕ) → Formed v → State shapes u list at n v first
+    → Pushed v w i first → left w (i + 1) ≤ left v first
 left-push shapes u list at n v w first i f s p =
     let l = whites-push v w i first f p in
     let t = s.total in
@@ -122,7 +131,9 @@ pub record Steps (shapes : ShapesView) (u list : List ℕ) (at n : ℕ) (v v' : 
   pub grows : (x : ℕ) → IsMarked v x → IsMarked v' x
   pub less : left v' first' ≤ left v first
 
-pub state-step : (shapes : ShapesView) (u list : List ℕ) (at n : ℕ) (v v' : List ℕ) (w first first' : ℕ) → Formed v → State shapes u list at n v first → ((i : ℕ) → w ≡ address i → Reached shapes u list i) → Marks v v' w first first'
+-- what is known of marking after a word was marked
+pub state-step : (shapes : ShapesView) (u list : List ℕ) (at n : ℕ) (v v' : List ℕ) (w first first' : ℕ) → Formed v → State shapes u list at n v first
+    → ((i : ℕ) → w ≡ address i → Reached shapes u list i) → Marks v v' w first first'
     → Steps shapes u list at n v v' w first first'
 state-step shapes u list at n v v' w first first' f s r (inl k) = rw (k.same, k.front) (record { state = s; marked = k.marked; grows = λ x m. m; less = omega arith })
 state-step shapes u list at n v v' w first first' f s r (inr (i, p)) = rw p.front (record {
@@ -145,7 +156,8 @@ state-first shapes u list h = record {
 }
 
 -- one more word of the block that is scanned
-pub state-next : (shapes : ShapesView) (u list : List ℕ) (at n : ℕ) (v : List ℕ) (first : ℕ) → State shapes u list at n v first → (IsReference shapes u at n → IsMarked v (get_or u (at + 2 + n) 0)) → State shapes u list at (n + 1) v first
+pub state-next : (shapes : ShapesView) (u list : List ℕ) (at n : ℕ) (v : List ℕ) (first : ℕ) → State shapes u list at n v first
+    → (IsReference shapes u at n → IsMarked v (get_or u (at + 2 + n) 0)) → State shapes u list at (n + 1) v first
 state-next shapes u list at n v first s h = record {
   waiting = s.waiting;
   linked = s.linked;
@@ -156,17 +168,20 @@ state-next shapes u list at n v first s h = record {
   closed = λ j b m. closed j (s.closed j b m);
 }
   where
-    last : (j k : ℕ) → IsReference shapes u j k → ((j ≡ at → k < n) → IsMarked v (get_or u (j + 2 + k) 0)) → (j ≡ at) ⊎ (j ≢ at) → (j ≡ at → k < n + 1) → (k ≡ n) ⊎ (k ≢ n) → IsMarked v (get_or u (j + 2 + k) 0)
+    last : (j k : ℕ) → IsReference shapes u j k → ((j ≡ at → k < n) → IsMarked v (get_or u (j + 2 + k) 0)) → (j ≡ at) ⊎ (j ≢ at) → (j ≡ at → k < n + 1)
+        → (k ≡ n) ⊎ (k ≢ n) → IsMarked v (get_or u (j + 2 + k) 0)
     last j k q g (inr d) l e = g (λ c. absurd (d c))
     last j k q g (inl c) l (inr d) = g (λ a. let z = l a in omega arith)
     last j k q g (inl c) l (inl e) = rw (c, e) (h (subst (IsReference shapes u at) e (subst (λ i. IsReference shapes u i k) c q)))
 
-    closed : (j : ℕ) → In j s.waiting ⊎ ((k : ℕ) → IsReference shapes u j k → (j ≡ at → k < n) → IsMarked v (get_or u (j + 2 + k) 0)) → In j s.waiting ⊎ ((k : ℕ) → IsReference shapes u j k → (j ≡ at → k < n + 1) → IsMarked v (get_or u (j + 2 + k) 0))
+    closed : (j : ℕ) → In j s.waiting ⊎ ((k : ℕ) → IsReference shapes u j k → (j ≡ at → k < n) → IsMarked v (get_or u (j + 2 + k) 0))
+        → In j s.waiting ⊎ ((k : ℕ) → IsReference shapes u j k → (j ≡ at → k < n + 1) → IsMarked v (get_or u (j + 2 + k) 0))
     closed j (inl m) = inl m
     closed j (inr g) = inr (λ k q l. last j k q (g k q) (same_place j at) l (same_place k n))
 
 -- the scanned block is done
-pub state-done : (shapes : ShapesView) (u list : List ℕ) (at n : ℕ) (v : List ℕ) (first : ℕ) → State shapes u list at n v first → size_at u at ≤ n + 2 → State shapes u list (length u) 0 v first
+pub state-done : (shapes : ShapesView) (u list : List ℕ) (at n : ℕ) (v : List ℕ) (first : ℕ) → State shapes u list at n v first → size_at u at ≤ n + 2
+    → State shapes u list (length u) 0 v first
 state-done shapes u list at n v first s l = record {
   waiting = s.waiting;
   linked = s.linked;
@@ -180,7 +195,8 @@ state-done shapes u list at n v first s l = record {
     due : (j k : ℕ) → IsReference shapes u j k → j ≡ at → k < n
     due j k q e = let q' : IsReference shapes u at k = subst (λ i. IsReference shapes u i k) e q in let w = q'.within in omega arith
 
-    closed : (j : ℕ) → In j s.waiting ⊎ ((k : ℕ) → IsReference shapes u j k → (j ≡ at → k < n) → IsMarked v (get_or u (j + 2 + k) 0)) → In j s.waiting ⊎ ((k : ℕ) → IsReference shapes u j k → (j ≡ length u → k < 0) → IsMarked v (get_or u (j + 2 + k) 0))
+    closed : (j : ℕ) → In j s.waiting ⊎ ((k : ℕ) → IsReference shapes u j k → (j ≡ at → k < n) → IsMarked v (get_or u (j + 2 + k) 0))
+        → In j s.waiting ⊎ ((k : ℕ) → IsReference shapes u j k → (j ≡ length u → k < 0) → IsMarked v (get_or u (j + 2 + k) 0))
     closed j (inl m) = inl m
     closed j (inr g) = inr (λ k q _. g k q (due j k q))
 
@@ -191,13 +207,15 @@ pub record Popped (shapes : ShapesView) (u list : List ℕ) (v : List ℕ) (firs
   pub state : State shapes u list (first - 1) 1 v (get_or v (first - 1 + 1) 0)
   pub less : left v (get_or v (first - 1 + 1) 0) < left v first
 
+-- what is known once the first waiting block is taken out
 pub popped : (shapes : ShapesView) (u list : List ℕ) (v : List ℕ) (first : ℕ) → State shapes u list (length u) 0 v first → 0 < first → Popped shapes u list v first
 popped shapes u list v first s h = go s.waiting refl s.linked s.total
   where
     Closed : ℕ → Type 0
     Closed j = (k : ℕ) → IsReference shapes u j k → (j ≡ length u → k < 0) → IsMarked v (get_or u (j + 2 + k) 0)
 
-    made : (g : ℕ) (rest : List ℕ) → s.waiting ≡ g ∷ rest → Linked v (get_or v (g + 1) 0) rest → whites v + suc (length rest) ≤ length u → State shapes u list g 1 v (get_or v (g + 1) 0)
+    made : (g : ℕ) (rest : List ℕ) → s.waiting ≡ g ∷ rest → Linked v (get_or v (g + 1) 0) rest → whites v + suc (length rest) ≤ length u
+        → State shapes u list g 1 v (get_or v (g + 1) 0)
     made g rest e l t = record {
       waiting = rest;
       linked = l;
@@ -232,19 +250,23 @@ popped shapes u list v first s h = go s.waiting refl s.linked s.total
     go [] e l t = absurd (omega arith)
     go (g ∷ rest) e l t = whole g rest e (let f = l.0 in omega arith) l t
 
+-- the block of a marked address is marked
 pub is-marked-at : (v : List ℕ) (i : ℕ) → IsMarked v (address i) → marked_at v i ≡ true
 is-marked-at v i (inl l) = absurd (address-high i l)
 is-marked-at v i (inr (j, e, b)) = rw (address-one i j e) b.marked
 
 -- marking is over
-pub marks-all : (shapes : ShapesView) (u list : List ℕ) (v : List ℕ) (first : ℕ) → State shapes u list (length u) 0 v first → first ≡ 0 → ((w : ℕ) → In w list → IsMarked v w) → MarksReached shapes u list v
+pub marks-all : (shapes : ShapesView) (u list : List ℕ) (v : List ℕ) (first : ℕ) → State shapes u list (length u) 0 v first → first ≡ 0
+    → ((w : ℕ) → In w list → IsMarked v w) → MarksReached shapes u list v
 marks-all shapes u list v first s z h = record { kept = s.kept; sound = λ i b m. s.sound i (s.kept.blocks.forth i b) m; all = all }
   where
     none : (j : ℕ) (list : List ℕ) → Linked v first list → In j list → ⊥
     none j [] l m = m
     none j (x ∷ list) l m = let q = l.0 in absurd (omega arith)
 
-    open_end : (j k : ℕ) → IsReference shapes u j k → Begins u j → In j s.waiting ⊎ ((k : ℕ) → IsReference shapes u j k → (j ≡ length u → k < 0) → IsMarked v (get_or u (j + 2 + k) 0)) → IsMarked v (get_or u (j + 2 + k) 0)
+    open_end : (j k : ℕ) → IsReference shapes u j k → Begins u j
+        → In j s.waiting ⊎ ((k : ℕ) → IsReference shapes u j k → (j ≡ length u → k < 0) → IsMarked v (get_or u (j + 2 + k) 0))
+        → IsMarked v (get_or u (j + 2 + k) 0)
     open_end j k q b (inl m) = absurd (none j s.waiting s.linked m)
     open_end j k q b (inr f) = f k q (λ e. let l = b.inside in absurd (omega arith))
 
@@ -255,6 +277,7 @@ marks-all shapes u list v first s z h = record { kept = s.kept; sound = λ i b m
     all i (listed _ m g) = is-marked-at v i (h (address i) m)
     all i (named j k _ r q e g) = field j k i (reached-used shapes u list j r).begins (all j r) q e
 
+-- the object of a word in the heap lies behind two words
 pub named-high : (v : List ℕ) (w : ℕ) → IsPlaced v w → 8388608 ≤ w → 2 ≤ (w - 8388608) / 4
 unfolding address
 named-high v w (inl l) h = absurd (omega arith)
@@ -267,7 +290,8 @@ skips v w first p h m =
     inl (record { same = refl; front = refl; marked = inr ((w - 8388608) / 4 - 2, n.0, record { begins = n.1; marked = m }) })
 
 -- and one that names a block without a mark
-pub pushes : (u v : List ℕ) (w first first' : ℕ) → IsPlaced u w → 8388608 ≤ w → Pushed u v ((w - 8388608) / 4 - 2) first → first' ≡ (w - 8388608) / 4 - 2 + 1 → Marks u v w first first'
+pub pushes : (u v : List ℕ) (w first first' : ℕ) → IsPlaced u w → 8388608 ≤ w → Pushed u v ((w - 8388608) / 4 - 2) first
+    → first' ≡ (w - 8388608) / 4 - 2 + 1 → Marks u v w first first'
 pushes u v w first first' p h d e = inr ((w - 8388608) / 4 - 2, record { named = (named_block u w p h).0; pushed = d; front = e })
 
 -- a good word is placed while the blocks are kept
@@ -280,11 +304,13 @@ pub good_used : (shapes : ShapesView) (u : List ℕ) (w i : ℕ) → IsGood shap
 good_used shapes u w i (inl l) e = absurd (address-high i (rw (← e) l))
 good_used shapes u w i (inr (j, q, b)) e = rw (address-one i j (sym e ∙ q)) b.used
 
+-- before the first listed word nothing is marked
 pub rooted-first : (shapes : ShapesView) (u list : List ℕ) → ((i : ℕ) → Begins u i → marked_at u i ≡ false) → Rooted shapes u list list u 0
 rooted-first shapes u list h = record { state = state-first shapes u list h; listed = λ w m. inl m; part = λ w m. m }
 
 -- one listed word more
-pub rooted-step : (shapes : ShapesView) (u list rest rest' v v' : List ℕ) (first w first' : ℕ) → AllGood shapes u list → Rooted shapes u list rest v first → rest ≡ w ∷ rest' → Formed v → Marks v v' w first first' → Rooted shapes u list rest' v' first'
+pub rooted-step : (shapes : ShapesView) (u list rest rest' v v' : List ℕ) (first w first' : ℕ) → AllGood shapes u list
+    → Rooted shapes u list rest v first → rest ≡ w ∷ rest' → Formed v → Marks v v' w first first' → Rooted shapes u list rest' v' first'
 rooted-step shapes u list rest rest' v v' first w first' a r e f m = record { state = s.state; listed = λ x i. listed x (r.listed x i); part = λ x i. r.part x (rw e (inr i)) }
   where
     member : In w list
@@ -304,10 +330,12 @@ rooted-step shapes u list rest rest' v v' first w first' a r e f m = record { st
     listed x (inl i) = let P : List ℕ → Type 0 = λ r. In x r in rest_of x (subst P e i)
     listed x (inr q) = inr (s.grows x q)
 
+-- nothing is in an empty list
 none_left : (A : Type 0) (w : ℕ) → In w [] ⊎ A → A
 none_left A w (inl m) = absurd m
 none_left A w (inr a) = a
 
+-- after the last listed word scanning begins
 pub scanned-first : (shapes : ShapesView) (u list rest v : List ℕ) (first : ℕ) → Rooted shapes u list rest v first → rest ≡ [] → Scanned shapes u list (length u) 0 v first
 scanned-first shapes u list rest v first r e = record { state = r.state; listed = λ w i. none_left (IsMarked v w) w (rw e at (r.listed w i)) }
 
@@ -320,6 +348,7 @@ marks-kept u v w first first' (inr (i, p)) = p.pushed.kept
 pub listing-first : (u list : List ℕ) → Formed u → ((i : ℕ) → Begins u i → marked_at u i ≡ false) → Listing u list list u 0
 listing-first u list f h = record { kept = kept-refl u; formed = f; part = λ w m. m; rooted = λ shapes a. rooted-first shapes u list h }
 
+-- the next listed word is placed
 pub listing-placed : (u list rest rest' v : List ℕ) (first w : ℕ) → Listing u list rest v first → ((w : ℕ) → In w list → IsPlaced u w) → rest ≡ w ∷ rest' → IsPlaced v w
 listing-placed u list rest rest' v first w l p e = keep (p w (l.part w (rw e (inl refl))))
   where
@@ -327,7 +356,9 @@ listing-placed u list rest rest' v first w l p e = keep (p w (l.part w (rw e (in
     keep (inl q) = inl q
     keep (inr (i, q, b)) = inr (i, q, l.kept.blocks.forth i b)
 
-pub listing-step : (u list rest rest' v v' : List ℕ) (first first' w : ℕ) → Listing u list rest v first → rest ≡ w ∷ rest' → Marks v v' w first first' → Formed v' → Listing u list rest' v' first'
+-- one listed word more
+pub listing-step : (u list rest rest' v v' : List ℕ) (first first' w : ℕ) → Listing u list rest v first → rest ≡ w ∷ rest' → Marks v v' w first first'
+    → Formed v' → Listing u list rest' v' first'
 listing-step u list rest rest' v v' first first' w l e m f = record {
   kept = kept-trans u v v' l.kept (marks-kept v v' w first first' m);
   formed = f;

@@ -22,9 +22,11 @@ earlier v at i b d l = choose (order i at)
     choose (inr (inl h)) = inr h
     choose (inr (inr h)) = let a = apart v at i b d h in absurd (omega arith)
 
+-- a pass begins at a block
 pub at-first : (v : List ℕ) → Formed v → AtPlace v 0
 at-first v f = inr (begins-first v (let l = f.least in omega arith))
 
+-- and goes on at a block, or ends with the heap
 pub at-next : (v w : List ℕ) (at : ℕ) → SameBlocks v w → Formed w → Begins v at → AtPlace w (at + size_at w at)
 at-next v w at s f b = next_place w at f (s.forth at b)
 
@@ -32,13 +34,17 @@ at-next v w at s f b = next_place w at f (s.forth at b)
 pub clearing-first : (u : List ℕ) → Formed u → Clearing u u 0
 clearing-first u f = record { stands = at-first u f; kept = kept-refl u; white = λ i b l. absurd (omega arith) }
 
-pub clearing-step : (u v w : List ℕ) (at x : ℕ) → Clearing u v at → Begins v at → w ≡ set v at x → SameBlocks v w → used_at w at ≡ used_at v at → marked_at w at ≡ false → Formed w → Clearing u w (at + size_at w at)
-clearing-step u v w at x c b e s h m f = record { stands = at-next v w at s f b; kept = kept-trans u v w c.kept (kept-header v w at x e s b h); white = λ i d l. white i d (earlier w at i (s.forth at b) d l) }
+-- one block more has no mark
+pub clearing-step : (u v w : List ℕ) (at x : ℕ) → Clearing u v at → Begins v at → w ≡ set v at x → SameBlocks v w → used_at w at ≡ used_at v at
+    → marked_at w at ≡ false → Formed w → Clearing u w (at + size_at w at)
+clearing-step u v w at x c b e s h m f =
+    record { stands = at-next v w at s f b; kept = kept-trans u v w c.kept (kept-header v w at x e s b h); white = λ i d l. white i d (earlier w at i (s.forth at b) d l) }
   where
     white : (i : ℕ) → Begins w i → (i < at) ⊎ (i ≡ at) → marked_at w i ≡ false
     white i d (inl l) = ap marked_of (rw e (get_or-set_other v at i x 0 (λ q. omega arith))) ∙ c.white i (s.back i d) l
     white i d (inr q) = rw q m
 
+-- at the end no block has one
 pub clearing-last : (u v : List ℕ) (at : ℕ) → Clearing u v at → length v ≤ at → Kept u v × NoMarks v
 clearing-last u v at c l = (c.kept, λ i b. c.white i b (let n = b.inside in omega arith))
 
@@ -46,7 +52,9 @@ clearing-last u v at c l = (c.kept, λ i b. c.white i b (let n = b.inside in ome
 pub sweeping-first : (u : List ℕ) → Formed u → Sweeping u u 0
 sweeping-first u f = record { stands = at-first u f; blocks = blocks-refl u; words = λ _ _ _ _ _. refl; done = λ i b l. absurd (omega arith); ahead = λ _ _ _. refl }
 
-pub sweeping-step : (u v w : List ℕ) (at : ℕ) → Sweeping u v at → Begins v at → ((k : ℕ) → k ≢ at → get_or w k 0 ≡ get_or v k 0) → SameBlocks v w → used_at w at ≡ marked_at v at → Formed w → Sweeping u w (at + size_at w at)
+-- one block more is used exactly where it was marked
+pub sweeping-step : (u v w : List ℕ) (at : ℕ) → Sweeping u v at → Begins v at → ((k : ℕ) → k ≢ at → get_or w k 0 ≡ get_or v k 0) → SameBlocks v w
+    → used_at w at ≡ marked_at v at → Formed w → Sweeping u w (at + size_at w at)
 sweeping-step u v w at c b other s h f = record {
   stands = at-next v w at s f b;
   blocks = blocks-trans u v w c.blocks s;
@@ -72,6 +80,7 @@ sweeping-step u v w at c b other s h f = record {
     done i d (inl l) = ap used_of (other i (λ q. omega arith)) ∙ c.done i d l
     done i d (inr q) = rw q (h ∙ c.ahead at (subst (Begins u) q d) (omega arith))
 
+-- at the end each is
 pub sweeping-last : (u v : List ℕ) (at : ℕ) → Sweeping u v at → length v ≤ at → Swept u v
 sweeping-last u v at c l = record { blocks = c.blocks; used = λ i b. c.done i b (let n = (c.blocks.forth i b).inside in omega arith); words = c.words }
 
@@ -83,6 +92,7 @@ swept-other v w at x k e n = rw e (get_or-set_other v at k x 0 n)
 pub keeps-refl : (u : List ℕ) → KeepsUsed u u
 keeps-refl u = record { size = refl; forth = λ _ h. h; back = λ _ h. h; words = λ _ _ _ _ _. refl }
 
+-- used blocks stay through two changes
 pub keeps-trans : (u v w : List ℕ) → KeepsUsed u v → KeepsUsed v w → KeepsUsed u w
 keeps-trans u v w a b = record {
   size = b.size ∙ a.size;
@@ -91,11 +101,15 @@ keeps-trans u v w a b = record {
   words = λ i h k l g. b.words i (a.forth i h) k l (rw (ap size_of (a.words i h i (omega arith) (omega (arith, g, l)))) g) ∙ a.words i h k l g;
 }
 
+-- a used block is no free one
 free_used : (u : List ℕ) (i j : ℕ) → IsFree u i → IsUsed u j → j ≢ i
 free_used u i j f g e = let h : used_at u i ≡ true = subst (λ k. used_at u k ≡ true) e g.used in let k = f.free in cc
 
-pub keeps-join : (v w : List ℕ) (at : ℕ) → IsFree v at → IsFree v (at + size_at v at) → get_or w at 0 ≡ size_at v at + size_at v (at + size_at v at) → ((j : ℕ) → j ≢ at → get_or w j 0 ≡ get_or v j 0) → Splits w v (at + size_at v at) → length w ≡ length v → KeepsUsed v w
-keeps-join v w at f g front others c n = record { size = n; forth = forth; back = λ i h. back i h (same_place i at); words = λ i h k l m. others k (inside_other v at i k f.begins h.begins (free_used v at i f h) l m) }
+-- a join keeps the used blocks
+pub keeps-join : (v w : List ℕ) (at : ℕ) → IsFree v at → IsFree v (at + size_at v at) → get_or w at 0 ≡ size_at v at + size_at v (at + size_at v at)
+    → ((j : ℕ) → j ≢ at → get_or w j 0 ≡ get_or v j 0) → Splits w v (at + size_at v at) → length w ≡ length v → KeepsUsed v w
+keeps-join v w at f g front others c n =
+    record { size = n; forth = forth; back = λ i h. back i h (same_place i at); words = λ i h k l m. others k (inside_other v at i k f.begins h.begins (free_used v at i f h) l m) }
   where
     free_front : used_at w at ≡ false
     free_front = ap used_of front ∙ whole-free _ (sum_rows _ _ (size-mod _) (size-mod _))
@@ -117,13 +131,17 @@ keeps-join v w at f g front others c n = record { size = n; forth = forth; back 
         absurd (cc)
     back i h (inr d) = record { begins = c.kept i h.begins; used = sym (ap used_of (others i d)) ∙ h.used }
 
+-- before the first block nothing is merged
 pub merging-first : (u : List ℕ) → Formed u → Merging u u 0
 merging-first u f = record { begins = begins-first u (let l = f.least in omega arith); kept = keeps-refl u; apart = λ i b l _. absurd (omega arith) }
 
+-- the header of two blocks that were joined
 joined-front : (v w : List ℕ) (at : ℕ) → w ≡ join_words v at → at < length v → get_or w at 0 ≡ size_at v at + size_at v (at + size_at v at)
 joined-front v w at e l = rw e (get_or-set_same v at _ 0 l)
 
-pub merging-join : (u v w : List ℕ) (at : ℕ) → Merging u v at → IsFree v at → IsFree v (at + size_at v at) → w ≡ join_words v at → Splits w v (at + size_at v at) → Formed v → Merging u w at
+-- two free neighbours are joined
+pub merging-join : (u v w : List ℕ) (at : ℕ) → Merging u v at → IsFree v at → IsFree v (at + size_at v at) → w ≡ join_words v at
+    → Splits w v (at + size_at v at) → Formed v → Merging u w at
 merging-join u v w at m f g e c z = record {
   begins = start (c.each at m.begins);
   kept = keeps-trans u v w m.kept (keeps-join v w at f g front others c n);
@@ -161,7 +179,9 @@ merging-join u v w at m f g e c z = record {
         let e = ap size_of (same i l) in
         m.apart i (was i h l) l (subst (λ s. IsFree v (i + s)) e (second (i + size_at w i) q (same_place _ at)))
 
-pub merging-next : (u v : List ℕ) (at : ℕ) → Merging u v at → Begins v (at + size_at v at) → (used_at v at ≡ true) ⊎ (used_at v (at + size_at v at) ≡ true) → Merging u v (at + size_at v at)
+-- a block without a free neighbour is passed
+pub merging-next : (u v : List ℕ) (at : ℕ) → Merging u v at → Begins v (at + size_at v at)
+    → (used_at v at ≡ true) ⊎ (used_at v (at + size_at v at) ≡ true) → Merging u v (at + size_at v at)
 merging-next u v at m b h = record { begins = b; kept = m.kept; apart = λ i f l g. near i f g (earlier v at i m.begins f.begins l) }
   where
     here : (used_at v at ≡ true) ⊎ (used_at v (at + size_at v at) ≡ true) → IsFree v at → IsFree v (at + size_at v at) → ⊥
@@ -172,6 +192,7 @@ merging-next u v at m b h = record { begins = b; kept = m.kept; apart = λ i f l
     near i f g (inl l) = m.apart i f l g
     near i f g (inr e) = here h (subst (IsFree v) e f) (subst (λ j. IsFree v (j + size_at v j)) e g)
 
+-- at the end no two free blocks are neighbours
 pub merging-last : (u v : List ℕ) (at : ℕ) → Merging u v at → at + size_at v at ≡ length v → NoNeighbours v
 merging-last u v at m e i f g = near (earlier v at i m.begins f.begins (let n = f.begins.inside in omega arith))
   where
@@ -186,7 +207,8 @@ merging-to u v at next m e b h =
     rw e (merging-next u v at m (subst (Begins v) e b) (subst P e h))
 
 -- a join brings the end of the heap nearer
-pub joined-less : (v w : List ℕ) (at next size : ℕ) → Formed v → next ≡ at + size_at v at → Begins v next → size ≡ length v → w ≡ join_words v at → at < length v → size - (at + size_at w at) < size - (at + size_at v at)
+pub joined-less : (v w : List ℕ) (at next size : ℕ) → Formed v → next ≡ at + size_at v at → Begins v next → size ≡ length v → w ≡ join_words v at
+    → at < length v → size - (at + size_at w at) < size - (at + size_at v at)
 joined-less v w at next size f e b s k l = fewer size at (size_at v at) (size_at v (at + size_at v at)) (size_at w at) whole.positive (rw s whole.within) grown
   where
     whole : IsWhole v (at + size_at v at)
@@ -207,6 +229,7 @@ both-free false false e = (refl, refl)
 both-free false true e = cc
 both-free true b e = cc
 
+-- and where it fails one of them is used
 pub one-used : (a b : Bool) → (not a && not b) ≡ false → (a ≡ true) ⊎ (b ≡ true)
 one-used true b e = inl refl
 one-used false true e = inr refl

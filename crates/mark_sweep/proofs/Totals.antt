@@ -14,6 +14,7 @@ fold-from (x ∷ xs) a =
     let q = fold-from xs (0 + x) in
     omega arith
 
+-- the sum of one number more
 sum-cons : (x : ℕ) (xs : List ℕ) → sum (x ∷ xs) ≡ x + sum xs
 sum-cons x xs = let p = fold-from xs (0 + x) in omega arith
 
@@ -34,7 +35,8 @@ counting-used v at free largest c b f h = record {
     same = rw (rest-block v at f b, h) refl
 
 -- a free block is counted
-pub counting-free : (v : List ℕ) (at free largest : ℕ) → Counting v at free largest → Begins v at → Formed v → used_at v at ≡ false → Counting v (at + size_at v at) (free + size_at v at) (max largest (size_at v at))
+pub counting-free : (v : List ℕ) (at free largest : ℕ) → Counting v at free largest → Begins v at → Formed v → used_at v at ≡ false
+    → Counting v (at + size_at v at) (free + size_at v at) (max largest (size_at v at))
 counting-free v at free largest c b f h = record {
   stands = next_place v at f b;
   small = let s = c.small in omega arith;

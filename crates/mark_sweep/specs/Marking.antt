@@ -3,6 +3,7 @@ use Rattle.heap_words.specs.Headers.{marked_at}
 use Rattle.heap_words.specs.Blocks.{place, Begins, Formed}
 use Rattle.object_layout.specs.Classes.{ShapesView}
 use Rattle.free_index.specs.Lists.{In}
+use Rattle.object_layout.specs.Areas.{heap_start}
 use Rattle.mark_sweep.specs.Objects.{address, IsReference}
 use Rattle.mark_sweep.specs.Reached.{AllGood, Reached}
 use Rattle.mark_sweep.specs.Swept.{Kept}
@@ -17,11 +18,11 @@ pub record IsBlack (words : List ℕ) (i : ℕ) : Type 0 where
 
 -- a word names no object, or that of a block
 abbrev pub IsPlaced : List ℕ → ℕ → Type 0
-IsPlaced words w = (w < 0x800000) ⊎ ((i : ℕ) × (w ≡ address i) × Begins words i)
+IsPlaced words w = (w < heap_start) ⊎ ((i : ℕ) × (w ≡ address i) × Begins words i)
 
 -- a word names no object, or that of a marked block
 abbrev pub IsMarked : List ℕ → ℕ → Type 0
-IsMarked words w = (w < 0x800000) ⊎ ((i : ℕ) × (w ≡ address i) × IsBlack words i)
+IsMarked words w = (w < heap_start) ⊎ ((i : ℕ) × (w ≡ address i) × IsBlack words i)
 
 -- the block at i was not marked; it is now, and stands in front of the list that began with `first`
 pub record Pushed (u v : List ℕ) (i first : ℕ) : Type 0 where
@@ -45,6 +46,7 @@ pub record Skips (u v : List ℕ) (w first first' : ℕ) : Type 0 where
   pub front : first' ≡ first
   pub marked : IsMarked u w
 
+-- a word was marked: it pushed the block that it names, or there was nothing to do
 abbrev pub Marks : List ℕ → List ℕ → ℕ → ℕ → ℕ → Type 0
 Marks u v w first first' = Skips u v w first first' ⊎ ((i : ℕ) × Pushes u v w i first first')
 
@@ -57,6 +59,7 @@ Linked words first (i ∷ list) = (first ≡ i + 1) × Linked words (slice_index
 unfoldable pub white : List ℕ → ℕ → Bool
 white words k = nat_lt (place words k) (length words) && not (marked_at words (place words k))
 
+-- how many of the first k blocks are white
 unfoldable pub whites_below : List ℕ → ℕ → ℕ
 whites_below words zero = 0
 whites_below words (suc k) = (if white words k then 1 else 0) + whites_below words k

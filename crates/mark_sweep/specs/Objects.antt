@@ -1,7 +1,7 @@
 use Rattle.std.specs.Prelude.{◌≡◌, ℕ, ◌+◌, ◌-◌, ◌*◌, ◌/◌, ◌<◌, ◌≤◌, ◌&&◌, Bool, true, false, List, slice_index, nat_lt, Option, Some, None, if◌then◌else◌}
 use Rattle.heap_words.specs.Headers.{size_at}
 use Rattle.heap_words.specs.Blocks.{IsUsed}
-use Rattle.object_layout.specs.Areas.{table_address, descriptor_address}
+use Rattle.object_layout.specs.Areas.{tables_start, descriptors_start, heap_start, table_address, descriptor_address}
 use Rattle.object_layout.specs.Classes.{ShapesView, IsShape, Need, field_at, Element}
 use Rattle.object_layout.specs.declared.rows.FieldTy.{FieldTy}
 use Rattle.object_layout.specs.declared.rows.FieldTy.TheVariants.{Num, Ref, ArrRef, Fun}
@@ -11,13 +11,15 @@ use Rattle.object_layout.specs.declared.rows.Shape.TheVariants.{Class, Kind}
 -- An object stands in a used block behind the two words of its block. Its first word names its shape: it is the
 -- address of a class's table or of a kind's descriptor. Its words are counted from this one on.
 
--- the address of the object in the block at i, in a heap that begins at 0x800000
+-- the address of the object in the block at i
 unfoldable pub address : ℕ → ℕ
-address i = 0x800000 + 4 * (i + 2)
+address i = heap_start + 4 * (i + 2)
 
--- the shape that an object's first word names: descriptors stand from 0x280000 on, tables below
+-- the shape that an object's first word names: tables stand below the descriptors
 unfoldable pub shape_named : ℕ → Shape
-shape_named word = if nat_lt word 0x280000 then Class ((word - 0x200000) / 256) else Kind ((word - 0x280000) / 16)
+shape_named word =
+    if nat_lt word descriptors_start then Class ((word - tables_start) / 256)
+    else Kind ((word - descriptors_start) / 16)
 
 -- the word that names a shape
 unfoldable pub shape_word : Shape → ℕ

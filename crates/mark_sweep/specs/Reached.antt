@@ -2,11 +2,12 @@ use Rattle.std.specs.Prelude.{◌≡◌, ℕ, ◌+◌, ◌<◌, ◌⊎◌, List,
 use Rattle.heap_words.specs.Blocks.{IsUsed}
 use Rattle.object_layout.specs.Classes.{ShapesView}
 use Rattle.free_index.specs.Lists.{In}
+use Rattle.object_layout.specs.Areas.{heap_start}
 use Rattle.mark_sweep.specs.Objects.{address, IsObject, IsReference}
 
 -- a word is good: it is 0 or an address below the heap, as a data array's is, or the address of an object
 abbrev pub IsGood : ShapesView → List ℕ → ℕ → Type 0
-IsGood s words w = (w < 0x800000) ⊎ ((i : ℕ) × (w ≡ address i) × IsObject s words i)
+IsGood s words w = (w < heap_start) ⊎ ((i : ℕ) × (w ≡ address i) × IsObject s words i)
 
 -- the least set of used blocks that has those of the list and those that a reference of a member names
 pub data Reached (s : ShapesView) (words : List ℕ) (list : List ℕ) : ℕ → Type 0 where

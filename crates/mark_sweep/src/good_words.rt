@@ -3,23 +3,16 @@ ghost use Rattle.std.specs.Prelude.{◌≡◌, ◌<◌, ◌+◌, ℕ, IsTrue, sl
 ghost use Rattle.heap_words.specs.Blocks.{Begins, Formed, IsUsed};
 ghost use Rattle.object_layout.specs.Classes.{IsShape};
 ghost use Rattle.free_index.specs.Lists.{In};
-ghost use Rattle.mark_sweep.specs.Objects.{IsObject, IsReference, shape_named, shape_word};
+ghost use Rattle.mark_sweep.specs.Objects.{IsObject, IsReference, shape_word};
 ghost use Rattle.mark_sweep.specs.Reached.{AllGood, IsGood};
 
-use crate::objects::refers;
+use crate::objects::{refers, shape_named};
 use heap_words::Heap;
+use object_layout::areas::{DESCRIPTORS_START, HEAP_START, TABLES_START};
 use object_layout::{Shape, Shapes};
 
-#[tactic(auto, unfolding(crate::specs::Objects::shape_named))]
-fn shape_named(word: u32) -> Shape
-    ensures { result ≡ shape_named word }
-{
-    if word < 0x280000 {
-        Shape::Class(word.saturating_sub(0x200000) / 256)
-    } else {
-        Shape::Kind((word - 0x280000) / 16)
-    }
-}
+// The address of the first object that can be: behind the two words of its block.
+const FIRST_OBJECT: u32 = HEAP_START + 8;
 
 // Whether the shape is there and a word names it.
 fn is_shape_word(shapes: &Shapes, word: u32, shape: Shape) -> bool
@@ -28,10 +21,12 @@ fn is_shape_word(shapes: &Shapes, word: u32, shape: Shape) -> bool
 {
     match shape {
         Shape::Class(c) => {
-            shapes.table_word(c, 0).is_some() && u64::from(word) == 0x200000 + 256 * u64::from(c)
+            shapes.table_word(c, 0).is_some()
+                && u64::from(word) == TABLES_START as u64 + 256 * u64::from(c)
         }
         Shape::Kind(k) => {
-            shapes.element_of(k).is_some() && u64::from(word) == 0x280000 + 16 * u64::from(k)
+            shapes.element_of(k).is_some()
+                && u64::from(word) == DESCRIPTORS_START as u64 + 16 * u64::from(k)
         }
     }
 }
@@ -51,6 +46,7 @@ fn is_object(heap: &Heap, shapes: &Shapes, at: u32) -> bool
 fn begins(heap: &Heap, i: u32) -> bool
     ensures { IsTrue result → Begins heap.now i }
 {
+    // The heap is formed, which the loop's proof needs.
     let _size = heap.size();
     let mut at = 0;
     while at < i {
@@ -66,13 +62,13 @@ fn is_good(heap: &Heap, shapes: &Shapes, word: u32) -> bool
     requires { Formed heap.now }
     ensures { IsTrue result → IsGood shapes.now heap.now word }
 {
-    if word < 0x800000 {
+    if word < HEAP_START {
         return true;
     }
-    if word < 0x800008 || word % 4 != 0 {
+    if word < FIRST_OBJECT || word % 4 != 0 {
         return false;
     }
-    let at = (word - 0x800008) / 4;
+    let at = (word - FIRST_OBJECT) / 4;
     begins(heap, at) && is_object(heap, shapes, at)
 }
 
@@ -124,6 +120,7 @@ fn words_are_good(heap: &Heap, shapes: &Shapes, words: &[u32]) -> bool
 pub fn all_good(heap: &Heap, shapes: &Shapes, words: &[u32]) -> bool
     ensures { IsTrue result → AllGood shapes.now heap.now words.now }
 {
+    // The heap is formed, which the two tests ask.
     let _size = heap.size();
     words_are_good(heap, shapes, words) && objects_refer_to_good(heap, shapes)
 }

@@ -12,6 +12,7 @@ use crate::objects::refers;
 use crate::roots::Roots;
 use heap_words::Heap;
 use object_layout::Shapes;
+use object_layout::areas::HEAP_START;
 
 // Marks the block of the object that a word names and puts it in front of the list of waiting blocks, unless
 // it has a mark. Answers the list's first link.
@@ -21,10 +22,10 @@ fn mark_word(heap: &mut Heap, first: u32, word: u32) -> u32
     ensures marks { Marks heap.old heap.new word first result }
     ensures formed { Formed heap.new }
 {
-    if word < 0x800000 {
+    if word < HEAP_START {
         return first;
     }
-    let at = (word - 0x800000) / 4 - 2;
+    let at = (word - HEAP_START) / 4 - 2;
     if heap.marked(at) {
         return first;
     }

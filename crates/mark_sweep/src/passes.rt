@@ -9,9 +9,9 @@ use heap_words::Heap;
 /// What a collection leaves free, in words.
 #[derive(Clone, Copy, Debug, PartialEq, Eq)]
 pub struct Collected {
-    /// the words of all free blocks together
+    /// The words of all free blocks together.
     pub free: u64,
-    /// the words of the largest free block, 0 where there is none
+    /// The words of the largest free block, 0 where there is none.
     pub largest: u64,
 }
 

@@ -8,6 +8,7 @@ use crate::passes::Collected;
 use crate::roots::Roots;
 use free_index::FreeIndex;
 use heap_words::Heap;
+use object_layout::areas::{HEAP_START, TABLES_START};
 use object_layout::{ClassRow, FieldList, FieldTy, MethodList, ShapeFault, Shapes};
 use std::alloc::Global;
 use std::test::*;
@@ -53,7 +54,7 @@ fn add_object(heap: &mut Heap, index: &mut FreeIndex, field: u32) -> Option<u32>
     ensures { FreeLists index.new heap.new }
 {
     let at = index.take(heap, 4)?;
-    heap.set_word(at + 2, 0x200000);
+    heap.set_word(at + 2, TABLES_START);
     heap.set_word(at + 3, field);
     Some(at)
 }
@@ -62,7 +63,7 @@ fn add_object(heap: &mut Heap, index: &mut FreeIndex, field: u32) -> Option<u32>
 fn address(i: u32) -> u32
     requires { i < 64 }
 {
-    0x800000 + 4 * (i + 2)
+    HEAP_START + 4 * (i + 2)
 }
 
 // Sixteen objects fill a heap of 64 words. Every other one is listed, and then one of them no more.

@@ -4,23 +4,28 @@ use Rattle.mark_sweep.proofs.Sweeps.{keeps-trans}
 use Rattle.mark_sweep.proofs.collecting.collect.Goals as goal
 
 pub mark-requires-clause-good : goal.mark-requires-clause-good
-mark-requires-clause-good g c = all-good-kept _ _ _ _ (formed-same _ _ (same-back _ _ c.clear_marks.ensures.kept.blocks) c.clear_marks.ensures.formed) c.clear_marks.ensures.kept c.requires.good
+mark-requires-clause-good g c =
+    all-good-kept _ _ _ _ (formed-same _ _ (same-back _ _ c.clear_marks.ensures.kept.blocks) c.clear_marks.ensures.formed) c.clear_marks.ensures.kept c.requires.good
 
 pub returns-clause-used : goal.returns-clause-used
 returns-clause-used g c =
-    (collects _ _ _ _ _ _ _ c.clear_marks.ensures.kept c.mark.ensures.marks c.sweep.ensures.swept c.sweep.ensures.formed (keeps-trans _ _ _ c.merge.ensures.kept (keeps-only _ _ c.merge.ensures.formed c.rebuild.ensures.only))).used
+    (collects _ _ _ _ _ _ _ c.clear_marks.ensures.kept c.mark.ensures.marks c.sweep.ensures.swept c.sweep.ensures.formed
+    (keeps-trans _ _ _ c.merge.ensures.kept (keeps-only _ _ c.merge.ensures.formed c.rebuild.ensures.only))).used
 
 pub returns-clause-sizes : goal.returns-clause-sizes
 returns-clause-sizes g c =
-    (collects _ _ _ _ _ _ _ c.clear_marks.ensures.kept c.mark.ensures.marks c.sweep.ensures.swept c.sweep.ensures.formed (keeps-trans _ _ _ c.merge.ensures.kept (keeps-only _ _ c.merge.ensures.formed c.rebuild.ensures.only))).sizes
+    (collects _ _ _ _ _ _ _ c.clear_marks.ensures.kept c.mark.ensures.marks c.sweep.ensures.swept c.sweep.ensures.formed
+    (keeps-trans _ _ _ c.merge.ensures.kept (keeps-only _ _ c.merge.ensures.formed c.rebuild.ensures.only))).sizes
 
 pub returns-clause-words : goal.returns-clause-words
 returns-clause-words g c =
-    (collects _ _ _ _ _ _ _ c.clear_marks.ensures.kept c.mark.ensures.marks c.sweep.ensures.swept c.sweep.ensures.formed (keeps-trans _ _ _ c.merge.ensures.kept (keeps-only _ _ c.merge.ensures.formed c.rebuild.ensures.only))).words
+    (collects _ _ _ _ _ _ _ c.clear_marks.ensures.kept c.mark.ensures.marks c.sweep.ensures.swept c.sweep.ensures.formed
+    (keeps-trans _ _ _ c.merge.ensures.kept (keeps-only _ _ c.merge.ensures.formed c.rebuild.ensures.only))).words
 
 pub returns-clause-size : goal.returns-clause-size
 returns-clause-size g c =
-    (collects _ _ _ _ _ _ _ c.clear_marks.ensures.kept c.mark.ensures.marks c.sweep.ensures.swept c.sweep.ensures.formed (keeps-trans _ _ _ c.merge.ensures.kept (keeps-only _ _ c.merge.ensures.formed c.rebuild.ensures.only))).size
+    (collects _ _ _ _ _ _ _ c.clear_marks.ensures.kept c.mark.ensures.marks c.sweep.ensures.swept c.sweep.ensures.formed
+    (keeps-trans _ _ _ c.merge.ensures.kept (keeps-only _ _ c.merge.ensures.formed c.rebuild.ensures.only))).size
 
 pub returns-clause-apart : goal.returns-clause-apart
 returns-clause-apart g c = apart-only _ _ c.rebuild.ensures.only c.merge.ensures.apart

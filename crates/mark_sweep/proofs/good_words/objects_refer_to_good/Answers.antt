@@ -14,7 +14,9 @@ loop-at-init c = record { stands = at-first _ c.size-size.ensures.formed; done =
 pub loop-at-preserved : goal.loop-at-preserved
 loop-at-preserved c =
     let b : Begins c.args.heap.now c.loop-at.at = at_block _ _ c.loop-at.invariant.stands (omega (arith, c.size-size.ensures.size)) in
-    let here : IsUsed c.args.heap.now c.loop-at.at → (k : ℕ) → IsReference c.args.shapes.now c.args.heap.now c.loop-at.at k → IsGood c.args.shapes.now c.args.heap.now (get_or c.args.heap.now (c.loop-at.at + 2 + k) 0) =
+    let here : IsUsed c.args.heap.now c.loop-at.at →
+    (k : ℕ) → IsReference c.args.shapes.now c.args.heap.now c.loop-at.at k → IsGood c.args.shapes.now c.args.heap.now
+    (get_or c.args.heap.now (c.loop-at.at + 2 + k) 0) =
     λ h. elim c.else-used.branch [
       | else-used-via-then-used+else-not-refers_to_good w ↦ w.refers_to_good.ensures w.if-not-refers_to_good.false
       | else-used-via-else-used w ↦ let e = sym c.used.ensures ∙ w.if-used.false in let t = h.used in absurd (cc)

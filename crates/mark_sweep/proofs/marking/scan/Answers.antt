@@ -17,7 +17,8 @@ words-init c = scanning-first _ _ _ _ c.requires.formed
 pub mark_word-first-requires-clause-placed : goal.mark_word-first-requires-clause-placed
 mark_word-first-requires-clause-placed c =
     let r : IsReference c.args.shapes.now c.args.heap.now c.args.at c.words.k =
-    reference-here _ _ _ _ _ _ c.word-table.ensures c.word-length.ensures c.words.auto.k (omega (arith, c.block_size-end.ensures.size, c.words-test.true)) (sym c.refers.ensures ∙ c.if-refers.true) in
+    reference-here _ _ _ _ _ _ c.word-table.ensures c.word-length.ensures c.words.auto.k (omega (arith, c.block_size-end.ensures.size, c.words-test.true)) (sym c.refers.ensures
+    ∙ c.if-refers.true) in
     scanning-placed _ _ _ _ _ _ _ _ c.words.invariant c.requires.begins r (c.requires.placed _ r) c.word-word.ensures
 
 pub words-preserved : goal.words-preserved
@@ -25,10 +26,13 @@ words-preserved c =
     elim c.if-refers.branch [
       | then-refers w ↦
           let r : IsReference c.args.shapes.now c.args.heap.now c.args.at c.words.k =
-          reference-here _ _ _ _ _ _ c.word-table.ensures c.word-length.ensures c.words.auto.k (omega (arith, c.block_size-end.ensures.size, c.words-test.true)) (sym c.refers.ensures ∙ w.if-refers.true) in
-          rw (w.heap-is, w.first-is) (scanning-step _ _ _ _ _ _ _ _ _ _ c.words.invariant c.requires.begins r w.word-word.ensures w.mark_word-first.ensures.marks w.mark_word-first.ensures.formed)
+          reference-here _ _ _ _ _ _ c.word-table.ensures c.word-length.ensures c.words.auto.k
+          (omega (arith, c.block_size-end.ensures.size, c.words-test.true)) (sym c.refers.ensures ∙ w.if-refers.true) in
+          rw (w.heap-is, w.first-is)
+          (scanning-step _ _ _ _ _ _ _ _ _ _ c.words.invariant c.requires.begins r w.word-word.ensures w.mark_word-first.ensures.marks w.mark_word-first.ensures.formed)
       | else-refers w ↦
-          rw (w.heap-is, w.first-is) (scanning-skip _ _ _ _ _ _ _ c.words.invariant c.requires.begins (no-reference-here _ _ _ _ _ _ c.word-table.ensures c.word-length.ensures (sym c.refers.ensures ∙ w.if-refers.false)))
+          rw (w.heap-is, w.first-is) (scanning-skip _ _ _ _ _ _ _ c.words.invariant c.requires.begins
+          (no-reference-here _ _ _ _ _ _ c.word-table.ensures c.word-length.ensures (sym c.refers.ensures ∙ w.if-refers.false)))
     ]
 
 pub returns-clause-scanned : goal.returns-clause-scanned

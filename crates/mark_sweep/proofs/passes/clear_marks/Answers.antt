@@ -12,4 +12,5 @@ loop-at-preserved c =
     let n = c.loop-at.invariant.kept.blocks.size in
     let b : Begins c.loop-at.heap c.loop-at.at = at_block _ _ c.loop-at.invariant.stands (omega (arith, n, c.size-size.ensures.size)) in
     rw c.block_size-at.ensures.size
-    (clearing-step _ _ _ _ _ c.loop-at.invariant b c.set_marked.ensures.words c.set_marked.ensures.same c.set_marked.ensures.used c.set_marked.ensures.marked c.set_marked.ensures.formed)
+    (clearing-step _ _ _ _ _ c.loop-at.invariant b c.set_marked.ensures.words c.set_marked.ensures.same
+    c.set_marked.ensures.used c.set_marked.ensures.marked c.set_marked.ensures.formed)

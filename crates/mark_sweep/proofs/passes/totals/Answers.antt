@@ -14,7 +14,8 @@ loop-at-preserved c =
     let b : Begins c.args.heap.now c.loop-at.at = at_block _ _ c.loop-at.invariant.stands (omega (arith, c.size-size.ensures.size)) in
     let r : c.block_size-room.result ≡ size_at c.args.heap.now c.loop-at.at = c.block_size-room.ensures.size in
     elim c.if-not-used.branch [
-      | then-not-used w ↦ rw (w.free-is, w.largest-is, w.max-largest.ensures, w.from-free.ensures, w.from.ensures, r) (counting-free _ _ _ _ c.loop-at.invariant b c.block_size-room.ensures.formed (sym c.used.ensures ∙ w.if-not-used.true))
+      | then-not-used w ↦ rw (w.free-is, w.largest-is, w.max-largest.ensures, w.from-free.ensures, w.from.ensures, r)
+          (counting-free _ _ _ _ c.loop-at.invariant b c.block_size-room.ensures.formed (sym c.used.ensures ∙ w.if-not-used.true))
       | else-not-used w ↦ rw (w.free-is, w.largest-is, r) (counting-used _ _ _ _ c.loop-at.invariant b c.block_size-room.ensures.formed (sym c.used.ensures ∙ w.if-not-used.false))
     ]
 

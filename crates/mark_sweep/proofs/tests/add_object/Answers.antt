@@ -7,7 +7,8 @@ pub set_word-requires-clause-object : goal.set_word-requires-clause-object
 set_word-requires-clause-object c = object-word _ _ 2 c.in_ok-at.ensures.taken.used (inl refl)
 
 pub set_word-requires-2-clause-object : goal.set_word-requires-2-clause-object
-set_word-requires-2-clause-object c = object-word _ _ 3 (used-after _ _ _ 2 _ c.set_word.ensures.words c.set_word.ensures.same (omega arith) c.in_ok-at.ensures.taken.used) (inr refl)
+set_word-requires-2-clause-object c =
+    object-word _ _ 3 (used-after _ _ _ 2 _ c.set_word.ensures.words c.set_word.ensures.same (omega arith) c.in_ok-at.ensures.taken.used) (inr refl)
 
 pub returns : goal.returns
 returns c =
