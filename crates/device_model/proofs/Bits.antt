@@ -43,7 +43,8 @@ set_bit n k lt i =
 pub clear_bit : (n k : ℕ) → k < 8 → (i : ℕ) → i < 8 → is_set (bit_and n (bit_not w8 (1 * 2 ^ k % 2 ^ 8))) i ≡ (not (eqb k i) && is_set n i)
 clear_bit n k lt i il =
     elim (cases_eq k i) [
-      | inl e ↦ rw (eq-eqb k i e) (clear_from (bit_and n (bit_not w8 (1 * 2 ^ k % 2 ^ 8))) i (subst (λ (p : ℕ). bit_at (bit_and n (bit_not w8 (1 * 2 ^ k % 2 ^ 8))) p ≡ 0) e (bit_at_clear_same w8 n k lt)))
+      | inl e ↦ rw (eq-eqb k i e)
+          (clear_from (bit_and n (bit_not w8 (1 * 2 ^ k % 2 ^ 8))) i (subst (λ (p : ℕ). bit_at (bit_and n (bit_not w8 (1 * 2 ^ k % 2 ^ 8))) p ≡ 0) e (bit_at_clear_same w8 n k lt)))
       | inr ne ↦ rw (ne_eqb k i ne) (same_set (bit_and n (bit_not w8 (1 * 2 ^ k % 2 ^ 8))) n i i (bit_at_clear_other w8 n k lt i il (λ e. ne (sym e))))
     ]
 
@@ -99,7 +100,8 @@ any_false f zero h = refl
 any_false f (suc n) h = or_from (any_below f n) (f n) (any_false f n (λ k lt. h k (omega (arith, lt)))) (h n (omega arith))
 
 -- each bit that is left has the lowest below it
-pub without_lowest : (n place : ℕ) → Lowest n place → place < 8 → (i : ℕ) → i < 8 → is_set (bit_and n (bit_not w8 (1 * 2 ^ place % 2 ^ 8))) i ≡ (is_set n i && any_below (is_set n) i)
+pub without_lowest : (n place : ℕ) → Lowest n place → place < 8 → (i : ℕ) → i < 8
+    → is_set (bit_and n (bit_not w8 (1 * 2 ^ place % 2 ^ 8))) i ≡ (is_set n i && any_below (is_set n) i)
 without_lowest n place low lt i il =
     clear_bit n place lt i il ∙
     elim (cases_lt place i) [
@@ -130,7 +132,8 @@ open_of n requests mask i e =
 -- a line that is requested and not masked
 open_bit : (requests mask : ℕ) → mask < 256 → (i : ℕ) → i < 8 → is_set (bit_and requests (bit_not w8 mask)) i ≡ (is_set requests i && not (is_set mask i))
 open_bit requests mask lt i il =
-    let both : bit_at (bit_and requests (bit_not w8 mask)) i ≡ min (bit_at requests i) (1 - bit_at mask i) = bit_at_and requests (bit_not w8 mask) i ∙ ap (λ b. min (bit_at requests i) b) (bit_at_not w8 mask i lt il) in
+    let both : bit_at (bit_and requests (bit_not w8 mask)) i ≡ min (bit_at requests i) (1 - bit_at mask i) = bit_at_and requests (bit_not w8 mask) i
+    ∙ ap (λ b. min (bit_at requests i) b) (bit_at_not w8 mask i lt il) in
     open_of (bit_and requests (bit_not w8 mask)) requests mask i both
 
 -- A line that is open is requested and not masked,
@@ -152,7 +155,8 @@ masked_from requests mask lt i il e r =
     ]
 
 -- the lowest open line is next, where it is below all lines in service
-pub is_next : (requests service mask place busy : ℕ) → mask < 256 → Lowest (bit_and requests (bit_not w8 mask)) place → Lowest service busy → place < 8 → place < busy → IsNext requests service mask place
+pub is_next : (requests service mask place busy : ℕ) → mask < 256 → Lowest (bit_and requests (bit_not w8 mask)) place → Lowest service busy → place < 8
+    → place < busy → IsNext requests service mask place
 is_next requests service mask place busy lt low free within under =
     let p = open_parts requests mask lt place within (low.set within) in
     record {
@@ -179,7 +183,8 @@ next_is_lowest requests service mask place line lt low next =
     ]
 
 -- There is no next line where nothing is open, or the lowest open line is not below all lines in service.
-pub none_is_next : (requests service mask place busy : ℕ) → mask < 256 → Lowest (bit_and requests (bit_not w8 mask)) place → Lowest service busy → (8 ≤ place) ⊎ (busy ≤ place) → (line : ℕ) → IsNext requests service mask line → ⊥
+pub none_is_next : (requests service mask place busy : ℕ) → mask < 256 → Lowest (bit_and requests (bit_not w8 mask)) place → Lowest service busy
+    → (8 ≤ place) ⊎ (busy ≤ place) → (line : ℕ) → IsNext requests service mask line → ⊥
 none_is_next requests service mask place busy lt low free late line next =
     let same = next_is_lowest requests service mask place line lt low next in
     let within : place < 8 = omega (arith, next.is_line, same) in

@@ -32,7 +32,8 @@ unfolding awaited
 awaited_first = refl
 
 -- an item that is no command, where so many bytes came since the last one
-after_bytes : (x : Item) (o : Option ℕ) → option_map_or (λ n. 2 - n) (option_map (λ n. cond (is_count_byte x) (n + 1) n) o) 0 ≡ cond (is_count_byte x) (option_map_or (λ n. 2 - n) o 0 - 1) (option_map_or (λ n. 2 - n) o 0)
+after_bytes : (x : Item) (o : Option ℕ) → option_map_or (λ n. 2 - n) (option_map (λ n. cond (is_count_byte x) (n + 1) n) o) 0
+    ≡ cond (is_count_byte x) (option_map_or (λ n. 2 - n) o 0 - 1) (option_map_or (λ n. 2 - n) o 0)
 after_bytes x None = elim (cases_Bool (is_count_byte x)) [ inl d ↦ rw d refl | inr d ↦ rw d refl ]
 after_bytes x (Some n) = elim (cases_Bool (is_count_byte x)) [ inl d ↦ rw d (omega arith) | inr d ↦ rw d refl ]
 
@@ -69,8 +70,10 @@ record OneYet (history : History) : Type 0 where
 none_more : (x : Item) (h : History) → begins_count x ≡ false → NoneYet h → NoneYet (x ∷ h)
 none_more x h b n = record { early = x ∷ n.early; command = n.command; before = n.before; parts = ap (λ t. x ∷ t) n.parts; begins = n.begins; none_early = (b, n.none_early) }
 
+-- The same of the command and the count byte behind it.
 one_more : (x : Item) (h : History) → begins_count x ≡ false → OneYet h → OneYet (x ∷ h)
-one_more x h b n = record { middle = x ∷ n.middle; first = n.first; rest = n.rest; parts = ap (λ t. x ∷ t) n.parts; low = n.low; none_middle = (b, n.none_middle); none_yet = n.none_yet }
+one_more x h b n =
+    record { middle = x ∷ n.middle; first = n.first; rest = n.rest; parts = ap (λ t. x ∷ t) n.parts; low = n.low; none_middle = (b, n.none_middle); none_yet = n.none_yet }
 
 -- what the number of awaited bytes tells
 record Tells (h : History) : Type 0 where
@@ -174,6 +177,7 @@ record Two (h : History) : Type 0 where
 same_awaited : (x : Item) (h : History) → begins_count x ≡ false → is_count_byte x ≡ false → awaited (x ∷ h) ≡ awaited h
 same_awaited x h b d = awaited_steps x h ∙ rw (b, d) refl
 
+-- A count byte leaves one byte less awaited.
 less_awaited : (x : Item) (h : History) → is_count_byte x ≡ true → awaited (x ∷ h) ≡ awaited h - 1
 less_awaited x h d = awaited_steps x h ∙ rw (byte_alone x d, d) refl
 
@@ -221,6 +225,7 @@ one_along : (later h : History) → NoItem begins_count later → One h → One 
 one_along [] h quiet one = one
 one_along (x ∷ later) h quiet one = one_stays x (later ++ h) quiet.0 (one_along later h quiet.1 one)
 
+-- The same along items that begin no count.
 two_along : (later h : History) → NoItem begins_count later → Two h → Two (later ++ h)
 two_along [] h quiet two = two
 two_along (x ∷ later) h quiet two = two_stays x (later ++ h) quiet.0 (two_along later h quiet.1 two)

@@ -16,7 +16,8 @@ saturates : (whole number digit : ℕ) → number ≡ min whole (2 ^ 32 - 1) →
 saturates whole number digit e = omega arith
 
 -- The loop over digits keeps the capped value of the digits so far.
-pub value_more : (digits : List ℕ) (i number : ℕ) → i < length digits → number ≡ capped (value (take i digits)) → min (min (number * 10) (2 ^ 32 - 1) + (get_or digits i 0 - 48)) (2 ^ 32 - 1) ≡ capped (value (take (i + 1) digits))
+pub value_more : (digits : List ℕ) (i number : ℕ) → i < length digits → number ≡ capped (value (take i digits))
+    → min (min (number * 10) (2 ^ 32 - 1) + (get_or digits i 0 - 48)) (2 ^ 32 - 1) ≡ capped (value (take (i + 1) digits))
 unfolding value
 value_more digits i number lt e =
     saturates (fold (λ n digit. n * 10 + (digit - 48)) 0 (take i digits)) number (get_or digits i 0 - 48) e
@@ -34,7 +35,8 @@ front_digits : (digits tail : List ℕ) → AllByRecursion (λ byte. IsTrue (is_
 front_digits digits tail all none = take_at digits tail (prefix_len is_digit (digits ++ tail)) (sym (front_length digits tail all none))
 
 -- and that text behind them.
-front_rest : (digits tail : List ℕ) → AllByRecursion (λ byte. IsTrue (is_digit byte)) digits → prefix_len is_digit tail ≡ 0 → drop (prefix_len is_digit (digits ++ tail)) (digits ++ tail) ≡ tail
+front_rest : (digits tail : List ℕ) → AllByRecursion (λ byte. IsTrue (is_digit byte)) digits → prefix_len is_digit tail ≡ 0
+    → drop (prefix_len is_digit (digits ++ tail)) (digits ++ tail) ≡ tail
 front_rest digits tail all none = drop_at digits tail (prefix_len is_digit (digits ++ tail)) (sym (front_length digits tail all none))
 
 -- What is taken from the front are digits,

@@ -37,14 +37,16 @@ record LeavesSome (before : List Event) (line : List ℕ) : Type 0 where
   leaves : LineLeaves before line after
 
 -- Where a whole file has a list, the line behind any sound lines leaves some.
-goes_past : (good : List (List ℕ)) (line : List ℕ) (rest : List (List ℕ)) (start before list : List Event) → LinesLeave start (good ++ line ∷ rest) list → LinesLeave start good before → LeavesSome before line
+goes_past : (good : List (List ℕ)) (line : List ℕ) (rest : List (List ℕ)) (start before list : List Event)
+    → LinesLeave start (good ++ line ∷ rest) list → LinesLeave start good before → LeavesSome before line
 goes_past [] line rest start before list x y = record { after = x.0; leaves = subst (λ (b : List Event). LineLeaves b line x.0) (sym y) x.1 }
 goes_past (g ∷ good) line rest start before list x y =
     let same : y.0 ≡ x.0 = line_leaves_one start g y.0 x.0 y.1 x.1 in
     goes_past good line rest x.0 before list x.2 (subst (λ (m : List Event). LinesLeave m good before) same y.2)
 
 -- So the line of a fault would leave some list,
-past : (Breaks : List Event → List ℕ → Type 0) (bytes : List ℕ) (number : ℕ) (list : List Event) → (f : FirstFault Breaks bytes number) → EventsOf bytes list → LeavesSome f.before f.line
+past : (Breaks : List Event → List ℕ → Type 0) (bytes : List ℕ) (number : ℕ) (list : List Event) → (f : FirstFault Breaks bytes number)
+    → EventsOf bytes list → LeavesSome f.before f.line
 past Breaks bytes number list f is = goes_past f.good f.line f.rest [] f.before list (subst (λ (lines : List (List ℕ)). LinesLeave [] lines list) f.parts is) f.sound
 
 -- with its own form,
@@ -87,7 +89,8 @@ not_within : (line : List ℕ) (rest : List (List ℕ)) (g : List ℕ) (good : L
 not_within line rest g good other rest' start before before' same at leaves broken =
     broken (record {
       after = leaves.0;
-      leaves = subst (λ (b : List Event). LineLeaves b line leaves.0) (sym at) (subst (λ (l : List ℕ). LineLeaves start l leaves.0) (sym (head_of line g rest (good ++ other ∷ rest') same)) leaves.1);
+      leaves = subst (λ (b : List Event). LineLeaves b line leaves.0) (sym at)
+          (subst (λ (l : List ℕ). LineLeaves start l leaves.0) (sym (head_of line g rest (good ++ other ∷ rest') same)) leaves.1);
     })
 
 -- Two places at which sound lines end and a line follows that leaves nothing are one place.
@@ -116,10 +119,12 @@ record OnePlace (B C : List Event → List ℕ → Type 0) (m n : ℕ) : Type 0 
   second : C before line
 
 -- Two first faults of any kinds stand at one line, behind one list.
-one_place : (B C : List Event → List ℕ → Type 0) → ((before : List Event) (line : List ℕ) → B before line → LeavesSome before line → ⊥) → ((before : List Event) (line : List ℕ) → C before line → LeavesSome before line → ⊥)
+one_place : (B C : List Event → List ℕ → Type 0) → ((before : List Event) (line : List ℕ) → B before line → LeavesSome before line → ⊥)
+    → ((before : List Event) (line : List ℕ) → C before line → LeavesSome before line → ⊥)
     → (bytes : List ℕ) (m n : ℕ) → FirstFault B bytes m → FirstFault C bytes n → OnePlace B C m n
 one_place B C no_b no_c bytes m n f g =
-    let s = same_place f.good g.good f.line g.line f.rest g.rest [] f.before g.before (sym f.parts ∙ g.parts) f.sound g.sound (no_b f.before f.line f.breaks) (no_c g.before g.line g.breaks) in
+    let s = same_place f.good g.good f.line g.line f.rest g.rest [] f.before g.before (sym f.parts
+    ∙ g.parts) f.sound g.sound (no_b f.before f.line f.breaks) (no_c g.before g.line g.breaks) in
     record {
       numbers = f.place ∙ (ap (λ k. k + 1) s.count ∙ sym g.place);
       before = f.before;
@@ -145,8 +150,10 @@ one_fault bytes (Syntax m) (Range n) f_is g_is x y = let p = one_place BreaksSyn
 one_fault bytes (Syntax m) (TooMany n) f_is g_is x y = let p = one_place BreaksSyntax BreaksRoom no_syntax no_room bytes m n x y in absurd (p.first p.second.form p.second.has)
 one_fault bytes (Range m) (Syntax n) f_is g_is x y = let p = one_place BreaksRange BreaksSyntax no_range no_syntax bytes m n x y in absurd (p.second p.first.form p.first.has)
 one_fault bytes (TooMany m) (Syntax n) f_is g_is x y = let p = one_place BreaksRoom BreaksSyntax no_room no_syntax bytes m n x y in absurd (p.second p.first.form p.first.has)
-one_fault bytes (Range m) (TooMany n) f_is g_is x y = let p = one_place BreaksRange BreaksRoom no_range no_room bytes m n x y in absurd (ranges_apart p.before p.line p.first p.second)
-one_fault bytes (TooMany m) (Range n) f_is g_is x y = let p = one_place BreaksRoom BreaksRange no_room no_range bytes m n x y in absurd (ranges_apart p.before p.line p.second p.first)
+one_fault bytes (Range m) (TooMany n) f_is g_is x y =
+    let p = one_place BreaksRange BreaksRoom no_range no_room bytes m n x y in absurd (ranges_apart p.before p.line p.first p.second)
+one_fault bytes (TooMany m) (Range n) f_is g_is x y =
+    let p = one_place BreaksRoom BreaksRange no_room no_range bytes m n x y in absurd (ranges_apart p.before p.line p.second p.first)
 
 -- A fault that is found is the first one, or want of memory.
 pub first_or_memory : (bytes : List ℕ) (f g : EventFault) → g ≢ NoMemory → IsFirstFault bytes f → IsFirstFault bytes g → (f ≡ g) ⊎ (f ≡ NoMemory)
@@ -158,7 +165,8 @@ first_or_memory bytes (TooMany m) g is x y = inl (one_fault bytes (TooMany m) g 
 -- ---- turns in order
 
 -- An event behind others, with no lower turn, keeps the order.
-order_push : (turn : ℕ) (events : List Event) (event : Event) → InOrderFrom turn events → fold (λ t e. e.turn) turn events ≤ event.turn → event.turn ≤ 50000000 → InOrderFrom turn (events ++ event ∷ [])
+order_push : (turn : ℕ) (events : List Event) (event : Event) → InOrderFrom turn events → fold (λ t e. e.turn) turn events ≤ event.turn
+    → event.turn ≤ 50000000 → InOrderFrom turn (events ++ event ∷ [])
 order_push turn [] event o low high = (low, high, tt)
 order_push turn (e ∷ events) event o low high = (o.0, o.1, order_push e.turn events event o.2 low high)
 
@@ -197,7 +205,8 @@ unfolding last_turn
 starts bytes = record { good = []; parts = refl; count = refl; sound = refl; last_is = refl; place = omega arith }
 
 -- One line more behind sound lines.
-leaves_push : (good : List (List ℕ)) (line : List ℕ) (start before after : List Event) → LinesLeave start good before → LineLeaves before line after → LinesLeave start (good ++ line ∷ []) after
+leaves_push : (good : List (List ℕ)) (line : List ℕ) (start before after : List Event) → LinesLeave start good before → LineLeaves before line after
+    → LinesLeave start (good ++ line ∷ []) after
 leaves_push [] line start before after x y = (after, subst (λ (b : List Event). LineLeaves b line after) x y, refl)
 leaves_push (g ∷ good) line start before after x y = (x.0, x.1, leaves_push good line x.0 before after x.2 y)
 
@@ -221,7 +230,8 @@ reads_nothing bytes left rest line number last events s first shorter leaves =
 
 -- or brings an event.
 pub reads_event : (bytes left rest line : List ℕ) (number last : ℕ) (events : List Event) (event : Event) → SoFar bytes left number last events
-    → lines_of left ≡ line ∷ lines_of rest → length rest < length left → LineLeaves events line (events ++ event ∷ []) → SoFar bytes rest (number + 1) event.turn (events ++ event ∷ [])
+    → lines_of left ≡ line ∷ lines_of rest → length rest < length left → LineLeaves events line (events ++ event ∷ []) → SoFar bytes rest
+    (number + 1) event.turn (events ++ event ∷ [])
 unfolding last_turn
 reads_event bytes left rest line number last events event s first shorter leaves =
     reads_on bytes left rest line number last event.turn events (events ++ event ∷ []) s first shorter leaves (fold_push (λ turn e. e.turn) 0 events event)

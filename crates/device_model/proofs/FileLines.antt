@@ -23,5 +23,7 @@ first_line_is (b ∷ []) some =
 first_line_is (b ∷ c ∷ bytes) some =
     elim (cases_Bool (eqb b 10)) [
       | inl lf ↦ rw lf refl
-      | inr other ↦ rw (other, take_one_more (position_or_len (λ byte. eqb byte 10) (c ∷ bytes)) b (c ∷ bytes), drop_one_more (position_or_len (λ byte. eqb byte 10) (c ∷ bytes)) b (c ∷ bytes)) (ap (with_first b) (first_line_is (c ∷ bytes) (omega arith)))
+      | inr other ↦ rw
+          (other, take_one_more (position_or_len (λ byte. eqb byte 10) (c ∷ bytes)) b (c ∷ bytes), drop_one_more (position_or_len (λ byte. eqb byte 10) (c ∷ bytes)) b (c ∷ bytes))
+          (ap (with_first b) (first_line_is (c ∷ bytes) (omega arith)))
     ]

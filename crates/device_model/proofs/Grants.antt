@@ -111,7 +111,8 @@ none_granted h line low busy other can =
     can.free s.line (omega (arith, s.within, granted_is_lowest h line other low can)) (served_sound h s.line s.passes)
 
 -- From what the search found to what can be granted.
-grant_of : (h : History) (o : Option ℕ) → FoundBelow (is_open h) 8 o → MatchOption (option_and_then (λ line. cond (any_below (is_served h) (line + 1)) None (Some line)) o) ((line : ℕ) → CanBeGranted line h → ⊥) (λ line. CanBeGranted line h)
+grant_of : (h : History) (o : Option ℕ) → FoundBelow (is_open h) 8 o
+    → MatchOption (option_and_then (λ line. cond (any_below (is_served h) (line + 1)) None (Some line)) o) ((line : ℕ) → CanBeGranted line h → ⊥) (λ line. CanBeGranted line h)
 grant_of h None none = λ line can. true≢false (sym (open_line h line can) ∙ none line can.is_line)
 grant_of h (Some line) low =
     elim (cases_Bool (any_below (is_served h) (line + 1))) [

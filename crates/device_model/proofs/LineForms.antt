@@ -31,6 +31,7 @@ code_front line turn code k = front_of k.more k.more [] code k.code_number refl 
 pub is_empty : (text : List ℕ) → true ≡ eqb (length text) 0 → text ≡ []
 is_empty text e = nil_from_length text (eqb-true (length text) 0 (sym e))
 
+-- A text with a length is not empty.
 pub not_empty : (text : List ℕ) → false ≡ eqb (length text) 0 → text ≢ []
 not_empty text e nil = true≢false (sym (eq-eqb (length text) 0 (ap length nil)) ∙ sym e)
 
@@ -38,6 +39,7 @@ not_empty text e nil = true≢false (sym (eq-eqb (length text) 0 (ap length nil)
 pub word_same : (rest word : List ℕ) → true ≡ bytes_eq rest word → rest ≡ word
 word_same rest word e = (bytes_eq-Decides rest word).0 (sym e)
 
+-- A text that is not a word byte by byte is another.
 pub word_apart : (rest word : List ℕ) → false ≡ bytes_eq rest word → rest ≢ word
 word_apart rest word e same = true≢false (sym ((bytes_eq-Decides rest word).1 same) ∙ sym e)
 
@@ -64,7 +66,8 @@ reads_tick line turn rest t word = record {
 }
 
 -- Two numbers and the word of a key are a key.
-pub reads_key : (line : List ℕ) (turn code : ℕ) (rest more after : List ℕ) → TakesNumber line turn rest → rest ≡ codes " key " ++ more → TakesNumber more code after → after ≡ [] → TakesForm line (held.Key turn code)
+pub reads_key : (line : List ℕ) (turn code : ℕ) (rest more after : List ℕ) → TakesNumber line turn rest → rest ≡ codes " key " ++ more
+    → TakesNumber more code after → after ≡ [] → TakesForm line (held.Key turn code)
 reads_key line turn code rest more after t word u none = record {
   form = KeyLine (value (take_while is_digit line)) (value (take_while is_digit more));
   has = record {
@@ -72,7 +75,8 @@ reads_key line turn code rest more after t word u none = record {
     more = take_while is_digit more;
     number = front_number line t.begins;
     code_number = front_number more u.begins;
-    parts = parts_of line turn rest t ∙ ap (λ r. take_while is_digit line ++ r) (word ∙ ap (λ m. codes " key " ++ m) (parts_of more code after u ∙ ap (λ r. take_while is_digit more ++ r) none ∙ append-nil (take_while is_digit more)));
+    parts = parts_of line turn rest t ∙ ap (λ r. take_while is_digit line ++ r) (word
+        ∙ ap (λ m. codes " key " ++ m) (parts_of more code after u ∙ ap (λ r. take_while is_digit more ++ r) none ∙ append-nil (take_while is_digit more)));
   };
   is_taken = rw (t.is_number, u.is_number) refl;
 }
@@ -86,24 +90,28 @@ no_digits line s none (TickLine turn) has = omega (arith, (tick_front line turn 
 no_digits line s none (KeyLine turn code) has = omega (arith, (key_front line turn code has).begins, none)
 
 -- The number is followed by neither word.
-pub no_word : (line : List ℕ) (turn : ℕ) (rest : List ℕ) → is_skipped line ≡ false → TakesNumber line turn rest → rest ≢ codes " tick" → ((more : List ℕ) → rest ≢ codes " key " ++ more) → (form : LineForm) → HasForm line form → ⊥
+pub no_word : (line : List ℕ) (turn : ℕ) (rest : List ℕ) → is_skipped line ≡ false → TakesNumber line turn rest → rest ≢ codes " tick"
+    → ((more : List ℕ) → rest ≢ codes " key " ++ more) → (form : LineForm) → HasForm line form → ⊥
 no_word line turn rest s t tick key Skipped has = true≢false (sym has ∙ s)
 no_word line turn rest s t tick key (TickLine other) has = tick (t.is_rest ∙ (tick_front line other has).rest)
 no_word line turn rest s t tick key (KeyLine other code) has = key has.more (t.is_rest ∙ (key_front line other code has).rest)
 
 -- What follows the word of a key is the digits of its code.
-same_more : (line : List ℕ) (turn : ℕ) (rest more : List ℕ) (other code : ℕ) → TakesNumber line turn rest → rest ≡ codes " key " ++ more → (k : IsKey line other code) → more ≡ k.more
+same_more : (line : List ℕ) (turn : ℕ) (rest more : List ℕ) (other code : ℕ) → TakesNumber line turn rest → rest ≡ codes " key " ++ more
+    → (k : IsKey line other code) → more ≡ k.more
 same_more line turn rest more other code t word k = append_cancel_left (codes " key ") more k.more (sym word ∙ (t.is_rest ∙ (key_front line other code k).rest))
 
 -- The word of a key is followed by no digit.
-pub no_code : (line : List ℕ) (turn : ℕ) (rest more : List ℕ) → is_skipped line ≡ false → TakesNumber line turn rest → rest ≢ codes " tick" → rest ≡ codes " key " ++ more → prefix_len is_digit more ≡ 0 → (form : LineForm) → HasForm line form → ⊥
+pub no_code : (line : List ℕ) (turn : ℕ) (rest more : List ℕ) → is_skipped line ≡ false → TakesNumber line turn rest → rest ≢ codes " tick"
+    → rest ≡ codes " key " ++ more → prefix_len is_digit more ≡ 0 → (form : LineForm) → HasForm line form → ⊥
 no_code line turn rest more s t tick word none Skipped has = true≢false (sym has ∙ s)
 no_code line turn rest more s t tick word none (TickLine other) has = tick (t.is_rest ∙ (tick_front line other has).rest)
 no_code line turn rest more s t tick word none (KeyLine other code) has =
     omega (arith, (code_front line other code has).begins, ap (prefix_len is_digit) (same_more line turn rest more other code t word has), none)
 
 -- More follows the code.
-pub no_end : (line : List ℕ) (turn code : ℕ) (rest more after : List ℕ) → is_skipped line ≡ false → TakesNumber line turn rest → rest ≢ codes " tick" → rest ≡ codes " key " ++ more → TakesNumber more code after → after ≢ [] → (form : LineForm) → HasForm line form → ⊥
+pub no_end : (line : List ℕ) (turn code : ℕ) (rest more after : List ℕ) → is_skipped line ≡ false → TakesNumber line turn rest → rest ≢ codes " tick"
+    → rest ≡ codes " key " ++ more → TakesNumber more code after → after ≢ [] → (form : LineForm) → HasForm line form → ⊥
 no_end line turn code rest more after s t tick word u some Skipped has = true≢false (sym has ∙ s)
 no_end line turn code rest more after s t tick word u some (TickLine other) has = tick (t.is_rest ∙ (tick_front line other has).rest)
 no_end line turn code rest more after s t tick word u some (KeyLine other number) has =
@@ -132,5 +140,6 @@ one_form line (TickLine t) (KeyLine u c) x y = absurd (tick_no_key y.more (sym (
 one_form line (KeyLine t c) (TickLine u) x y = absurd (tick_no_key x.more (sym (tick_front line u y).rest ∙ (key_front line t c x).rest))
 one_form line (KeyLine t c) (KeyLine u d) x y =
     let turns = same_value x.digits y.digits t u x.number y.number (sym (key_front line t c x).taken ∙ (key_front line u d y).taken) in
-    let codes_are = same_value x.more y.more c d x.code_number y.code_number (append_cancel_left (codes " key ") x.more y.more (sym (key_front line t c x).rest ∙ (key_front line u d y).rest)) in
+    let codes_are = same_value x.more y.more c d x.code_number y.code_number (append_cancel_left (codes " key ") x.more y.more (sym (key_front line t c x).rest
+    ∙ (key_front line u d y).rest)) in
     rw (turns, codes_are) refl

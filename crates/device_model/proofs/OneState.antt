@@ -23,9 +23,11 @@ same_byte : (a b : ℕ) → a < 2 ^ 8 → b < 2 ^ 8 → ((line : ℕ) → line <
 same_byte a b a_fits b_fits same = same_from_bits_below 8 a b a_fits b_fits (λ line lt. same_bit a b line (same line lt))
 
 -- Devices with equal parts are equal.
-same_parts : (d e : DevicesView) → d.requests ≡ e.requests → d.service ≡ e.service → d.mask ≡ e.mask → d.count_set ≡ e.count_set → d.awaited ≡ e.awaited → d.waiting ≡ e.waiting → d.cells ≡ e.cells → d ≡ e
+same_parts : (d e : DevicesView) → d.requests ≡ e.requests → d.service ≡ e.service → d.mask ≡ e.mask → d.count_set ≡ e.count_set
+    → d.awaited ≡ e.awaited → d.waiting ≡ e.waiting → d.cells ≡ e.cells → d ≡ e
 same_parts d e requests service mask count_set awaited waiting cells =
-    let same : record { requests = d.requests; service = d.service; mask = d.mask; count_set = d.count_set; awaited = d.awaited; waiting = d.waiting; cells = d.cells } ≡ e = rw (requests, service, mask, count_set, awaited, waiting, cells) refl in
+    let same : record { requests = d.requests; service = d.service; mask = d.mask; count_set = d.count_set; awaited = d.awaited; waiting = d.waiting; cells = d.cells } ≡ e = rw
+    (requests, service, mask, count_set, awaited, waiting, cells) refl in
     same
 
 -- What all devices keep: bytes of eight lines, and 2000 cells.
@@ -43,4 +45,5 @@ one_view d e h d_sized e_sized d_stands e_stands =
     (same_byte d.requests e.requests d_sized.requests e_sized.requests (λ line lt. s.requests line lt ∙ sym (t.requests line lt)))
     (same_byte d.service e.service d_sized.service e_sized.service (λ line lt. s.service line lt ∙ sym (t.service line lt)))
     (s.mask ∙ sym t.mask) (s.count_set ∙ sym t.count_set) (s.awaited ∙ sym t.awaited) (s.waiting ∙ sym t.waiting)
-    (same_number_lists d.cells e.cells (d_sized.cells ∙ sym e_sized.cells) (λ k lt. s.cells k (omega (arith, lt, d_sized.cells)) ∙ sym (t.cells k (omega (arith, lt, d_sized.cells)))))
+    (same_number_lists d.cells e.cells (d_sized.cells ∙ sym e_sized.cells) (λ k lt. s.cells k (omega (arith, lt, d_sized.cells))
+    ∙ sym (t.cells k (omega (arith, lt, d_sized.cells)))))

@@ -14,6 +14,7 @@ accepts_sound line Took h e = true≢false (sym e)
 accepts_sound line (Granted other) h e = true≢false (sym e)
 accepts_sound line (Drew position written) h e = true≢false (sym e)
 
+-- The test holds of each item that is accepted for the line.
 pub accepts_complete : (line : ℕ) (x : Item) (h : History) → AcceptedFor line x h → accepts line x h ≡ true
 accepts_complete line Ticked h a = and_from (eqb line 0) (is_count_set h) (eq-eqb line 0 a.0) (count_set_complete h a.1)
 accepts_complete line (Keyed code) h a = and_from (eqb line 1) (ltb (length (waiting h)) 16) (eq-eqb line 1 a.0) (lt-ltb (length (waiting h)) 16 a.1)
@@ -24,7 +25,8 @@ accepts_complete line (Drew position written) h a = absurd a
 
 -- A request lasts over an item that grants another line or none.
 requested_before : (line : ℕ) (x : Item) (h : History) → grants line x ≡ false → Requested line h → Requested line (x ∷ h)
-requested_before line x h g r = record { later = x ∷ r.later; item = r.item; before = r.before; parts = ap (λ t. x ∷ t) r.parts; accepted = r.accepted; none_granted = (g, r.none_granted) }
+requested_before line x h g r =
+    record { later = x ∷ r.later; item = r.item; before = r.before; parts = ap (λ t. x ∷ t) r.parts; accepted = r.accepted; none_granted = (g, r.none_granted) }
 
 -- what is computed is so
 pub requested_sound : (line : ℕ) (h : History) → is_requested line h ≡ true → Requested line h
@@ -53,4 +55,5 @@ request_now line x h e = or_left (accepts line x h) (not (grants line x) && is_r
 
 -- what is so is computed
 pub requested_complete : (line : ℕ) (h : History) → Requested line h → is_requested line h ≡ true
-requested_complete line h r = rw r.parts (request_along line r.later (r.item ∷ r.before) r.none_granted (request_now line r.item r.before (accepts_complete line r.item r.before r.accepted)))
+requested_complete line h r =
+    rw r.parts (request_along line r.later (r.item ∷ r.before) r.none_granted (request_now line r.item r.before (accepts_complete line r.item r.before r.accepted)))

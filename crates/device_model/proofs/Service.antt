@@ -43,7 +43,8 @@ lower_sound h a (suc n) e = elim (or_cases (any_below (is_served h) n) (is_serve
 -- The same for the lines below, the other way round.
 lower_complete : (h : History) → ((line : ℕ) → InService line h → is_served h line ≡ true) → (line : ℕ) → LowerInService line h → any_below (is_served h) line ≡ true
 lower_complete h a zero e = absurd e
-lower_complete h a (suc n) e = elim e [ inl l ↦ or_left (any_below (is_served h) n) (is_served h n) (lower_complete h a n l) | inr r ↦ or_right (any_below (is_served h) n) (is_served h n) (a n r) ]
+lower_complete h a (suc n) e =
+    elim e [ inl l ↦ or_left (any_below (is_served h) n) (is_served h n) (lower_complete h a n l) | inr r ↦ or_right (any_below (is_served h) n) (is_served h n) (a n r) ]
 
 -- What is computed to be in service is.
 pub served_sound : (h : History) (line : ℕ) → is_served h line ≡ true → InService line h
@@ -68,13 +69,22 @@ record Behind (lower : History → Type 0) (line : ℕ) (x : Item) (h : History)
   now : ends_service x ≡ true → lower h
 
 -- A service whose line the latest item does not grant held before that item.
-behind : (lower : History → Type 0) (line : ℕ) (x : Item) (h : History) (later : History) (grant : Item) (before : History) → x ∷ h ≡ later ++ grant ∷ before → grants line grant ≡ true → grants line x ≡ false
+behind : (lower : History → Type 0) (line : ℕ) (x : Item) (h : History) (later : History) (grant : Item) (before : History)
+    → x ∷ h ≡ later ++ grant ∷ before → grants line grant ≡ true → grants line x ≡ false
     → ((after : History) (y : Item) (between : History) → later ≡ after ++ y ∷ between → IsTrue (ends_service y) → lower (between ++ grant ∷ before)) → Behind lower line x h
 behind lower line x h [] grant before e g none served = absurd (true≢false (sym g ∙ (ap (grants line) (sym (head_of x grant h before e)) ∙ none)))
 behind lower line x h (y ∷ later) grant before e g none served =
     let rest : h ≡ later ++ grant ∷ before = tail_of x y h (later ++ grant ∷ before) e in
     record {
-      still = record { later = later; grant = grant; before = before; parts = rest; granted = g; served = λ after z between s ends. served (y ∷ after) z between (ap (λ t. y ∷ t) s) ends };
+      still = record {
+        later = later;
+        grant = grant;
+        before = before;
+        parts = rest;
+        granted = g;
+        served = λ after z between s ends. served
+            (y ∷ after) z between (ap (λ t. y ∷ t) s) ends;
+      };
       now = λ ends. subst lower (sym rest) (served [] y later refl (sym (ap ends_service (head_of x y h (later ++ grant ∷ before) e)) ∙ ends));
     }
 

@@ -40,6 +40,7 @@ requested_now x h line g = rw g refl
 set_first : (requests line : ℕ) → is_set (bit_or requests 1) line ≡ (eqb 0 line || is_set requests line)
 set_first requests line = set_bit requests 0 (omega arith) line
 
+-- A request of line 1 sets its bit and no other.
 set_second : (requests line : ℕ) → is_set (bit_or requests 2) line ≡ (eqb 1 line || is_set requests line)
 set_second requests line = set_bit requests 1 (omega arith) line
 
@@ -53,7 +54,8 @@ unfolding next_waiting
 ticked d h set is =
     let s = shows d h is in
     stands (record d { requests = bit_or d.requests 1 }) (Ticked ∷ h) (record {
-      requests = λ line lt. set_first d.requests line ∙ (ap (λ t. eqb 0 line || t) (s.requests line lt) ∙ sym (requested_now Ticked h line refl ∙ rw (sym s.count_set ∙ set) (ap (λ t. t || is_requested line h) (and-true (eqb line 0) ∙ flip line 0))));
+      requests = λ line lt. set_first d.requests line ∙ (ap (λ t. eqb 0 line || t) (s.requests line lt)
+          ∙ sym (requested_now Ticked h line refl ∙ rw (sym s.count_set ∙ set) (ap (λ t. t || is_requested line h) (and-true (eqb line 0) ∙ flip line 0))));
       service = λ line lt. s.service line lt ∙ sym (served_quiet Ticked h line refl refl);
       count_set = s.count_set ∙ sym (count_quiet Ticked h refl);
       awaited = s.awaited ∙ sym (awaited_steps Ticked h);
@@ -78,13 +80,15 @@ tick_dropped d h unset is =
     })
 
 -- A code that finds room goes last and requests line 1,
-pub keyed : (d : DevicesView) (h : History) (code : ℕ) → length d.waiting < 16 → StandsFor d h → StandsFor (record d { requests = bit_or d.requests 2; waiting = d.waiting ++ code ∷ [] }) (Keyed code ∷ h)
+pub keyed : (d : DevicesView) (h : History) (code : ℕ) → length d.waiting < 16 → StandsFor d h
+    → StandsFor (record d { requests = bit_or d.requests 2; waiting = d.waiting ++ code ∷ [] }) (Keyed code ∷ h)
 unfolding next_waiting
 keyed d h code room is =
     let s = shows d h is in
     let fits : ltb (length (waiting h)) 16 ≡ true = ap (λ codes. ltb (length codes) 16) (sym s.waiting) ∙ lt-ltb (length d.waiting) 16 room in
     stands (record d { requests = bit_or d.requests 2; waiting = d.waiting ++ code ∷ [] }) (Keyed code ∷ h) (record {
-      requests = λ line lt. set_second d.requests line ∙ (ap (λ t. eqb 1 line || t) (s.requests line lt) ∙ sym (requested_now (Keyed code) h line refl ∙ rw fits (ap (λ t. t || is_requested line h) (and-true (eqb line 1) ∙ flip line 1))));
+      requests = λ line lt. set_second d.requests line ∙ (ap (λ t. eqb 1 line || t) (s.requests line lt)
+          ∙ sym (requested_now (Keyed code) h line refl ∙ rw fits (ap (λ t. t || is_requested line h) (and-true (eqb line 1) ∙ flip line 1))));
       service = λ line lt. s.service line lt ∙ sym (served_quiet (Keyed code) h line refl refl);
       count_set = s.count_set ∙ sym (count_quiet (Keyed code) h refl);
       awaited = s.awaited ∙ sym (awaited_steps (Keyed code) h);
@@ -125,7 +129,8 @@ took d h is =
     })
 
 -- A cell after a write to one.
-drawn : (cells : List ℕ) (position written other before : ℕ) → position < length cells → get_or cells other 0 ≡ before → get_or (set cells position written) other 0 ≡ cond (eqb position other) written before
+drawn : (cells : List ℕ) (position written other before : ℕ) → position < length cells → get_or cells other 0 ≡ before
+    → get_or (set cells position written) other 0 ≡ cond (eqb position other) written before
 drawn cells position written other before lt e =
     elim (cases_eq position other) [
       | inl same ↦ rw (eq-eqb position other same) (subst (λ (p : ℕ). get_or (set cells position written) p 0 ≡ written) same (get_or-set_same cells position written 0 lt))
@@ -133,7 +138,8 @@ drawn cells position written other before lt e =
     ]
 
 -- A write to a cell.
-pub drew : (d : DevicesView) (h : History) (position written : ℕ) → position < length d.cells → StandsFor d h → StandsFor (record d { cells = slice_set d.cells position written }) (Drew position written ∷ h)
+pub drew : (d : DevicesView) (h : History) (position written : ℕ) → position < length d.cells → StandsFor d h
+    → StandsFor (record d { cells = slice_set d.cells position written }) (Drew position written ∷ h)
 unfolding next_waiting
 drew d h position written lt is =
     let s = shows d h is in
@@ -158,7 +164,9 @@ pub record Queued (old new : Buffer ℕ) (code : ℕ) : Type 0 where
   pub room : length old.items < 16
   pub is : new ≡ buffer (old.items ++ code ∷ []) old.capacity
 
-pub queued : {T : Type 0} (r : Result T ℕ) (old new : Buffer ℕ) (code : ℕ) → true ≡ is_ok r → old.capacity ≡ 16 → IsOk r ↔ (length old.items < old.capacity) → OnOk r (new ≡ buffer (old.items ++ code ∷ []) old.capacity) → Queued old new code
+-- A code that was taken stands last in the queue.
+pub queued : {T : Type 0} (r : Result T ℕ) (old new : Buffer ℕ) (code : ℕ) → true ≡ is_ok r → old.capacity ≡ 16
+    → IsOk r ↔ (length old.items < old.capacity) → OnOk r (new ≡ buffer (old.items ++ code ∷ []) old.capacity) → Queued old new code
 queued (Ok x) old new code found room is ok = record { room = omega (arith, is.0 refl, room); is = ok }
 queued (Err e) old new code found room is ok = absurd (true≢false found)
 
@@ -167,7 +175,9 @@ pub record Full (old new : Buffer ℕ) : Type 0 where
   pub full : 16 ≤ length old.items
   pub is : new ≡ old
 
-pub full : {T : Type 0} (r : Result T ℕ) (old new : Buffer ℕ) (code : ℕ) → false ≡ is_ok r → old.capacity ≡ 16 → IsOk r ↔ (length old.items < old.capacity) → IfErr r (λ x. (x ≡ code) × (new ≡ old)) → Full old new
+-- A queue that took none is full, and as it was.
+pub full : {T : Type 0} (r : Result T ℕ) (old new : Buffer ℕ) (code : ℕ) → false ≡ is_ok r → old.capacity ≡ 16
+    → IsOk r ↔ (length old.items < old.capacity) → IfErr r (λ x. (x ≡ code) × (new ≡ old)) → Full old new
 full (Ok x) old new code none room is err = absurd (true≢false (sym none))
 full (Err e) old new code none room is err = record { full = at_least (length old.items) (λ lt. true≢false (sym (is.1 (omega (arith, lt, room))))); is = err.1 }
   where
@@ -182,7 +192,8 @@ same_below f g zero h = refl
 same_below f g (suc n) h = rw (same_below f g n (λ k lt. h k (omega (arith, lt))), h n (omega arith)) refl
 
 -- A byte to a port that does nothing.
-pub quiet_write : (d : DevicesView) (h : History) (port byte : ℕ) → begins_count (Wrote port byte) ≡ false → is_count_byte (Wrote port byte) ≡ false → ends_service (Wrote port byte) ≡ false → eqb port 0x21 ≡ false → StandsFor d h → StandsFor d (Wrote port byte ∷ h)
+pub quiet_write : (d : DevicesView) (h : History) (port byte : ℕ) → begins_count (Wrote port byte) ≡ false → is_count_byte (Wrote port byte) ≡ false
+    → ends_service (Wrote port byte) ≡ false → eqb port 0x21 ≡ false → StandsFor d h → StandsFor d (Wrote port byte ∷ h)
 unfolding next_waiting
 quiet_write d h port byte begins counts ends masks is =
     let s = shows d h is in
@@ -197,7 +208,9 @@ quiet_write d h port byte begins counts ends masks is =
     })
 
 -- The end byte takes the lowest line out of service.
-pub ended : (d : DevicesView) (h : History) (service : ℕ) → ((line : ℕ) → line < 8 → is_set service line ≡ (is_set d.service line && any_below (is_set d.service) line)) → StandsFor d h → StandsFor (record d { service = service }) (Wrote 0x20 0x20 ∷ h)
+pub ended : (d : DevicesView) (h : History) (service : ℕ)
+    → ((line : ℕ) → line < 8 → is_set service line ≡ (is_set d.service line && any_below (is_set d.service) line)) → StandsFor d h
+    → StandsFor (record d { service = service }) (Wrote 0x20 0x20 ∷ h)
 unfolding next_waiting is_served
 ended d h service left is =
     let s = shows d h is in
@@ -227,7 +240,8 @@ masked d h byte is =
     })
 
 -- A byte to the timer.
-pub counted : (d : DevicesView) (h : History) (byte : ℕ) → StandsFor d h → StandsFor (record d { count_set = d.count_set || eqb d.awaited 1; awaited = d.awaited - 1 }) (Wrote 0x40 byte ∷ h)
+pub counted : (d : DevicesView) (h : History) (byte : ℕ) → StandsFor d h
+    → StandsFor (record d { count_set = d.count_set || eqb d.awaited 1; awaited = d.awaited - 1 }) (Wrote 0x40 byte ∷ h)
 unfolding next_waiting is_count_set
 counted d h byte is =
     let s = shows d h is in
@@ -259,7 +273,8 @@ began d h is =
 -- ---- grants
 
 -- The grant of a line.
-pub granted : (d : DevicesView) (h : History) (line : ℕ) → line < 8 → StandsFor d h → StandsFor (record d { requests = bit_and d.requests (bit_not w8 (1 * 2 ^ line % 2 ^ 8)); service = bit_or d.service (1 * 2 ^ line % 2 ^ 8) }) (Granted line ∷ h)
+pub granted : (d : DevicesView) (h : History) (line : ℕ) → line < 8 → StandsFor d h
+    → StandsFor (record d { requests = bit_and d.requests (bit_not w8 (1 * 2 ^ line % 2 ^ 8)); service = bit_or d.service (1 * 2 ^ line % 2 ^ 8) }) (Granted line ∷ h)
 unfolding next_waiting is_served is_requested
 granted d h line within is =
     let s = shows d h is in
@@ -300,7 +315,8 @@ first_cell : (n position : ℕ) → position < n → slice_index (replicate n 0x
 first_cell n position lt = get_or-replicate n position 0x0720 0 lt
 
 -- Devices at first stand for the empty history.
-pub first_of : (n : ℕ) (cells : List ℕ) → n ≡ 2000 → cells ≡ replicate n 0x0720 → StandsFor (record { requests = 0; service = 0; mask = 0; count_set = false; awaited = 0; waiting = []; cells = cells }) []
+pub first_of : (n : ℕ) (cells : List ℕ) → n ≡ 2000 → cells ≡ replicate n 0x0720
+    → StandsFor (record { requests = 0; service = 0; mask = 0; count_set = false; awaited = 0; waiting = []; cells = cells }) []
 unfolding is_requested is_served is_count_set
 first_of n cells many are = stands (record { requests = 0; service = 0; mask = 0; count_set = false; awaited = 0; waiting = []; cells = cells }) [] (record {
   requests = λ line lt. clear_from 0 line (bit_at-zero line);

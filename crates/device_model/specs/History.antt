@@ -87,7 +87,8 @@ unfoldable mutual
   -- A code is accepted where fewer than 16 wait.
   pub accepted_codes : History → List ℕ
   accepted_codes [] = []
-  accepted_codes (Keyed code ∷ before) = if nat_lt (length (left_of (accepted_codes before) (found_reads before))) 16 then accepted_codes before ++ code ∷ [] else accepted_codes before
+  accepted_codes (Keyed code ∷ before) = if nat_lt
+      (length (left_of (accepted_codes before) (found_reads before))) 16 then accepted_codes before ++ code ∷ [] else accepted_codes before
   accepted_codes (x ∷ before) = accepted_codes before
 
   -- how many reads found a code: those at which one waited

@@ -205,6 +205,7 @@ impl Devices {
 pub fn one_state(first: &Devices, second: &Devices)
     ensures { (h : History) → StandsFor first.now h → StandsFor second.now h → first.now ≡ second.now }
 {
+    // A look at each set of lines brings that it is a byte.
     let _requests = first.requests;
     let _service = first.service;
     let _other_requests = second.requests;

@@ -97,7 +97,8 @@ fn read_line(line: &[u8], number: u32, last: u32, count: usize) -> Result<Option
 }
 
 /// Reads an event file: its events, in the order of its lines. A fault names the first line that breaks a rule, and
-/// want of memory may come at any line; then what was read is given up.
+/// want of memory may come at any line; then what was read is given up. The file has at most 4294967294 bytes, so that each
+/// line has a number of 32 bits.
 pub fn read_events(alloc: Global, bytes: &[u8]) -> Result<Vec<Event>, EventFault>
     requires { length bytes.now ≤ 4294967294 }
     // What is read is the list of the file.

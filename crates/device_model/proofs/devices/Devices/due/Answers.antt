@@ -10,10 +10,14 @@ returns-else-self c h s = rw c.in-Tick.is (at_view _ _ _ (sym c.self.view_is) (t
 
 pub returns-then-is_ok : goal.returns-then-is_ok
 returns-then-is_ok c h s =
-    let q = queued c.try_push_back.result c.self.inside.keyboard c.try_push_back.new.self c.in-Key.code c.if-is_ok.ensures.value c.self.invariant.0 c.try_push_back.ensures.variant c.try_push_back.ensures.ok in
+    let q =
+    queued c.try_push_back.result c.self.inside.keyboard c.try_push_back.new.self c.in-Key.code
+    c.if-is_ok.ensures.value c.self.invariant.0 c.try_push_back.ensures.variant c.try_push_back.ensures.ok in
     rw (c.in-Key.is, q.is) (keyed _ h c.in-Key.code q.room (at_view _ _ h c.self.view_is s))
 
 pub returns-else-is_ok : goal.returns-else-is_ok
 returns-else-is_ok c h s =
-    let q = full c.try_push_back.result c.self.inside.keyboard c.try_push_back.new.self c.in-Key.code c.if-is_ok.ensures.value c.self.invariant.0 c.try_push_back.ensures.variant c.try_push_back.ensures.err in
+    let q =
+    full c.try_push_back.result c.self.inside.keyboard c.try_push_back.new.self c.in-Key.code
+    c.if-is_ok.ensures.value c.self.invariant.0 c.try_push_back.ensures.variant c.try_push_back.ensures.err in
     rw (c.in-Key.is, q.is) (key_dropped _ h c.in-Key.code q.full (at_view _ _ h c.self.view_is s))
