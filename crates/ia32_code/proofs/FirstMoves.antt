@@ -150,15 +150,8 @@ lea_at : (r : Reg) (f : OperandForm) (m : Mem) → operand f ≡ M m
     → canonical_row (inst.Lea (R r) (operand f)) ≡ with_form (shortest_form (operand f)) (λ y. fill row.Lea r y 0) → FormFits f
     → IsFirst (fill row.Lea r f 0)
 lea_at r f m e canon h =
-    by_form row.Lea r 0 2 (λ o. inst.Lea (R r) o) f canon (λ y. refl) (λ y fits q. record {
-      row = refl;
-      modrm = (
-        fits,
-        memory_as y m (q
-            ∙ e),
-      );
-      trailing = refl;
-    }) (λ y. simp length-append (omega arith)) h
+    by_form row.Lea r 0 2 (λ o. inst.Lea (R r) o) f canon (λ y. refl)
+    (λ y fits q. record { row = refl; modrm = (fits, memory_as y m (q ∙ e)); trailing = refl }) (λ y. simp length-append (omega arith)) h
 
 -- `8D`
 pub lea : (r : Reg) (f : OperandForm) → FormFits f × IsMemory f → IsFirst (fill row.Lea r f 0)
