@@ -123,8 +123,8 @@ one_place : (B C : List Event → List ℕ → Type 0) → ((before : List Event
     → ((before : List Event) (line : List ℕ) → C before line → LeavesSome before line → ⊥)
     → (bytes : List ℕ) (m n : ℕ) → FirstFault B bytes m → FirstFault C bytes n → OnePlace B C m n
 one_place B C no_b no_c bytes m n f g =
-    let s = same_place f.good g.good f.line g.line f.rest g.rest [] f.before g.before (sym f.parts
-    ∙ g.parts) f.sound g.sound (no_b f.before f.line f.breaks) (no_c g.before g.line g.breaks) in
+    let s = same_place f.good g.good f.line g.line f.rest g.rest [] f.before g.before (sym f.parts ∙ g.parts) f.sound g.sound
+    (no_b f.before f.line f.breaks) (no_c g.before g.line g.breaks) in
     record {
       numbers = f.place ∙ (ap (λ k. k + 1) s.count ∙ sym g.place);
       before = f.before;
@@ -230,8 +230,8 @@ reads_nothing bytes left rest line number last events s first shorter leaves =
 
 -- or brings an event.
 pub reads_event : (bytes left rest line : List ℕ) (number last : ℕ) (events : List Event) (event : Event) → SoFar bytes left number last events
-    → lines_of left ≡ line ∷ lines_of rest → length rest < length left → LineLeaves events line (events ++ event ∷ []) → SoFar bytes rest
-    (number + 1) event.turn (events ++ event ∷ [])
+    → lines_of left ≡ line ∷ lines_of rest → length rest < length left → LineLeaves events line (events ++ event ∷ [])
+    → SoFar bytes rest (number + 1) event.turn (events ++ event ∷ [])
 unfolding last_turn
 reads_event bytes left rest line number last events event s first shorter leaves =
     reads_on bytes left rest line number last event.turn events (events ++ event ∷ []) s first shorter leaves (fold_push (λ turn e. e.turn) 0 events event)

@@ -140,6 +140,6 @@ one_form line (TickLine t) (KeyLine u c) x y = absurd (tick_no_key y.more (sym (
 one_form line (KeyLine t c) (TickLine u) x y = absurd (tick_no_key x.more (sym (tick_front line u y).rest ∙ (key_front line t c x).rest))
 one_form line (KeyLine t c) (KeyLine u d) x y =
     let turns = same_value x.digits y.digits t u x.number y.number (sym (key_front line t c x).taken ∙ (key_front line u d y).taken) in
-    let codes_are = same_value x.more y.more c d x.code_number y.code_number (append_cancel_left (codes " key ") x.more y.more (sym (key_front line t c x).rest
-    ∙ (key_front line u d y).rest)) in
+    let codes_are = same_value x.more y.more c d x.code_number y.code_number
+    (append_cancel_left (codes " key ") x.more y.more (sym (key_front line t c x).rest ∙ (key_front line u d y).rest)) in
     rw (turns, codes_are) refl

@@ -26,8 +26,8 @@ same_byte a b a_fits b_fits same = same_from_bits_below 8 a b a_fits b_fits (λ 
 same_parts : (d e : DevicesView) → d.requests ≡ e.requests → d.service ≡ e.service → d.mask ≡ e.mask → d.count_set ≡ e.count_set
     → d.awaited ≡ e.awaited → d.waiting ≡ e.waiting → d.cells ≡ e.cells → d ≡ e
 same_parts d e requests service mask count_set awaited waiting cells =
-    let same : record { requests = d.requests; service = d.service; mask = d.mask; count_set = d.count_set; awaited = d.awaited; waiting = d.waiting; cells = d.cells } ≡ e = rw
-    (requests, service, mask, count_set, awaited, waiting, cells) refl in
+    let same : record { requests = d.requests; service = d.service; mask = d.mask; count_set = d.count_set; awaited = d.awaited; waiting = d.waiting; cells = d.cells } ≡ e =
+    rw (requests, service, mask, count_set, awaited, waiting, cells) refl in
     same
 
 -- What all devices keep: bytes of eight lines, and 2000 cells.

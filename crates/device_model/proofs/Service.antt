@@ -82,8 +82,7 @@ behind lower line x h (y ∷ later) grant before e g none served =
         before = before;
         parts = rest;
         granted = g;
-        served = λ after z between s ends. served
-            (y ∷ after) z between (ap (λ t. y ∷ t) s) ends;
+        served = λ after z between s ends. served (y ∷ after) z between (ap (λ t. y ∷ t) s) ends;
       };
       now = λ ends. subst lower (sym rest) (served [] y later refl (sym (ap ends_service (head_of x y h (later ++ grant ∷ before) e)) ∙ ends));
     }

@@ -17,8 +17,8 @@ words-init c = scanning-first _ _ _ _ c.requires.formed
 pub mark_word-first-requires-clause-placed : goal.mark_word-first-requires-clause-placed
 mark_word-first-requires-clause-placed c =
     let r : IsReference c.args.shapes.now c.args.heap.now c.args.at c.words.k =
-    reference-here _ _ _ _ _ _ c.word-table.ensures c.word-length.ensures c.words.auto.k (omega (arith, c.block_size-end.ensures.size, c.words-test.true)) (sym c.refers.ensures
-    ∙ c.if-refers.true) in
+    reference-here _ _ _ _ _ _ c.word-table.ensures c.word-length.ensures c.words.auto.k (omega (arith, c.block_size-end.ensures.size, c.words-test.true))
+    (sym c.refers.ensures ∙ c.if-refers.true) in
     scanning-placed _ _ _ _ _ _ _ _ c.words.invariant c.requires.begins r (c.requires.placed _ r) c.word-word.ensures
 
 pub words-preserved : goal.words-preserved
