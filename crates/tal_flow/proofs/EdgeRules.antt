@@ -18,7 +18,8 @@ use Rattle.tal_flow.specs.Forms.{form_of}
 use Rattle.tal_flow.specs.Afterwards.{after}
 use Rattle.tal_flow.specs.Edges.{told_by_branch, told_by_fall, refine, falling, branching, target_of, falls_to, branches_to, goes_on, is_refused}
 use Rattle.tal_flow.specs.Flows.{Flows, FormFlows}
-use Rattle.tal_flow.specs.Rules.{operand_rule, edge_fits, is_dead, demand, edge_rule, in_function, rule_of_form, rule_of, next_of}
+use Rattle.tal_flow.specs.Rules.{operand_rule, edge_fits, is_dead, demand, edge_rule, in_function, rule_of_form, rule_of, next_of, LeastRule}
+use Rattle.tal_flow.proofs.LeastRules.{rule-least, form-none}
 
 -- The edges of instructions, by their forms.
 
@@ -118,7 +119,7 @@ unfolding falls_to branches_to is_dead
 fall-flows v c pc next f d g op e k h j =
     let i = rw (left v c pc f d e k) at h in
     record {
-      none_fails = edge-fails v c pc next f None op (rw (fall-rules v c pc next f g, i, j) refl);
+      none_fails = form-none v (Live c) pc next f (edge-fails v c pc next f None op (rw (fall-rules v c pc next f g, i, j) refl));
       falls = left v c pc f d e k ∙ sym (goes_on-falls v c pc f g);
       falls_on = rw (goes_on-falls v c pc f g) refl;
       branch = goes_on-branches v c f g;
@@ -130,7 +131,7 @@ fall-flows v c pc next f d g op e k h j =
 pub return-flows : (v : ShownImage) (c : LiveContext) (pc next : ℕ) (f : Form) (d : Context) → f ≡ Return → operand_rule v c pc f ≡ None → d.dead ≡ true → FormFlows v (Live c) pc next f (context_of d) (record { branch = None; falls = false })
 unfolding falls_to branches_to is_dead falling branching edge_rule target_of
 return-flows v c pc next Return d g op e = record {
-  none_fails = edge-fails v c pc next Return None op (rw (edge_fits-dead v.shapes None, edge_fits-dead v.shapes (v.block_at next)) refl);
+  none_fails = form-none v (Live c) pc next Return (edge-fails v c pc next Return None op (rw (edge_fits-dead v.shapes None, edge_fits-dead v.shapes (v.block_at next)) refl));
   falls = dead-context d e;
   falls_on = refl;
   branch = refl;
@@ -159,7 +160,7 @@ unfolding falls_to branches_to is_dead falling branching target_of
 jump-flows v d after pc next t op e h g =
     let i = rw (live-context d e) at h in
     record {
-      none_fails = edge-fails v (live_of d) pc next (Jump t) None op (rw (jump-rules v (live_of d) pc next t, i) refl);
+      none_fails = form-none v (Live (live_of d)) pc next (Jump t) (edge-fails v (live_of d) pc next (Jump t) None op (rw (jump-rules v (live_of d) pc next t, i) refl));
       falls = dead-context after g;
       falls_on = refl;
       branch = (refl, live-context d e, e);
@@ -198,7 +199,7 @@ taken-edge v d t k p (Some b) h m = (ap Some (sym m.0), ap context_of m.1 ∙ h,
 pub branch-flows : (v : ShownImage) (d : Context) (pc next t : ℕ) (k : Cond) (p q : Context) (edges : Edges) → operand_rule v (live_of d) pc (Branch k t) ≡ None → Refined v d k p q → (edge_fits v.shapes (context_of p) (v.block_at t) && edge_fits v.shapes (context_of q) (v.block_at next)) ≡ true → (is_dead (context_of q) || in_function v pc next) ≡ true → edges.falls ≡ not q.dead → MatchOption edges.branch (p.dead ≡ true) (λ b. (b.0 ≡ t) × (b.1 ≡ p) × (p.dead ≡ false)) → FormFlows v (Live (live_of d)) pc next (Branch k t) (context_of q) edges
 unfolding falls_to branches_to falling branching live_of
 branch-flows v d pc next t k p q edges op h e f g m = record {
-  none_fails = edge-fails v (live_of d) pc next (Branch k t) None op (rw (kept-rules v d pc next t k p q h, e, f) refl);
+  none_fails = form-none v (Live (live_of d)) pc next (Branch k t) (edge-fails v (live_of d) pc next (Branch k t) None op (rw (kept-rules v d pc next t k p q h, e, f) refl));
   falls = h.fallen;
   falls_on = g ∙ ap not (sym (dead-of q) ∙ ap is_dead h.fallen);
   branch = taken-edge v d t k p edges.branch h.taken m;
@@ -219,13 +220,13 @@ whole-flows v d pc next form inst len after e n f (Ok edges) h =
     subst (λ x. FormFlows v x pc (next_of pc len) (form_of (next_of pc len) inst) after edges) (sym (live-context d e)) j
 
 -- the least rule of the instruction is that of its form
-pub whole-fails : (v : ShownImage) (d : Context) (pc next : ℕ) (form : Form) (inst : Inst) (len : ℕ) → d.dead ≡ false → next ≡ next_of pc len → form ≡ form_of next inst → (r : Result Edges Rule) → IfErr r (λ rule. rule_of_form v (Live (live_of d)) pc next form ≡ Some rule.0) → IfErr r (λ rule. rule_of v (context_of d) pc inst len ≡ Some rule.0)
+pub whole-fails : (v : ShownImage) (d : Context) (pc next : ℕ) (form : Form) (inst : Inst) (len : ℕ) → d.dead ≡ false → next ≡ next_of pc len → form ≡ form_of next inst → (r : Result Edges Rule) → IfErr r (λ rule. rule_of_form v (Live (live_of d)) pc next form ≡ Some rule.0) → IfErr r (λ rule. LeastRule v (context_of d) pc inst len rule.0)
 unfolding rule_of
 whole-fails v d pc next form inst len e n f (Ok edges) h = h
 whole-fails v d pc next form inst len e n f (Err rule) h =
     let i = subst (λ x. rule_of_form v (Live (live_of d)) pc next x ≡ Some rule.0) f h in
     let j = subst (λ x. rule_of_form v (Live (live_of d)) pc x (form_of x inst) ≡ Some rule.0) n i in
-    subst (λ x. rule_of_form v x pc (next_of pc len) (form_of (next_of pc len) inst) ≡ Some rule.0) (sym (live-context d e)) j
+    rule-least v (context_of d) pc inst len rule.0 (subst (λ x. rule_of_form v x pc (next_of pc len) (form_of (next_of pc len) inst) ≡ Some rule.0) (sym (live-context d e)) j)
 
 -- the dead context
 
@@ -240,13 +241,13 @@ no-dead-rule v pc next form r = refl
 
 none-dead : (v : ShownImage) (pc next : ℕ) (form : Form) → is_refused form ≡ false → FormFlows v Dead pc next form Dead (record { branch = None; falls = false })
 unfolding falls_to branches_to is_dead
-none-dead v pc next form r = record { none_fails = no-dead-rule v pc next form r; falls = refl; falls_on = refl; branch = refl }
+none-dead v pc next form r = record { none_fails = form-none v Dead pc next form (no-dead-rule v pc next form r); falls = refl; falls_on = refl; branch = refl }
 
 -- rule 1 fails in the dead context, too
-pub dead-fails : (v : ShownImage) (d : Context) (pc next : ℕ) (form : Form) (inst : Inst) (len : ℕ) → d.dead ≡ true → next ≡ next_of pc len → form ≡ form_of next inst → is_refused form ≡ true → rule_of v (context_of d) pc inst len ≡ Some 1
+pub dead-fails : (v : ShownImage) (d : Context) (pc next : ℕ) (form : Form) (inst : Inst) (len : ℕ) → d.dead ≡ true → next ≡ next_of pc len → form ≡ form_of next inst → is_refused form ≡ true → LeastRule v (context_of d) pc inst len 1
 unfolding rule_of
 dead-fails v d pc next form inst len e n f r =
-    rw (dead-context d e) (subst (λ x. rule_of_form v Dead pc x (form_of x inst) ≡ Some 1) n (subst (λ x. rule_of_form v Dead pc next x ≡ Some 1) f (go form r)))
+    rw (dead-context d e) (rule-least v Dead pc inst len 1 (subst (λ x. rule_of_form v Dead pc x (form_of x inst) ≡ Some 1) n (subst (λ x. rule_of_form v Dead pc next x ≡ Some 1) f (go form r))))
   where
     go : (form : Form) → is_refused form ≡ true → rule_of_form v Dead pc next form ≡ Some 1
     go Refused r = refused-dead v pc next

@@ -1,6 +1,7 @@
 pub mod PlacesBelow
 pub mod RowsBelow
 pub mod CallsBelow
+pub mod LeastRules
 pub mod RulesBelow
 pub mod AfterwardsBelow
 pub mod Monotone

@@ -10,8 +10,9 @@ use Rattle.tal_flow.specs.declared.forms.Form.{Form}
 use Rattle.tal_flow.specs.declared.forms.Form.TheVariants.{Refused, Return, Jump, Branch}
 use Rattle.tal_flow.specs.Forms.{form_of}
 use Rattle.tal_flow.specs.Edges.{falling, branching, target_of, falls_to, branches_to}
-use Rattle.tal_flow.specs.Rules.{operand_rule, edge_fits, is_dead, edge_rule, rule_of_form, rule_of, next_of, Falls, Branches}
+use Rattle.tal_flow.specs.Rules.{operand_rule, edge_fits, is_dead, edge_rule, rule_of_form, rule_of, next_of, NoRuleFails, Falls, Branches}
 use Rattle.tal_flow.specs.Strongest.{OneHead, HasOneHead}
+use Rattle.tal_flow.proofs.LeastRules.{rule-none, none-rule}
 use Rattle.tal_flow.proofs.RulesBelow.{operand_rule-below}
 use Rattle.tal_flow.proofs.AfterwardsBelow.{after-below, refine-below}
 
@@ -68,10 +69,14 @@ form_rule-below v l (Live a) (Live b) pc next f h one e = live_rule-below v l a 
 form_rule-below v l (Live a) Dead pc next f h one e = absurd h
 form_rule-below v l Dead b pc next f h one e = dead_rule-below v b pc next f e
 
--- the lower context fails no further rule
-pub rule-below : (v : ShownImage) → ClassLaws v.shapes → (a b : ContextView) (pc : ℕ) (inst : Inst) (len : ℕ) → ContextBelow v.shapes a b → HasOneHead a → rule_of v b pc inst len ≡ None → rule_of v a pc inst len ≡ None
+-- no rule is the first to fail in the lower context where none is in the higher one
+first-below : (v : ShownImage) → ClassLaws v.shapes → (a b : ContextView) (pc : ℕ) (inst : Inst) (len : ℕ) → ContextBelow v.shapes a b → HasOneHead a → rule_of v b pc inst len ≡ None → rule_of v a pc inst len ≡ None
 unfolding rule_of
-rule-below v l a b pc inst len h one e = form_rule-below v l a b pc (next_of pc len) (form_of (next_of pc len) inst) h one e
+first-below v l a b pc inst len h one e = form_rule-below v l a b pc (next_of pc len) (form_of (next_of pc len) inst) h one e
+
+-- where no rule fails in the higher context, none fails in the lower one
+pub rule-below : (v : ShownImage) → ClassLaws v.shapes → (a b : ContextView) (pc : ℕ) (inst : Inst) (len : ℕ) → ContextBelow v.shapes a b → HasOneHead a → NoRuleFails v b pc inst len → NoRuleFails v a pc inst len
+rule-below v l a b pc inst len h one e = rule-none v a pc inst len (first-below v l a b pc inst len h one (none-rule v b pc inst len e))
 
 no_operand_rule : (v : ShownImage) (b : LiveContext) (pc next : ℕ) (f : Form) → rule_of_form v (Live b) pc next f ≡ None → operand_rule v b pc f ≡ None
 unfolding rule_of_form
@@ -84,9 +89,9 @@ falls_to-below v l (Live a) Dead pc next f h one e = absurd h
 falls_to-below v l Dead b pc next f h one e = tt
 
 -- what falls through it is lower
-pub falls-below : (v : ShownImage) → ClassLaws v.shapes → (a b : ContextView) (pc : ℕ) (inst : Inst) (len : ℕ) → ContextBelow v.shapes a b → HasOneHead a → rule_of v b pc inst len ≡ None → ContextBelow v.shapes (Falls v a pc inst len) (Falls v b pc inst len)
+pub falls-below : (v : ShownImage) → ClassLaws v.shapes → (a b : ContextView) (pc : ℕ) (inst : Inst) (len : ℕ) → ContextBelow v.shapes a b → HasOneHead a → NoRuleFails v b pc inst len → ContextBelow v.shapes (Falls v a pc inst len) (Falls v b pc inst len)
 unfolding Falls rule_of
-falls-below v l a b pc inst len h one e = falls_to-below v l a b pc (next_of pc len) (form_of (next_of pc len) inst) h one e
+falls-below v l a b pc inst len h one e = falls_to-below v l a b pc (next_of pc len) (form_of (next_of pc len) inst) h one (none-rule v b pc inst len e)
 
 branches_to-below : (v : ShownImage) → ClassLaws v.shapes → (a b : ContextView) (f : Form) → ContextBelow v.shapes a b → ContextBelow v.shapes (branches_to v a f) (branches_to v b f)
 unfolding branches_to

@@ -5,7 +5,7 @@ use Rattle.tal_types.specs.Contexts.{ContextView, Dead, ContextBelow}
 use Rattle.tal_types.specs.Shown.{ShownImage}
 use Rattle.tal_types.proofs.Orders.{context-refl, context-trans}
 use Rattle.tal_flow.specs.Rules.{next_of}
-use Rattle.tal_flow.specs.Strongest.{Placed, rule_at, falls_from, known_at, carried, start, contexts, at_in, At, NoneFails, Joined, placed_at, Chained, HasOneHead, BlocksHaveOneHead}
+use Rattle.tal_flow.specs.Strongest.{Placed, NoRuleAt, falls_from, known_at, carried, start, contexts, at_in, At, NoneFails, Joined, placed_at, Chained, HasOneHead, BlocksHaveOneHead}
 use Rattle.tal_flow.proofs.Monotone.{rule-below, falls-below}
 use Rattle.tal_flow.proofs.Heads.{start-head, falls-head}
 
@@ -39,17 +39,17 @@ pub serve-exactly : (v : ShownImage) → ClassLaws v.shapes → BlocksHaveOneHea
 serve-exactly v l blocks xs = (λ h. strongest v l blocks xs h.0 Dead Dead tt tt h.1 h.2, λ h. (contexts v xs Dead, h, itself-joined v xs Dead))
 
 -- no rule fails at an instruction in the context at its address
-at_in-row : (v : ShownImage) (xs : List Placed) (c : ContextView) (pc : ℕ) (x : Placed) → NoneFails v xs (contexts v xs c) → placed_at xs pc ≡ Some x → rule_at v (at_in v xs c pc) x ≡ None
+at_in-row : (v : ShownImage) (xs : List Placed) (c : ContextView) (pc : ℕ) (x : Placed) → NoneFails v xs (contexts v xs c) → placed_at xs pc ≡ Some x → NoRuleAt v (at_in v xs c pc) x
 unfolding placed_at at_in
 at_in-row v [] c pc x n e = absurd (grind arith)
 at_in-row v (y ∷ xs) c pc x n e = go (nat_eq y.pc pc) e (at_in-row v xs (falls_from v (start v y.pc c) y) pc x n.1)
   where
-    go : (b : Bool) → (if b then Some y else placed_at xs pc) ≡ Some x → (placed_at xs pc ≡ Some x → rule_at v (at_in v xs (falls_from v (start v y.pc c) y) pc) x ≡ None) → rule_at v (if b then (start v y.pc c) else at_in v xs (falls_from v (start v y.pc c) y) pc) x ≡ None
-    go true e r = let f : y ≡ x = grind arith in subst (λ z. rule_at v (start v y.pc c) z ≡ None) f n.0
+    go : (b : Bool) → (if b then Some y else placed_at xs pc) ≡ Some x → (placed_at xs pc ≡ Some x → NoRuleAt v (at_in v xs (falls_from v (start v y.pc c) y) pc) x) → NoRuleAt v (if b then (start v y.pc c) else at_in v xs (falls_from v (start v y.pc c) y) pc) x
+    go true e r = let f : y ≡ x = grind arith in subst (λ z. NoRuleAt v (start v y.pc c) z) f n.0
     go false e r = r e
 
 -- no rule fails at an instruction in its strongest context
-pub at-row : (v : ShownImage) (xs : List Placed) (pc : ℕ) (x : Placed) → NoneFails v xs (contexts v xs Dead) → placed_at xs pc ≡ Some x → rule_at v (At v xs pc) x ≡ None
+pub at-row : (v : ShownImage) (xs : List Placed) (pc : ℕ) (x : Placed) → NoneFails v xs (contexts v xs Dead) → placed_at xs pc ≡ Some x → NoRuleAt v (At v xs pc) x
 unfolding At
 at-row v xs pc x n e = at_in-row v xs Dead pc x n e
 

@@ -1,5 +1,5 @@
--- The rules of typing, 1 to 17, by the form of an instruction.
-use Rattle.std.specs.Prelude.{◌≡◌, ℕ, ◌+◌, ◌%◌, ◌^◌, ◌==◌, Bool, true, false, not, ◌&&◌, ◌||◌, nat_le, nat_lt, length, Option, Some, None, is_some}
+-- The rules of typing, 1 to 17: which are tried at an instruction, by its form, and which fail.
+use Rattle.std.specs.Prelude.{◌≡◌, ℕ, ◌+◌, ◌%◌, ◌^◌, ◌<◌, ◌==◌, Bool, true, false, not, ◌&&◌, ◌||◌, nat_le, nat_lt, List, [], ◌∷◌, ◌++◌, length, Option, Some, None, is_some}
 use Rattle.std.specs.List.{list_all}
 use Rattle.std.specs.Option.{option_and_then, option_map_or, option_or}
 use Rattle.ia32_code.specs.declared.instruction.Reg.{Reg}
@@ -21,12 +21,31 @@ use Rattle.tal_flow.specs.Places.{spares_esp, is_esp, found, readable, writable,
 use Rattle.tal_flow.specs.Rows.{compare_kind, test_kind}
 use Rattle.tal_flow.specs.Calls.{call_to, call_by, is_callable, is_fit}
 use Rattle.tal_flow.specs.Afterwards.{slots_in}
-use Rattle.tal_flow.specs.Edges.{allows, falling, branching, target_of, falls_to, branches_to}
+use Rattle.tal_flow.specs.Edges.{allows, falling, branching, target_of, falls_to, branches_to, is_refused}
 
--- rule n, where its test fails, and else the rules that follow
+-- a rule that is tried, by its number, and whether it holds
+pub record Trial : Type 0 where
+  pub rule : ℕ
+  pub holds : Bool
+
+-- rule n, which asks this
+abbrev pub ask : ℕ → Bool → Trial
+ask n holds = record { rule = n; holds = holds }
+
+-- rule n fails where it is tried and does not hold
+unfoldable pub fails_in : List Trial → ℕ → Bool
+fails_in [] n = false
+fails_in (t ∷ ts) n = (t.rule == n) && not t.holds || fails_in ts n
+
+-- rule n, where its test fails, and else what follows
 abbrev pub demand : ℕ → Bool → Option ℕ → Option ℕ
 demand n true rest = rest
 demand n false rest = Some n
+
+-- the first that fails of the rules that are tried
+abbrev pub first_failing : List Trial → Option ℕ
+first_failing [] = None
+first_failing (t ∷ ts) = demand t.rule t.holds (first_failing ts)
 
 -- the address lies in the function that has the byte at pc
 unfoldable pub in_function : ShownImage → ℕ → ℕ → Bool
@@ -52,76 +71,106 @@ address_is_num c m = option_map_or (λ q. is_num (c.regs q)) m.base true && opti
 unfoldable pub may_drop : LiveContext → ℕ → Bool
 may_drop c bytes = option_map_or (λ n. nat_le n (length c.slots)) (slots_in bytes) false
 
--- the least of the rules 1 to 15 that fails, by the instruction's form
+-- the rules 1 to 15 that are tried, by the instruction's form
+abbrev pub operand_trials : ShownImage → LiveContext → ℕ → Form → List Trial
+operand_trials v c pc Refused =
+    ask 1 false
+    ∷ []
+operand_trials v c pc (Compute sources d wide kind) =
+    ask 2 (list_all spares_esp sources && spares_esp d)
+    ∷ ask 3 (list_all (found v c) sources && found v c d)
+    ∷ ask 4 (list_all (readable v c) sources && writable v c d)
+    ∷ ask 5 (list_all (λ x. is_num (type_of v c pc x)) sources && storable v c Num d)
+    ∷ []
+operand_trials v c pc (Move d x) =
+    ask 2 (spares_esp d && spares_esp x)
+    ∷ ask 3 (found v c d && found v c x)
+    ∷ ask 4 (writable v c d && readable v c x)
+    ∷ ask 6 (storable v c (type_of v c pc x) d)
+    ∷ []
+operand_trials v c pc (Address r m) =
+    ask 2 (address_spares_esp r m)
+    ∷ ask 5 (address_is_num c m)
+    ∷ []
+operand_trials v c pc (Compare d x) =
+    ask 2 (spares_esp d && spares_esp x)
+    ∷ ask 3 (found v c d && found v c x)
+    ∷ ask 9 (is_some (compare_kind v c pc d x))
+    ∷ []
+operand_trials v c pc (TestBits d x) =
+    ask 2 (spares_esp d && spares_esp x)
+    ∷ ask 3 (found v c d && found v c x)
+    ∷ ask 4 (readable v c d && readable v c x)
+    ∷ ask 9 (is_some (test_kind v c pc d x))
+    ∷ []
+operand_trials v c pc (PushOf x) =
+    ask 2 (spares_esp x)
+    ∷ ask 3 (found v c x)
+    ∷ ask 4 (readable v c x)
+    ∷ ask 7 (nat_lt (length c.slots) 64)
+    ∷ []
+operand_trials v c pc (PopTo r) =
+    ask 2 (not (same r Esp))
+    ∷ ask 8 (nat_le 1 (length c.slots))
+    ∷ []
+operand_trials v c pc (DropSlots bytes) =
+    ask 8 (may_drop c bytes)
+    ∷ []
+operand_trials v c pc (CallTo address) =
+    ask 10 (is_callable (call_to v c address))
+    ∷ ask 11 (is_fit (call_to v c address))
+    ∷ []
+operand_trials v c pc (CallBy x) =
+    ask 2 (spares_esp x)
+    ∷ ask 3 (found v c x)
+    ∷ ask 4 (readable v c x)
+    ∷ ask 10 (is_callable (call_by v c (type_of v c pc x)))
+    ∷ ask 11 (is_fit (call_by v c (type_of v c pc x)))
+    ∷ []
+operand_trials v c pc Return =
+    ask 12 (length c.slots == 0)
+    ∷ ask 13 (fits_result v pc (c.regs Eax))
+    ∷ []
+operand_trials v c pc (Jump address) =
+    ask 14 (is_target v pc address)
+    ∷ []
+operand_trials v c pc (Branch condition address) =
+    ask 14 (is_target v pc address)
+    ∷ ask 15 (allows c.kind condition)
+    ∷ []
+operand_trials v c pc Nothing = []
+
+-- the first of the rules 1 to 15 that fails, or none
 unfoldable pub operand_rule : ShownImage → LiveContext → ℕ → Form → Option ℕ
-operand_rule v c pc Refused = Some 1
-operand_rule v c pc (Compute sources d wide kind) =
-    demand 2 (list_all spares_esp sources && spares_esp d) (
-    demand 3 (list_all (found v c) sources && found v c d) (
-    demand 4 (list_all (readable v c) sources && writable v c d) (
-    demand 5 (list_all (λ x. is_num (type_of v c pc x)) sources && storable v c Num d) None)))
-operand_rule v c pc (Move d x) =
-    demand 2 (spares_esp d && spares_esp x) (
-    demand 3 (found v c d && found v c x) (
-    demand 4 (writable v c d && readable v c x) (
-    demand 6 (storable v c (type_of v c pc x) d) None)))
-operand_rule v c pc (Address r m) =
-    demand 2 (address_spares_esp r m) (
-    demand 5 (address_is_num c m) None)
-operand_rule v c pc (Compare d x) =
-    demand 2 (spares_esp d && spares_esp x) (
-    demand 3 (found v c d && found v c x) (
-    demand 9 (is_some (compare_kind v c pc d x)) None))
-operand_rule v c pc (TestBits d x) =
-    demand 2 (spares_esp d && spares_esp x) (
-    demand 3 (found v c d && found v c x) (
-    demand 4 (readable v c d && readable v c x) (
-    demand 9 (is_some (test_kind v c pc d x)) None)))
-operand_rule v c pc (PushOf x) =
-    demand 2 (spares_esp x) (
-    demand 3 (found v c x) (
-    demand 4 (readable v c x) (
-    demand 7 (nat_lt (length c.slots) 64) None)))
-operand_rule v c pc (PopTo r) =
-    demand 2 (not (same r Esp)) (
-    demand 8 (nat_le 1 (length c.slots)) None)
-operand_rule v c pc (DropSlots bytes) =
-    demand 8 (may_drop c bytes) None
-operand_rule v c pc (CallTo address) =
-    demand 10 (is_callable (call_to v c address)) (
-    demand 11 (is_fit (call_to v c address)) None)
-operand_rule v c pc (CallBy x) =
-    demand 2 (spares_esp x) (
-    demand 3 (found v c x) (
-    demand 4 (readable v c x) (
-    demand 10 (is_callable (call_by v c (type_of v c pc x))) (
-    demand 11 (is_fit (call_by v c (type_of v c pc x))) None))))
-operand_rule v c pc Return =
-    demand 12 (length c.slots == 0) (
-    demand 13 (fits_result v pc (c.regs Eax)) None)
-operand_rule v c pc (Jump address) =
-    demand 14 (is_target v pc address) None
-operand_rule v c pc (Branch condition address) =
-    demand 14 (is_target v pc address) (
-    demand 15 (allows c.kind condition) None)
-operand_rule v c pc Nothing = None
+operand_rule v c pc form = first_failing (operand_trials v c pc form)
 
 -- rule 16: what is known on an edge is below the block's annotation, where the edge comes to a block
 unfoldable pub edge_fits : ShapesView → ContextView → Option ContextView → Bool
 edge_fits s c block = option_map_or (context_below s c) block true
 
+-- no run comes there
 unfoldable pub is_dead : ContextView → Bool
 is_dead Dead = true
 is_dead (Live c) = false
 
 -- the rules 16 and 17, on both edges
-unfoldable pub edge_rule : ShownImage → LiveContext → ℕ → ℕ → Form → Option ℕ
-edge_rule v c pc next form =
-    demand 16 (edge_fits v.shapes (branching v c form) (option_and_then v.block_at (target_of form)) && edge_fits v.shapes (falling v c pc form) (v.block_at next)) (
-    demand 17 (is_dead (falling v c pc form) || in_function v pc next) None)
+abbrev pub edge_trials : ShownImage → LiveContext → ℕ → ℕ → Form → List Trial
+edge_trials v c pc next form =
+    ask 16 (edge_fits v.shapes (branching v c form) (option_and_then v.block_at (target_of form)) && edge_fits v.shapes (falling v c pc form) (v.block_at next))
+    ∷ ask 17 (is_dead (falling v c pc form) || in_function v pc next)
+    ∷ []
 
--- the least rule that fails at the instruction at pc of this form, with the next one at `next`, or none.
--- In the dead context each rule but 1 holds
+-- the first of the rules 16 and 17 that fails, or none
+unfoldable pub edge_rule : ShownImage → LiveContext → ℕ → ℕ → Form → Option ℕ
+edge_rule v c pc next form = first_failing (edge_trials v c pc next form)
+
+-- the rules that are tried at the instruction at pc of this form, with the next one at `next`; in the dead
+-- context rule 1 alone
+abbrev pub trials : ShownImage → ContextView → ℕ → ℕ → Form → List Trial
+trials v Dead pc next form = ask 1 (not (is_refused form)) ∷ []
+trials v (Live c) pc next form = operand_trials v c pc form ++ edge_trials v c pc next form
+
+-- the first rule that fails at such an instruction, or none
 unfoldable pub rule_of_form : ShownImage → ContextView → ℕ → ℕ → Form → Option ℕ
 rule_of_form v Dead pc next Refused = Some 1
 rule_of_form v Dead pc next form = None
@@ -131,13 +180,22 @@ rule_of_form v (Live c) pc next form = option_or (operand_rule v c pc form) (edg
 unfoldable pub next_of : ℕ → ℕ → ℕ
 next_of pc len = (pc + len) % 2 ^ 32
 
--- the least rule that fails at an instruction, or none
+-- rule n fails at an instruction
+abbrev pub RuleFails : ShownImage → ContextView → ℕ → Inst → ℕ → ℕ → Type 0
+RuleFails v c pc inst len n = fails_in (trials v c pc (next_of pc len) (form_of (next_of pc len) inst)) n ≡ true
+
+-- no rule fails at it
+abbrev pub NoRuleFails : ShownImage → ContextView → ℕ → Inst → ℕ → Type 0
+NoRuleFails v c pc inst len = (n : ℕ) → RuleFails v c pc inst len n → ⊥
+
+-- rule n fails at it, and none of a lower number
+pub record LeastRule (v : ShownImage) (c : ContextView) (pc : ℕ) (inst : Inst) (len n : ℕ) : Type 0 where
+  pub fails : RuleFails v c pc inst len n
+  pub least : (m : ℕ) → m < n → RuleFails v c pc inst len m → ⊥
+
+-- the first rule that fails at an instruction, or none. It is the least one, since the rules are tried in their order
 unfoldable pub rule_of : ShownImage → ContextView → ℕ → Inst → ℕ → Option ℕ
 rule_of v c pc inst len = rule_of_form v c pc (next_of pc len) (form_of (next_of pc len) inst)
-
--- rule n is the least that fails at the instruction
-abbrev pub RuleFails : ShownImage → ContextView → ℕ → Inst → ℕ → ℕ → Type 0
-RuleFails v c pc inst len n = rule_of v c pc inst len ≡ Some n
 
 -- what falls through an instruction
 unfoldable pub Falls : ShownImage → ContextView → ℕ → Inst → ℕ → ContextView

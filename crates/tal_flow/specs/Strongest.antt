@@ -5,7 +5,7 @@ use Rattle.ia32_code.specs.declared.instruction.Reg.{Reg}
 use Rattle.ia32_code.specs.declared.instruction.Inst.{Inst}
 use Rattle.tal_types.specs.Contexts.{LiveContext, ContextView, Dead, Live, ContextBelow, entry}
 use Rattle.tal_types.specs.Shown.{ShownImage}
-use Rattle.tal_flow.specs.Rules.{rule_of, next_of, Falls}
+use Rattle.tal_flow.specs.Rules.{NoRuleFails, LeastRule, rule_of, next_of, Falls}
 
 -- an instruction of the code, with its address and the length of its spelling
 pub record Placed : Type 0 where
@@ -13,7 +13,15 @@ pub record Placed : Type 0 where
   pub inst : Inst
   pub len : ℕ
 
--- the least rule that fails at it
+-- no rule fails at it
+abbrev pub NoRuleAt : ShownImage → ContextView → Placed → Type 0
+NoRuleAt v c x = NoRuleFails v c x.pc x.inst x.len
+
+-- rule n is the least that fails at it
+abbrev pub LeastRuleAt : ShownImage → ContextView → Placed → ℕ → Type 0
+LeastRuleAt v c x n = LeastRule v c x.pc x.inst x.len n
+
+-- the first rule that fails at it, or none
 abbrev pub rule_at : ShownImage → ContextView → Placed → Option ℕ
 rule_at v c x = rule_of v c x.pc x.inst x.len
 
@@ -26,6 +34,7 @@ falls_from v c x = Falls v c x.pc x.inst x.len
 unfoldable pub known_at : ShownImage → ℕ → Option ContextView
 known_at v pc = option_or (option_map entry (option_and_then v.sig (v.function_at pc))) (v.block_at pc)
 
+-- what falls to an address, where that has nothing by itself
 abbrev pub carried : ContextView → Option ContextView → ContextView
 carried c None = c
 carried c (Some d) = d
@@ -39,6 +48,7 @@ abbrev pub contexts : ShownImage → List Placed → ContextView → List Contex
 contexts v [] c = []
 contexts v (x ∷ xs) c = start v x.pc c ∷ contexts v xs (falls_from v (start v x.pc c) x)
 
+-- the context at the instruction at pc among these, where c falls to the first
 unfoldable pub at_in : ShownImage → List Placed → ContextView → ℕ → ContextView
 at_in v [] c pc = Dead
 at_in v (x ∷ xs) c pc = if x.pc == pc then start v x.pc c else at_in v xs (falls_from v (start v x.pc c) x) pc
@@ -51,7 +61,7 @@ At v xs pc = at_in v xs Dead pc
 abbrev pub NoneFails : ShownImage → List Placed → List ContextView → Type 0
 NoneFails v [] cs = Unit {0}
 NoneFails v (x ∷ xs) [] = ⊥
-NoneFails v (x ∷ xs) (c ∷ cs) = (rule_at v c x ≡ None) × NoneFails v xs cs
+NoneFails v (x ∷ xs) (c ∷ cs) = NoRuleAt v c x × NoneFails v xs cs
 
 -- each context is above what its address has by itself, or else above what falls to it
 abbrev pub Joined : ShownImage → List Placed → List ContextView → ContextView → Type 0
@@ -73,6 +83,7 @@ Chained n (x ∷ xs) = (x.pc ≡ n) × (n < next_of x.pc x.len) × Chained (next
 abbrev pub OneHead : LiveContext → Type 0
 OneHead c = (t r q : Reg) → c.heads t r ≡ true → c.heads t q ≡ true → r ≡ q
 
+-- the same of a context that may be dead
 abbrev pub HasOneHead : ContextView → Type 0
 HasOneHead Dead = Unit {0}
 HasOneHead (Live c) = OneHead c

@@ -3,7 +3,7 @@ ghost use Rattle.tal_types.specs.Contexts.{Live};
 ghost use Rattle.tal_types.specs.Kept.{live_of, context_of};
 ghost use Rattle.tal_flow.specs.Edges.{goes_on, is_refused};
 ghost use Rattle.tal_flow.specs.Flows.{Flows, FormFlows};
-ghost use Rattle.tal_flow.specs.Rules.{operand_rule, edge_fits, is_dead, in_function, rule_of_form, next_of, RuleFails};
+ghost use Rattle.tal_flow.specs.Rules.{operand_rule, edge_fits, is_dead, in_function, rule_of_form, next_of, LeastRule};
 
 use crate::afterwards::step;
 use crate::edges::{Edges, Rule, refine, told_by_branch, told_by_fall};
@@ -222,7 +222,7 @@ pub fn flow<V: ImageView>(
     len: u8,
 ) -> Result<Edges, Rule>
     ensures ok { IfOk result (λ edges. Flows (V.shown image.now) (context_of context.old) pc inst.now len (context_of context.new) edges) }
-    ensures rule { IfErr result (λ rule. RuleFails (V.shown image.now) (context_of context.old) pc inst.now len rule.0) }
+    ensures rule { IfErr result (λ rule. LeastRule (V.shown image.now) (context_of context.old) pc inst.now len rule.0) }
     ensures same { IfErr result (λ rule. context.new ≡ context.old) }
 {
     let next = next_of(pc, len);

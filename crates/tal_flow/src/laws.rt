@@ -4,15 +4,25 @@ ghost use Rattle.object_layout.specs.Classes.{ShapesView};
 ghost use Rattle.object_layout.specs.Laws.{ClassLaws};
 ghost use Rattle.tal_types.specs.Contexts.{LiveContext, ContextView, ContextBelow, Dead, Live};
 ghost use Rattle.tal_types.specs.Shown.{ShownImage};
-ghost use Rattle.tal_flow.specs.Rules.{rule_of, next_of, Falls, Branches};
-ghost use Rattle.tal_flow.specs.Strongest.{Placed, rule_at, falls_from, start, placed_at, Chained, contexts, At, NoneFails, Joined, OneHead, HasOneHead, BlocksHaveOneHead};
+ghost use Rattle.tal_flow.specs.Rules.{rule_of, LeastRule, NoRuleFails, next_of, Falls, Branches};
+ghost use Rattle.tal_flow.specs.Strongest.{Placed, NoRuleAt, falls_from, start, placed_at, Chained, contexts, At, NoneFails, Joined, OneHead, HasOneHead, BlocksHaveOneHead};
 
-/// The monotone law: where less is left open, no further rule fails, and what goes on leaves no more
-/// open. No table register of the lower context has two heads.
+/// The rule of an instruction, the first that fails of those that are tried, is the least rule that fails; where there is
+/// none, none fails.
+pub fn least_rule()
+    ensures least { (v : ShownImage) (c : ContextView) (pc : ℕ) (inst : Inst) (len n : ℕ) → (rule_of v c pc inst len ≡ Some n) ↔ LeastRule v c pc inst len n }
+    ensures none { (v : ShownImage) (c : ContextView) (pc : ℕ) (inst : Inst) (len : ℕ) → (rule_of v c pc inst len ≡ None) ↔ NoRuleFails v c pc inst len }
+{}
+
+/// The monotone law, for two contexts of which no table register of the lower has two heads: where no rule fails in the
+/// higher context, none fails in the lower, and what falls through there is below; and what branches is always below.
 pub fn monotone()
-    ensures rules { (v : ShownImage) → ClassLaws v.shapes → (a b : ContextView) (pc : ℕ) (inst : Inst) (len : ℕ) → ContextBelow v.shapes a b → HasOneHead a → rule_of v b pc inst len ≡ None → rule_of v a pc inst len ≡ None }
-    ensures falls { (v : ShownImage) → ClassLaws v.shapes → (a b : ContextView) (pc : ℕ) (inst : Inst) (len : ℕ) → ContextBelow v.shapes a b → HasOneHead a → rule_of v b pc inst len ≡ None → ContextBelow v.shapes (Falls v a pc inst len) (Falls v b pc inst len) }
-    ensures branches { (v : ShownImage) → ClassLaws v.shapes → (a b : ContextView) (pc : ℕ) (inst : Inst) (len : ℕ) → ContextBelow v.shapes a b → ContextBelow v.shapes (Branches v a pc inst len) (Branches v b pc inst len) }
+    ensures rules { (v : ShownImage) → ClassLaws v.shapes → (a b : ContextView) (pc : ℕ) (inst : Inst) (len : ℕ) → ContextBelow v.shapes a b → HasOneHead a →
+        NoRuleFails v b pc inst len → NoRuleFails v a pc inst len }
+    ensures falls { (v : ShownImage) → ClassLaws v.shapes → (a b : ContextView) (pc : ℕ) (inst : Inst) (len : ℕ) → ContextBelow v.shapes a b → HasOneHead a →
+        NoRuleFails v b pc inst len → ContextBelow v.shapes (Falls v a pc inst len) (Falls v b pc inst len) }
+    ensures branches { (v : ShownImage) → ClassLaws v.shapes → (a b : ContextView) (pc : ℕ) (inst : Inst) (len : ℕ) → ContextBelow v.shapes a b →
+        ContextBelow v.shapes (Branches v a pc inst len) (Branches v b pc inst len) }
 {}
 
 /// No table register has two heads in the strongest contexts, nor in what is above such a live context.
@@ -27,7 +37,7 @@ pub fn one_head()
 pub fn strongest_contexts()
     ensures exactly { (v : ShownImage) → ClassLaws v.shapes → BlocksHaveOneHead v → (xs : List Placed) →
         ((cs : List ContextView) × NoneFails v xs cs × Joined v xs cs Dead) ↔ NoneFails v xs (contexts v xs Dead) }
-    ensures rows { (v : ShownImage) (xs : List Placed) (pc : ℕ) (x : Placed) → NoneFails v xs (contexts v xs Dead) → placed_at xs pc ≡ Some x → rule_at v (At v xs pc) x ≡ None }
+    ensures rows { (v : ShownImage) (xs : List Placed) (pc : ℕ) (x : Placed) → NoneFails v xs (contexts v xs Dead) → placed_at xs pc ≡ Some x → NoRuleAt v (At v xs pc) x }
     ensures next { (v : ShownImage) (xs : List Placed) (n pc : ℕ) (x y : Placed) → Chained n xs → placed_at xs pc ≡ Some x → placed_at xs (next_of x.pc x.len) ≡ Some y →
         At v xs (next_of x.pc x.len) ≡ start v (next_of x.pc x.len) (falls_from v (At v xs pc) x) }
 {}
