@@ -24,6 +24,7 @@ use Rattle.tal_checker.specs.WellTyped.{WellTyped, StrongestDecides, strongest_a
 use Rattle.tal_checker.proofs.SpelledCode.{SpellingLength, placed_spelled, Spot, spot, next_there, next-is, chained}
 use Rattle.tal_checker.proofs.FunctionSpans.{Covers, covered, begun_covered, numbered}
 use Rattle.tal_checker.proofs.FormedCode.{HasCode, has_code}
+use Rattle.tal_checker.proofs.FirstRefusals.{OneRuleIsLeast}
 use Rattle.tal_checker.proofs.StrongestLaw.{RowsPass, none_fails}
 use Rattle.tal_checker.proofs.Edges.{EdgesFit, edges-fit, target-is, target-block, in-span}
 use Rattle.tal_checker.proofs.OwnContexts.{at-known, known-function, known-block}
@@ -34,6 +35,7 @@ pub record RunLaws : Type 0 where
   pub long : SpellingLength
   pub decides : StrongestDecides
   pub rows : RowsPass
+  pub rules : OneRuleIsLeast
   pub next : (v : ShownImage) (xs : List Placed) (n pc : ℕ) (x y : Placed) → Chained n xs → placed_at xs pc ≡ Some x → placed_at xs (next_of x.pc x.len) ≡ Some y → At v xs (next_of x.pc x.len) ≡ start v (next_of x.pc x.len) (falls_from v (At v xs pc) x)
   pub told : (s : ShapesView) (a b : ContextView) → context_below s a b ≡ true → ContextBelow s a b
   pub reflexive : (s : ShapesView) (a : ContextView) → ContextBelow s a a
@@ -103,11 +105,15 @@ module _ (laws : RunLaws) (image : ImageParts) (w : WellTyped image) (k : HasCod
         stays = f.1.same to s.0 s.1 ∙ sym f.1.here;
       }
 
+  -- an instruction has no rule
+  no-rule : (pc : ℕ) (x : Placed) → instruction_in image pc ≡ Some x → rule_at (shown image) (strongest_at image pc) x ≡ None
+  no-rule pc x e = (laws.rules.none (shown image) (strongest_at image pc) x.pc x.inst x.len).1 (none_fails laws.decides laws.rows image w pc x e)
+
   -- no rule fails, in the words of the form
   fits-at : (pc : ℕ) (x : Placed) (c : LiveContext) → instruction_in image pc ≡ Some x → strongest_at image pc ≡ Live c → EdgesFit (shown image) c x.pc (next_of x.pc x.len) (form_of (next_of x.pc x.len) x.inst)
   unfolding rule_of
   fits-at pc x c e a =
-      let n = none_fails laws.decides laws.rows image w pc x e in
+      let n = no-rule pc x e in
       edges-fit (shown image) c x.pc (next_of x.pc x.len) (form_of (next_of x.pc x.len) x.inst) (ap (λ (d : ContextView). rule_at (shown image) d x) (sym a) ∙ n)
 
   branches : (pc : ℕ) (x : Placed) (c d : LiveContext) (to : ℕ) → instruction_in image pc ≡ Some x → strongest_at image pc ≡ Live c → Branches (shown image) (Live c) x.pc x.inst x.len ≡ Live d → Target x.pc x.inst x.len ≡ Some to → Arrives image pc to (Live d)
@@ -208,7 +214,7 @@ module _ (laws : RunLaws) (image : ImageParts) (w : WellTyped image) (k : HasCod
   pub runs_on : RunsOn image
   runs_on = record {
     spelled = spelled;
-    none_fails = none_fails laws.decides laws.rows image w;
+    none_fails = no-rule;
     falls = falls;
     branches = branches;
     calls = begins;

@@ -10,8 +10,8 @@ use Rattle.tal_types.specs.Shown.{ShownImage}
 use Rattle.tal_types.specs.declared.signatures.FrameRow.{FrameRow}
 use Rattle.tal_flow.specs.declared.edges.Edges.{Edges}
 use Rattle.tal_flow.specs.Flows.{Flows}
-use Rattle.tal_flow.specs.Rules.{rule_of, Falls}
-use Rattle.tal_flow.specs.Strongest.{Placed, rule_at, falls_from, start, contexts, NoneFails}
+use Rattle.tal_flow.specs.Rules.{NoRuleFails, LeastRule, Falls}
+use Rattle.tal_flow.specs.Strongest.{Placed, NoRuleAt, LeastRuleAt, falls_from, start, contexts, NoneFails}
 use Rattle.object_layout.specs.Areas.{code_start}
 use Rattle.frame_tables.specs.FrameRows.{RowAt}
 use Rattle.tal_checker.specs.Instructions.{placed_from, instructions}
@@ -47,8 +47,8 @@ rows-below rows pc n row some h =
     All-push (λ (r : RowAt). r.pc < pc + n) rows (record { pc = pc; row = row }) (All-weaker (λ (r : RowAt). r.pc < pc) (λ (r : RowAt). r.pc < pc + n) (λ r l. omega arith) rows h) (omega arith)
 
 -- what no rule forbids passes, and hands on what falls through
-pub flows-pass : (v : ShownImage) (c : ContextView) (pc : ℕ) (i : Inst) (n : ℕ) (after : ContextView) (edges : Edges) → Flows v c pc i n after edges → (rule_of v c pc i n ≡ None) × (after ≡ Falls v c pc i n)
-unfolding rule_of Falls
+pub flows-pass : (v : ShownImage) (c : ContextView) (pc : ℕ) (i : Inst) (n : ℕ) (after : ContextView) (edges : Edges) → Flows v c pc i n after edges → NoRuleFails v c pc i n × (after ≡ Falls v c pc i n)
+unfolding Falls
 flows-pass v c pc i n after edges f = (f.none_fails, f.falls)
 
 module _ (v : ShownImage) (code : List ℕ) (pc : ℕ) (bytes : List ℕ) (c : ContextView) (rows : List RowAt) (i : Inst) (n : ℕ) (here : ContextView) (l : Left v code pc bytes c rows) (e : front_of bytes ≡ Some (i, n)) (some : 0 < n) (fits : n ≤ length bytes) (stands : here ≡ start v pc c) where
@@ -60,18 +60,18 @@ module _ (v : ShownImage) (code : List ℕ) (pc : ℕ) (bytes : List ℕ) (c : C
   ordered = subst Ordered step (placed-ordered bytes 0 pc)
 
   -- a rule fails at the instruction at the front
-  pub left_refused : (rule : ℕ) → rule_of v here pc i n ≡ Some rule → RefusedIn v (instructions code) Dead pc rule
+  pub left_refused : (rule : ℕ) → LeastRule v here pc i n rule → RefusedIn v (instructions code) Dead pc rule
   left_refused rule fails =
       let x : Placed = record { pc = pc; inst = i; len = n } in
-      let f : rule_at v (start v pc c) x ≡ Some rule = ap (λ (d : ContextView). rule_at v d x) (sym stands) ∙ fails in
+      let f : LeastRuleAt v (start v pc c) x rule = subst (λ (d : ContextView). LeastRuleAt v d x rule) stands fails in
       l.refuses pc rule (subst (λ (t : List Placed). RefusedIn v t c pc rule) (sym step) (refused_first v x (placed_from 0 (pc + n) (drop n bytes)) c rule ordered f))
 
   -- the instruction at the front passes
-  pub left_after : (next : ContextView) (row : FrameRow) → rule_of v here pc i n ≡ None → next ≡ Falls v here pc i n → row ≡ row_in here → Left v code (pc + n) (drop n bytes) next (rows ++ record { pc = pc; row = row } ∷ [])
+  pub left_after : (next : ContextView) (row : FrameRow) → NoRuleFails v here pc i n → next ≡ Falls v here pc i n → row ≡ row_in here → Left v code (pc + n) (drop n bytes) next (rows ++ record { pc = pc; row = row } ∷ [])
   left_after next row passes falls is =
       let x : Placed = record { pc = pc; inst = i; len = n } in
       let xs = placed_from 0 (pc + n) (drop n bytes) in
-      let p : rule_at v (start v pc c) x ≡ None = ap (λ (d : ContextView). rule_at v d x) (sym stands) ∙ passes in
+      let p : NoRuleAt v (start v pc c) x = subst (λ (d : ContextView). NoRuleAt v d x) stands passes in
       let f : next ≡ falls_from v (start v pc c) x = falls ∙ ap (λ (d : ContextView). falls_from v d x) stands in
       let r : row ≡ row_in (start v pc c) = is ∙ ap row_in stands in
       subst (λ (d : ContextView). Left v code (pc + n) (drop n bytes) d (rows ++ record { pc = pc; row = row } ∷ [])) (sym f)

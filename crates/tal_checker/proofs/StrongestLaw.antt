@@ -1,11 +1,11 @@
 -- The law of the strongest context, for images.
 use Rattle.std.specs.Prelude.{if◌then◌else◌, ◌==◌, ◌↔◌}
 use Rattle.std.proofs.Common.{◌≡◌, ℕ, ◌+◌, inl, inr, Bool, true, false, Some, None, List, [], ◌∷◌, sym, subst, ◌∙◌}
-use Rattle.std.proofs.lemmas.Option.{none-some, same_Some}
+use Rattle.std.proofs.lemmas.Option.{same_Some}
 use Rattle.object_layout.specs.Laws.{ClassLaws}
 use Rattle.tal_types.specs.Contexts.{ContextView, Dead, plain}
 use Rattle.tal_types.specs.Shown.{ShownImage}
-use Rattle.tal_flow.specs.Strongest.{Placed, rule_at, contexts, At, NoneFails, Joined, placed_at, HasOneHead, BlocksHaveOneHead}
+use Rattle.tal_flow.specs.Strongest.{Placed, NoRuleAt, contexts, At, NoneFails, Joined, placed_at, HasOneHead, BlocksHaveOneHead}
 use Rattle.object_layout.specs.Areas.{code_start}
 use Rattle.tal_image.specs.declared.parts.BlockPart.{BlockPart}
 use Rattle.tal_image.specs.Image.{ImageParts}
@@ -16,7 +16,7 @@ use Rattle.tal_checker.specs.Instructions.{instructions}
 use Rattle.tal_checker.specs.WellTyped.{WellTyped, strongest, strongest_at, FirstRefusal, OneRefusal, StrongestDecides}
 use Rattle.tal_checker.proofs.PlacedLists.{Ordered}
 use Rattle.tal_checker.proofs.CodeInstructions.{placed-ordered}
-use Rattle.tal_checker.proofs.FirstRefusals.{one_refused, decided}
+use Rattle.tal_checker.proofs.FirstRefusals.{one_refused, decided, OneRuleIsLeast}
 
 -- a block's annotation knows of no heads
 block-head : (pc : ℕ) (bs : List BlockPart) (c : ContextView) → block_in pc bs ≡ Some c → HasOneHead c
@@ -28,6 +28,7 @@ block-head pc (b ∷ bs) c e = go (code_start + b.offset == pc) e (λ k. block-h
     go true e more = subst HasOneHead (same_Some (plain b.types b.slots) c e) (λ t r q h k. absurd cc)
     go false e more = more e
 
+-- an image's blocks know of no heads
 pub image-heads : (image : ImageParts) → BlocksHaveOneHead (shown image)
 unfolding shown
 image-heads image pc c e = block-head pc image.blocks c e
@@ -36,6 +37,7 @@ image-heads image pc c e = block-head pc image.blocks c e
 abbrev pub ServeExactly : Type 0
 ServeExactly = (v : ShownImage) → ClassLaws v.shapes → BlocksHaveOneHead v → (xs : List Placed) → ((cs : List ContextView) × NoneFails v xs cs × Joined v xs cs Dead) ↔ NoneFails v xs (contexts v xs Dead)
 
+-- the law of the strongest context, from those of shapes and of the flow
 pub strongest_law : FormedShapes → ServeExactly → StrongestDecides
 unfolding strongest shown
 strongest_law laws exactly image f =
@@ -60,17 +62,18 @@ code-ordered code = placed-ordered code 0 code_start
 
 -- no rule fails at an instruction, in its strongest context
 abbrev pub RowsPass : Type 0
-RowsPass = (v : ShownImage) (xs : List Placed) (pc : ℕ) (x : Placed) → NoneFails v xs (contexts v xs Dead) → placed_at xs pc ≡ Some x → rule_at v (At v xs pc) x ≡ None
+RowsPass = (v : ShownImage) (xs : List Placed) (pc : ℕ) (x : Placed) → NoneFails v xs (contexts v xs Dead) → placed_at xs pc ≡ Some x → NoRuleAt v (At v xs pc) x
 
 -- no rule fails at an instruction of an image that is well typed
-pub none_fails : StrongestDecides → RowsPass → (image : ImageParts) → WellTyped image → (pc : ℕ) (x : Placed) → placed_at (instructions image.code) pc ≡ Some x → rule_at (shown image) (strongest_at image pc) x ≡ None
+pub none_fails : StrongestDecides → RowsPass → (image : ImageParts) → WellTyped image → (pc : ℕ) (x : Placed) → placed_at (instructions image.code) pc ≡ Some x → NoRuleAt (shown image) (strongest_at image pc) x
 unfolding strongest strongest_at
 none_fails decides pass image w pc x e = pass (shown image) (instructions image.code) pc x ((decides image w.formed).0 w) e
 
-pub one_answer : StrongestDecides → RowsPass → OneRefusal
+-- an image has one first refusal, or it is well typed
+pub one_answer : StrongestDecides → RowsPass → OneRuleIsLeast → OneRefusal
 unfolding strongest
-one_answer decides pass = record {
+one_answer decides pass laws = record {
   one = λ image a b r s f g. one_refused (shown image) (instructions image.code) Dead a b r s (to-refused image a r f) (to-refused image b s g);
-  not_typed = λ image a r f w. none-some r (sym (none_fails decides pass image w a f.placed f.here) ∙ f.fails);
-  some = λ image f. elim (decided (shown image) (instructions image.code) Dead (code-ordered image.code)) [ inl n ↦ inl ((decides image f).1 n) | inr r ↦ inr (r.0, r.1, of-refused image r.0 r.1 r.2) ];
+  not_typed = λ image a r f w. none_fails decides pass image w a f.placed f.here r f.fails.fails;
+  some = λ image f. elim (decided laws (shown image) (instructions image.code) Dead (code-ordered image.code)) [ inl n ↦ inl ((decides image f).1 n) | inr r ↦ inr (r.0, r.1, of-refused image r.0 r.1 r.2) ];
 }

@@ -1,8 +1,8 @@
 -- What going over code finds, by what typing sees of an image.
-use Rattle.std.specs.Prelude.{◌≡◌, ℕ, ◌<◌, List, Some, None}
+use Rattle.std.specs.Prelude.{◌≡◌, ℕ, ◌<◌, List, Some}
 use Rattle.tal_types.specs.Contexts.{ContextView, Dead}
 use Rattle.tal_types.specs.Shown.{ShownImage}
-use Rattle.tal_flow.specs.Strongest.{Placed, rule_at, contexts, at_in, NoneFails, placed_at}
+use Rattle.tal_flow.specs.Strongest.{Placed, NoRuleAt, LeastRuleAt, contexts, at_in, NoneFails, placed_at}
 use Rattle.frame_tables.specs.FrameRows.{RowAt}
 use Rattle.tal_checker.specs.declared.answer.CheckAnswer.{CheckAnswer}
 use Rattle.tal_checker.specs.declared.answer.CheckAnswer.TheVariants.{Refused, NoMemory}
@@ -13,8 +13,8 @@ use Rattle.tal_checker.specs.Frames.{rows_of}
 pub record RefusedIn (v : ShownImage) (xs : List Placed) (c : ContextView) (address rule : ℕ) : Type 0 where
   pub placed : Placed
   pub here : placed_at xs address ≡ Some placed
-  pub fails : rule_at v (at_in v xs c address) placed ≡ Some rule
-  pub earlier : (before : ℕ) (other : Placed) → before < address → placed_at xs before ≡ Some other → rule_at v (at_in v xs c before) other ≡ None
+  pub fails : LeastRuleAt v (at_in v xs c address) placed rule
+  pub earlier : (before : ℕ) (other : Placed) → before < address → placed_at xs before ≡ Some other → NoRuleAt v (at_in v xs c before) other
 
 -- no rule fails in the code, and these are the rows of its frames
 pub record Passed (v : ShownImage) (code : List ℕ) (frames : List RowAt) : Type 0 where

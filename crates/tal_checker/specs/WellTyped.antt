@@ -1,7 +1,7 @@
 -- Well typed images, and the first place where a rule fails.
-use Rattle.std.specs.Prelude.{◌≡◌, ℕ, ◌<◌, ◌⊎◌, List, Some, None, ◌↔◌}
+use Rattle.std.specs.Prelude.{◌≡◌, ℕ, ◌<◌, ◌⊎◌, List, Some, ◌↔◌}
 use Rattle.tal_types.specs.Contexts.{ContextView, Dead}
-use Rattle.tal_flow.specs.Strongest.{Placed, At, contexts, rule_at, placed_at, NoneFails, Joined}
+use Rattle.tal_flow.specs.Strongest.{Placed, At, contexts, NoRuleAt, LeastRuleAt, placed_at, NoneFails, Joined}
 use Rattle.tal_image.specs.Image.{ImageParts}
 use Rattle.tal_image.specs.Formed.{Formed}
 use Rattle.tal_image.specs.Shown.{shown}
@@ -32,9 +32,9 @@ StrongestDecides = (image : ImageParts) → Formed image → (WellTyped image �
 pub record FirstRefusal (image : ImageParts) (address rule : ℕ) : Type 0 where
   pub placed : Placed
   pub here : placed_at (instructions image.code) address ≡ Some placed
-  pub fails : rule_at (shown image) (strongest_at image address) placed ≡ Some rule
+  pub fails : LeastRuleAt (shown image) (strongest_at image address) placed rule
   pub earlier : (before : ℕ) (other : Placed) → before < address → placed_at (instructions image.code) before ≡ Some other
-      → rule_at (shown image) (strongest_at image before) other ≡ None
+      → NoRuleAt (shown image) (strongest_at image before) other
 
 -- an image has one first refusal at most, and none where it is well typed; a formed image is well typed or has one
 pub record OneRefusal : Type 0 where

@@ -9,12 +9,10 @@ use crate::answer::CheckAnswer;
 use crate::frames::frame_row;
 use frame_tables::FrameTable;
 use ia32_code::{Decoded, decode};
+use object_layout::areas::CODE_START;
 use std::alloc::Global;
 use tal_flow::flow;
 use tal_types::{Context, ImageView, Sig, entry_context};
-
-/// The address of the first code byte.
-const CODE_START: u32 = 0x10_0000;
 
 /// The signature of the function that begins at an address.
 fn signature_from<V: ImageView>(image: &V, pc: u32) -> Option<Sig>

@@ -1,6 +1,9 @@
 // What holds of the definitions alone: each law is a function with nothing to do, whose clause is the law.
 ghost use Rattle.tal_checker.specs.Frames.{RowsByAddress};
-ghost use Rattle.tal_checker.specs.WellTyped.{StrongestDecides, OneRefusal};
+ghost use Rattle.std.specs.Prelude.{ℕ};
+ghost use Rattle.tal_flow.specs.Strongest.{HasOneHead};
+ghost use Rattle.tal_image.specs.Image.{ImageParts};
+ghost use Rattle.tal_checker.specs.WellTyped.{StrongestDecides, OneRefusal, strongest_at};
 ghost use Rattle.tal_checker.specs.Running.{AcceptedRuns};
 
 /// The law of the strongest context: an image is well typed exactly where no rule fails in the strongest contexts.
@@ -17,6 +20,14 @@ pub fn one_refusal()
 {
     strongest_decides();
     tal_flow::laws::strongest_contexts();
+    tal_flow::laws::least_rule();
+}
+
+/// The contexts of an image: no table register of a strongest one has two heads, since its blocks know of no heads.
+pub fn one_head()
+    ensures { (image : ImageParts) (pc : ℕ) → HasOneHead (strongest_at image pc) }
+{
+    tal_flow::laws::one_head();
 }
 
 /// The rows of an image's frames by their addresses: one exactly where an instruction begins, by the strongest context there.
@@ -31,6 +42,7 @@ pub fn accepted_runs()
 {
     strongest_decides();
     tal_flow::laws::strongest_contexts();
+    tal_flow::laws::least_rule();
     tal_types::laws::context_below_tests_the_order();
     tal_types::laws::contexts_are_ordered();
     ia32_code::laws::front_law();

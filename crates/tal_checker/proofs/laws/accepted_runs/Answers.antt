@@ -7,6 +7,7 @@ returns c = accepted_runs (record {
   long = c.spelling_length.ensures;
   decides = c.strongest_decides.ensures;
   rows = c.strongest_contexts.ensures.rows;
+  rules = record { least = c.least_rule.ensures.least; none = c.least_rule.ensures.none };
   next = c.strongest_contexts.ensures.next;
   told = c.context_below_tests_the_order.ensures.told;
   reflexive = c.contexts_are_ordered.ensures.reflexive;
