@@ -46,9 +46,12 @@ alone s i d sources each h =
     let t = target_is d (both (list_all (is_number s) sources) (is_target d) h).1 in
     rw t.is (each t.register t.spared)
 
--- the last of two sources, or of three, is none in memory
-last_of_two : (s : State) (a b d : Operand) → list_all (is_number s) (a ∷ b ∷ b ∷ []) && is_target d ≡ true → is_memory b ≡ false
-last_of_two s a b d h = no_memory s b (both (is_number s b) _ (both (is_number s a) _ (both _ (is_target d) h).0).1).0
+-- the one source, or the last of two, or of three, is none in memory
+last_of_one : (s : State) (a d : Operand) → list_all (is_number s) (a ∷ []) && is_target d ≡ true → is_memory a ≡ false
+last_of_one s a d h = no_memory s a (both (is_number s a) true (both _ (is_target d) h).0).0
+
+last_of_two : (s : State) (a b d : Operand) → list_all (is_number s) (a ∷ b ∷ []) && is_target d ≡ true → is_memory b ≡ false
+last_of_two s a b d h = no_memory s b (both (is_number s b) true (both (is_number s a) _ (both _ (is_target d) h).0).1).0
 
 last_of_three : (s : State) (a b c d : Operand) → list_all (is_number s) (a ∷ b ∷ c ∷ []) && is_target d ≡ true → is_memory c ≡ false
 last_of_three s a b c d h = no_memory s c (both (is_number s c) true (both (is_number s b) _ (both (is_number s a) _ (both _ (is_target d) h).0).1).1).0
@@ -119,7 +122,7 @@ step_of image (inst.Imul2 d x) len s t words known room is =
     (λ h. alone s (λ o. inst.Imul2 o x) d (two d x) (λ r spared. imul_computes r x spared (last_of_two s d x d h)) h)
 step_of image (inst.Imul3 d x n) len s t words known room is =
     computed_step image (inst.Imul3 d x n) len s t words (one x) d false (Some kind.Lost) known is
-    (λ h. alone s (λ o. inst.Imul3 o x n) d (one x) (λ r spared. imul_number_computes r x n spared (last_of_two s x x d h)) h)
+    (λ h. alone s (λ o. inst.Imul3 o x n) d (one x) (λ r spared. imul_number_computes r x n spared (last_of_one s x d h)) h)
 step_of image (inst.Shift op d (By n)) len s t words known room is =
     computed_step image (inst.Shift op d (By n)) len s t words (one d) d false _ known is (alone s (λ o. inst.Shift op o (By n)) d (one d) (shift_computes op (By n)))
 step_of image (inst.Shift op d Cl) len s t words known room is =

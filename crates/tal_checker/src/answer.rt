@@ -2,16 +2,13 @@ ghost use Rattle.std.specs.Prelude.{◌≡◌};
 ghost use Rattle.tal_checker.specs.declared.answer.CheckAnswer.TheVariants.{NoMemory as no_memory};
 
 use no_memory::NoMemory;
-use thiserror::Error;
 
 /// Why an image is not accepted.
-#[derive(Clone, Copy, Debug, PartialEq, Eq, Drop, Error)]
+#[derive(Clone, Copy, Debug, PartialEq, Eq, Drop)]
 pub enum CheckAnswer {
     /// A rule of typing fails: `address` is the least where one does, `rule` the least rule that fails there, 1 to 17.
-    #[error("a rule of typing fails in the image")]
     Refused { address: u32, rule: u8 },
     /// There was no memory for checking.
-    #[error("there is no memory for checking the image")]
     NoMemory,
 }
 

@@ -60,9 +60,11 @@ fn code_alone_is_refused_at_the_least_address(rt: HostRuntime) -> Result<(), Fai
         before: &[],
         after: &[],
     };
-    let rows: [(&[u8], u32, u8); 4] = [
+    let rows: [(&[u8], u32, u8); 6] = [
         (&[0xC3], 0x10_0000, 13),
         (&[0x01, 0xC8, 0xC3], 0x10_0000, 5),
+        (&[0x01, 0xE4, 0xC3], 0x10_0000, 2),
+        (&[0xB8, 5, 0, 0, 0], 0x10_0000, 17),
         (&[0xB8, 0, 0, 0, 0, 0x8B, 0x00, 0xC3], 0x10_0005, 3),
         (&[0xEB, 0x01, 0xB8, 0, 0, 0, 0, 0xC3], 0x10_0000, 14),
     ];
@@ -73,6 +75,24 @@ fn code_alone_is_refused_at_the_least_address(rt: HostRuntime) -> Result<(), Fai
             Some(CheckAnswer::Refused { address, rule }),
             "{code:?}"
         );
+    }
+    Ok(())
+}
+
+#[test]
+fn code_that_breaks_no_rule_is_accepted(rt: HostRuntime) -> Result<(), Fail> {
+    let tables = Tables {
+        counts: [0, 0, 0, 0, 0],
+        before: &[],
+        after: &[],
+    };
+    let rows: [&[u8]; 3] = [
+        &[0xB8, 5, 0, 0, 0, 0xB9, 2, 0, 0, 0, 0x01, 0xC8, 0xC3],
+        &[0xB8, 5, 0, 0, 0, 0xC3, 0x01, 0xC8],
+        &[0x6A, 5, 0x58, 0xC3],
+    ];
+    for code in rows {
+        assert_eq!(rt; refusal(rt.alloc(), &tables, code)?, None, "{code:?}");
     }
     Ok(())
 }

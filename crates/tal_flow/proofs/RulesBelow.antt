@@ -9,14 +9,13 @@ use Rattle.ia32_code.specs.declared.instruction.Operand.{Operand}
 use Rattle.object_layout.specs.Classes.{ShapesView}
 use Rattle.object_layout.specs.Laws.{ClassLaws}
 use Rattle.tal_types.specs.declared.types.Ty.{Ty}
-use Rattle.tal_types.specs.declared.types.Ty.TheVariants.{Num}
 use Rattle.tal_types.specs.declared.types.FlagKind.{FlagKind}
 use Rattle.tal_types.specs.declared.signatures.Sig.{Sig}
 use Rattle.tal_types.specs.declared.views.Span.{Span}
 use Rattle.tal_types.specs.Types.{sub}
 use Rattle.tal_types.specs.Contexts.{LiveContext, LiveBelow, kind_below, all_sub}
 use Rattle.tal_types.specs.Shown.{ShownImage}
-use Rattle.tal_types.proofs.Orders.{sub-refl, sub-trans}
+use Rattle.tal_types.proofs.Orders.{sub-trans}
 use Rattle.tal_flow.specs.declared.forms.Form.{Form}
 use Rattle.tal_flow.specs.declared.forms.Form.TheVariants.{Refused, Compute, Move, Address, Compare, TestBits, PushOf, PopTo, DropSlots, CallTo, CallBy, Return, Jump, Branch, Nothing}
 use Rattle.tal_flow.specs.declared.calls.Called.{Called}
@@ -46,9 +45,6 @@ allows-below j k c h e = grind arith
 
 kind_there : (j k : Option FlagKind) → KindBelow j k → is_some k ≡ true → is_some j ≡ true
 kind_there j k h e = grind arith
-
-num_storable-below : (v : ShownImage) → ClassLaws v.shapes → (a b : LiveContext) (x : Operand) → LiveBelow v.shapes a b → writable v b x ≡ true → storable v b Num x ≡ true → storable v a Num x ≡ true
-num_storable-below v l a b x h w e = storable-below v l a b x Num Num h (sub-refl v.shapes Num) w e
 
 stored-below : (v : ShownImage) → ClassLaws v.shapes → (a b : LiveContext) (pc : ℕ) (d x : Operand) → LiveBelow v.shapes a b → writable v b d ≡ true → storable v b (type_of v b pc x) d ≡ true → storable v a (type_of v a pc x) d ≡ true
 stored-below v l a b pc d x h w e = storable-below v l a b d _ _ h (type_of-below v l a b pc x h) w e
@@ -90,7 +86,7 @@ call_by-holds v l a b pc x h e f = called-below v.shapes _ _ (call_by-below v l 
 pub operand_rule-below : (v : ShownImage) → ClassLaws v.shapes → (a b : LiveContext) (pc : ℕ) (f : Form) → LiveBelow v.shapes a b → OneHead a → operand_rule v b pc f ≡ None → operand_rule v a pc f ≡ None
 unfolding operand_rule
 operand_rule-below v l a b pc Refused h one e = absurd (grind arith)
-operand_rule-below v l a b pc (Compute xs d rs k) h one e = grind (arith, all_found-below v l a b, all_readable-below v l a b, found-below v l a b, writable-below v l a b, num_storable-below v l a b, all_num-below v l a b)
+operand_rule-below v l a b pc (Compute xs d rs k) h one e = grind (arith, all_found-below v l a b, all_readable-below v l a b, found-below v l a b, writable-below v l a b, all_num-below v l a b)
 operand_rule-below v l a b pc (Move d x) h one e = grind (arith, found-below v l a b, readable-below v l a b, writable-below v l a b, stored-below v l a b)
 operand_rule-below v l a b pc (Address r m) h one e = grind (arith, address-below v.shapes a b m h)
 operand_rule-below v l a b pc (Compare d x) h one e = grind (arith, found-below v l a b, kind_there (compare_kind v a pc d x) (compare_kind v b pc d x) (compare_kind-below v l a b pc d x h one))

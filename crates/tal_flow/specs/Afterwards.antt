@@ -40,9 +40,11 @@ write r t c = record {
   heads = without r c.heads;
 }
 
+-- the same with another flag kind
 abbrev pub with_kind : FlagKind → LiveContext → LiveContext
 with_kind k c = record c { kind = k }
 
+-- the same with other slots
 abbrev pub with_slots : List Ty → LiveContext → LiveContext
 with_slots ts c = record c { slots = ts }
 

@@ -1,5 +1,5 @@
 -- Calls: of functions by their signatures, and of the Nucleus's entries.
-use Rattle.std.specs.Prelude.{ℕ, ◌-◌, ◌/◌, ◌%◌, ◌==◌, Bool, true, false, ◌&&◌, nat_le, List, [], ◌∷◌, Option, Some, None, slice_get, if◌then◌else◌}
+use Rattle.std.specs.Prelude.{ℕ, ◌-◌, ◌/◌, ◌%◌, ◌==◌, Bool, true, false, ◌&&◌, nat_le, List, [], ◌∷◌, Option, Some, None, slice_get, is_some, if◌then◌else◌}
 use Rattle.std.specs.Option.{option_and_then}
 use Rattle.ia32_code.specs.declared.instruction.Reg.TheVariants.{Eax, Ecx}
 use Rattle.object_layout.specs.Classes.{ShapesView}
@@ -18,6 +18,7 @@ use Rattle.tal_flow.specs.declared.calls.Called.TheVariants.{Nowhere, Misfit, Gi
 unfoldable pub arguments_fit : ShapesView → LiveContext → Sig → Bool
 arguments_fit s c sig = every (λ r. sub s (c.regs r) (register_type sig.params r))
 
+-- a call of a function of the signature, if there is one
 abbrev pub called_with : ShapesView → LiveContext → Option Sig → Called
 called_with s c None = Nowhere
 called_with s c (Some sig) = if arguments_fit s c sig then Gives sig.result else Misfit
@@ -36,6 +37,10 @@ nucleus_arguments =
 unfoldable pub entry_number : ℕ → Option ℕ
 entry_number address = if nat_le 0x1000 address && ((address - 0x1000) % 16 == 0) then Some ((address - 0x1000) / 16) else None
 
+-- a Nucleus entry stands at the address
+unfoldable pub is_entry : ℕ → Bool
+is_entry address = is_some (option_and_then (slice_get nucleus_arguments) (entry_number address))
+
 -- what an entry gives, where EAX and ECX have these types
 unfoldable pub entry_gives : Arguments → Ty → Ty → Called
 entry_gives Table (ty.Tab c) ecx = Gives (ty.Ref c)
@@ -45,6 +50,7 @@ entry_gives OneNumber ty.Num ecx = Gives ty.Num
 entry_gives TwoNumbers ty.Num ty.Num = Gives ty.Num
 entry_gives _ eax ecx = Misfit
 
+-- a call of an entry that asks this, or else the other call
 abbrev pub entry_or : Called → LiveContext → Option Arguments → Called
 entry_or otherwise c None = otherwise
 entry_or otherwise c (Some arguments) = entry_gives arguments (c.regs Eax) (c.regs Ecx)
@@ -54,6 +60,7 @@ unfoldable pub call_to : ShownImage → LiveContext → ℕ → Called
 call_to v c address =
     entry_or (call_of_signature v c (v.function_at address)) c (option_and_then (slice_get nucleus_arguments) (entry_number address))
 
+-- the signature of the function whose address it is
 abbrev pub signature_in : Ty → Option ℕ
 signature_in (ty.Code g) = Some g
 signature_in _ = None

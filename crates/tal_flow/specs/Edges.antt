@@ -60,6 +60,7 @@ add_pair i a c = record c { pairs = λ j b. (same j i && same b a) || c.pairs j 
 unfoldable pub meet_class : ShapesView → LiveContext → Reg → ℕ → ℕ → ContextView
 meet_class s c r k d = if within s k d then Live (refine_reg r (Obj k) c) else if within s d k then Live (refine_reg r (Obj d) c) else Dead
 
+-- the same where register r has the type; other types tell nothing
 unfoldable pub meet : ShapesView → LiveContext → Reg → Ty → ℕ → ContextView
 meet s c r (Obj k) d = meet_class s c r k d
 meet s c r (Ref k) d = meet_class s c r k d
@@ -96,6 +97,7 @@ unfoldable pub falls_to : ShownImage → ContextView → ℕ → Form → Contex
 falls_to v Dead pc form = Dead
 falls_to v (Live c) pc form = falling v c pc form
 
+-- the same for a jump or a branch
 unfoldable pub branches_to : ShownImage → ContextView → Form → ContextView
 branches_to v Dead form = Dead
 branches_to v (Live c) form = branching v c form

@@ -16,18 +16,18 @@ use Rattle.tal_flow.specs.declared.forms.Form.TheVariants.{Refused, Compute, Mov
 unfoldable pub target : ℕ → ℤ → ℕ
 target next distance = (next + cast_unsigned w32 distance) % 2 ^ 32
 
--- one, two or three sources
+-- one, two or three operands
 abbrev pub one : Operand → List Operand
-one a = a ∷ a ∷ a ∷ []
+one a = a ∷ []
 
 abbrev pub two : Operand → Operand → List Operand
-two a b = a ∷ b ∷ b ∷ []
+two a b = a ∷ b ∷ []
 
 abbrev pub three : Operand → Operand → Operand → List Operand
 three a b c = a ∷ b ∷ c ∷ []
 
 -- the form of an instruction, where the next one is at `next`. A LEA that is not of memory into a register
--- has no spelling
+-- is refused
 unfoldable pub form_of : ℕ → Inst → Form
 form_of next (inst.Alu alu.Cmp d x) = Compare d x
 form_of next (inst.Alu alu.Add (R Esp) (I n)) = DropSlots n

@@ -7,7 +7,7 @@ use Rattle.ia32_code.specs.declared.instruction.Mem.{Mem}
 use Rattle.ia32_code.specs.declared.instruction.Operand.{Operand}
 use Rattle.ia32_code.specs.declared.instruction.Operand.TheVariants.{R, M, I}
 use Rattle.object_layout.specs.declared.rows.FieldTy.{FieldTy}
-use Rattle.object_layout.specs.Areas.{word_index}
+use Rattle.object_layout.specs.Areas.{statics_start, word_index}
 use Rattle.object_layout.specs.Classes.{ShapesView, field_at, slot_at, Element}
 use Rattle.tal_types.specs.declared.types.Ty.{Ty}
 use Rattle.tal_types.specs.declared.types.Ty.TheVariants.{Num, Ref, Obj, ArrRef, Arr, Fun, Code, Tab, Desc, Junk}
@@ -20,12 +20,13 @@ use Rattle.tal_flow.specs.declared.places.Place.TheVariants.{Whole, Slot, Length
 
 -- ---- places, by base and index
 
+-- the place of a value of a field's type
 abbrev pub whole : Option FieldTy → Option Place
 whole field = option_map (λ t. Whole (of_field t)) field
 
--- static: no base, no index, the word of a static; static j stands at 0x300000 + 4j
+-- static: no base, no index, the word of a static, from the first one's on
 unfoldable pub static_place : List FieldTy → ℕ → Option Place
-static_place statics disp = whole (option_and_then (slice_get statics) (word_index 0x300000 disp))
+static_place statics disp = whole (option_and_then (slice_get statics) (word_index statics_start disp))
 
 -- slot: base ESP, no index, the word of a slot; slot i stands at ESP + 4i
 unfoldable pub slot_place : LiveContext → ℕ → Option Place
@@ -59,10 +60,12 @@ based s c r (Arr k) (Some i) scale disp = element_place s c r k i scale disp
 based s c r (Tab k) None scale disp = table_place s r k disp
 based s c r _ _ scale disp = None
 
+-- the place at base ESP
 abbrev pub stack_place : LiveContext → Option Reg → ℕ → Option Place
 stack_place c None disp = slot_place c disp
 stack_place c (Some i) disp = None
 
+-- the place at a base and an index
 abbrev pub located : ShapesView → List FieldTy → LiveContext → Option Reg → Option Reg → ℕ → ℕ → Option Place
 located s statics c None None scale disp = static_place statics disp
 located s statics c None (Some i) scale disp = None
@@ -137,6 +140,7 @@ type_of v c pc (I n) = immediate_type v pc n
 
 -- ---- what rules ask of one operand
 
+-- the register is there, and is ESP
 abbrev pub is_esp : Option Reg → Bool
 is_esp r = option_map_or (λ q. same q Esp) r false
 

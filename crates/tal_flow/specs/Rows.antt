@@ -41,6 +41,7 @@ unfoldable pub unmarked_zero : ShownImage → ℕ → Operand → Bool
 unmarked_zero v pc (I n) = (n == 0) && not (is_some (v.mark_at pc))
 unmarked_zero v pc _ = false
 
+-- the class whose table has the type
 abbrev pub class_of : Ty → Option ℕ
 class_of (ty.Tab c) = Some c
 class_of _ = None
@@ -50,6 +51,7 @@ unfoldable pub marked_class : ShownImage → ℕ → Operand → Option ℕ
 marked_class v pc (I n) = class_of (immediate_type v pc n)
 marked_class v pc _ = None
 
+-- the base, where the place is a length
 abbrev pub base_of_length : Option Place → Option Reg → Option Reg
 base_of_length (Some Length) base = base
 base_of_length _ base = None
@@ -76,6 +78,7 @@ first_head c t =
     else if c.heads t Edi then Some Edi
     else None
 
+-- the kind of a comparison of a display in register t with class d
 unfoldable pub class_test : LiveContext → Reg → ℕ → FlagKind
 class_test c t d = option_map_or (λ r. kind.IsA r d) (first_head c t) kind.Eq
 
@@ -84,10 +87,12 @@ unfoldable pub display_row : ShapesView → LiveContext → Option Place → Opt
 display_row s c (Some (Display t k)) (Some d) = if has_depth s d k then Some (class_test c t d) else None
 display_row s c _ _ = None
 
+-- the kind of a comparison of two numbers, of which the second may be the length of an array
 abbrev pub bound_kind : Operand → Option Reg → FlagKind
 bound_kind (R i) (Some a) = kind.Bound i a
 bound_kind _ _ = kind.Num
 
+-- the kind of a comparison with null
 abbrev pub null_kind : Operand → FlagKind
 null_kind (R r) = kind.NullTest r
 null_kind _ = kind.Eq
@@ -100,10 +105,12 @@ compare_row s c d Objects Objects place array zero class = Some kind.Eq
 compare_row s c d Arrays Arrays place array zero class = Some kind.Eq
 compare_row s c d f g place array zero class = if has_null f && zero then Some (null_kind d) else display_row s c place class
 
+-- the kind that CMP d,x gives
 unfoldable pub compare_kind : ShownImage → LiveContext → ℕ → Operand → Operand → Option FlagKind
 compare_kind v c pc d x =
     compare_row v.shapes c d (family (type_of v c pc d)) (family (type_of v c pc x)) (operand_place v c d) (length_base v c x) (unmarked_zero v pc x) (marked_class v pc x)
 
+-- both operands are one register
 abbrev pub same_register : Operand → Operand → Bool
 same_register (R r) (R q) = same r q
 same_register _ _ = false
@@ -113,5 +120,6 @@ unfoldable pub test_row : Operand → Family → Family → Bool → Option Flag
 test_row d Numbers Numbers alike = Some kind.Num
 test_row d f g alike = if alike && has_null f then Some (null_kind d) else None
 
+-- the kind that TEST d,x gives
 unfoldable pub test_kind : ShownImage → LiveContext → ℕ → Operand → Operand → Option FlagKind
 test_kind v c pc d x = test_row d (family (type_of v c pc d)) (family (type_of v c pc x)) (same_register d x)

@@ -8,7 +8,6 @@ use Rattle.ia32_code.specs.declared.instruction.Mem.{Mem}
 use Rattle.ia32_code.specs.declared.instruction.Inst.{Inst}
 use Rattle.object_layout.specs.Classes.{ShapesView}
 use Rattle.tal_types.specs.declared.types.Ty.{Ty}
-use Rattle.tal_types.specs.declared.types.Ty.TheVariants.{Num}
 use Rattle.tal_types.specs.declared.signatures.Sig.{Sig}
 use Rattle.tal_types.specs.declared.views.Span.{Span}
 use Rattle.tal_types.specs.Types.{sub}
@@ -80,7 +79,7 @@ operand_trials v c pc (Compute sources d wide kind) =
     ask 2 (list_all spares_esp sources && spares_esp d)
     ∷ ask 3 (list_all (found v c) sources && found v c d)
     ∷ ask 4 (list_all (readable v c) sources && writable v c d)
-    ∷ ask 5 (list_all (λ x. is_num (type_of v c pc x)) sources && storable v c Num d)
+    ∷ ask 5 (list_all (λ x. is_num (type_of v c pc x)) sources)
     ∷ []
 operand_trials v c pc (Move d x) =
     ask 2 (spares_esp d && spares_esp x)

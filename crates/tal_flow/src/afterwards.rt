@@ -6,14 +6,13 @@ ghost use Rattle.tal_flow.specs.Rules.{operand_rule, may_drop};
 
 use crate::calls::{call_by, call_to, result_of};
 use crate::forms::Form;
-use crate::known::{
-    add_head, after_call, drop_slots, pop_to, push, same, set_kind, set_slot, write,
-};
+use crate::known::{add_head, after_call, drop_slots, pop_to, push, set_kind, set_slot, write};
 use crate::operands::{operand_place, type_of};
-use crate::places::{Place, word_index};
+use crate::places::Place;
 use crate::rows::{compare_kind, test_kind};
 use ia32_code::{Operand, Reg};
-use tal_types::{Context, FlagKind, ImageView, Ty};
+use object_layout::areas::word_index;
+use tal_types::{Context, FlagKind, ImageView, Ty, same};
 
 /// Stores a value of the type in an operand, which is not ESP.
 #[tactic(auto, unfolding(crate::specs::Afterwards::store, crate::specs::Afterwards::store_place, crate::specs::Places::spares_esp))]
@@ -88,7 +87,8 @@ fn compute<V: ImageView>(
 /// What a MOV leaves.
 fn move_to<V: ImageView>(image: &V, context: &mut Context, pc: u32, d: &Operand, x: &Operand)
     requires { spares_esp d.now ≡ true }
-    ensures known { live_of context.new ≡ note_head d.now (operand_place (V.shown image.now) (live_of context.old) x.now) (store (V.shown image.now) d.now (type_of (V.shown image.now) (live_of context.old) pc x.now) (live_of context.old)) }
+    ensures known { live_of context.new ≡ note_head d.now (operand_place (V.shown image.now) (live_of context.old) x.now)
+        (store (V.shown image.now) d.now (type_of (V.shown image.now) (live_of context.old) pc x.now) (live_of context.old)) }
     ensures dead { context.new.dead ≡ context.old.dead }
 {
     let t = type_of(image, context, pc, x);

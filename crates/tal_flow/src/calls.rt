@@ -1,7 +1,7 @@
 ghost use Rattle.std.specs.Prelude.{◌≡◌, slice_get};
 ghost use Rattle.std.specs.Option.{option_and_then};
 ghost use Rattle.tal_types.specs.Kept.{live_of};
-ghost use Rattle.tal_flow.specs.Calls.{arguments_fit, call_of_signature, nucleus_arguments, entry_number, entry_gives, call_to, call_by, is_callable, is_fit, result_of};
+ghost use Rattle.tal_flow.specs.Calls.{arguments_fit, call_of_signature, nucleus_arguments, entry_number, is_entry, entry_gives, call_to, call_by, is_callable, is_fit, result_of};
 
 use crate::known::register;
 use ia32_code::Reg;
@@ -89,6 +89,14 @@ fn entry_arguments(address: u32) -> Option<Arguments>
         10 => Some(Arguments::Nothing),
         _ => None,
     }
+}
+
+/// Whether a Nucleus entry stands at an address.
+#[tactic(auto, unfolding(crate::specs::Calls::is_entry))]
+pub fn is_entry(address: u32) -> bool
+    ensures { result ≡ is_entry address }
+{
+    entry_arguments(address).is_some()
 }
 
 /// What an entry gives, where EAX and ECX have these types.

@@ -1,12 +1,11 @@
 ghost use Rattle.std.specs.Prelude.{◌≡◌, ◌≢◌, false};
 ghost use Rattle.tal_types.specs.Kept.{live_of, context_of};
-ghost use Rattle.tal_types.specs.Types.{within};
 ghost use Rattle.tal_flow.specs.Edges.{allows, told_by_branch, told_by_fall, not_null, meet_class, meet, refine};
 
 use crate::known::{add_pair, refine_reg, register};
 use ia32_code::{Cond, Reg};
 use object_layout::Shapes;
-use tal_types::{Context, FlagKind, Ty};
+use tal_types::{Context, FlagKind, Ty, within};
 
 /// The number of a typing rule, 1 to 17.
 #[derive(Clone, Copy, Debug, PartialEq, Eq)]
@@ -84,14 +83,6 @@ fn not_null(t: Ty) -> Ty
         Ty::Fun(g) => Ty::Code(g),
         _ => t,
     }
-}
-
-/// Whether class `c` is `d`, or has `d` as an ancestor.
-#[tactic(auto, unfolding(tal_types::specs::Types::within))]
-fn within(shapes: &Shapes, c: u32, d: u32) -> bool
-    ensures { result ≡ within shapes.now c d }
-{
-    c == d || shapes.below(c, d)
 }
 
 /// Of an object of class `k` or below in `r` it is told that it is of class `d` or below.

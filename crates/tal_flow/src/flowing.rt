@@ -106,7 +106,8 @@ fn both_fit<V: ImageView>(
     fallen: &Context,
     next: u32,
 ) -> bool
-    ensures { result ≡ (edge_fits (V.shown image.now).shapes (context_of taken.now) ((V.shown image.now).block_at target) && edge_fits (V.shown image.now).shapes (context_of fallen.now) ((V.shown image.now).block_at next)) }
+    ensures { result ≡ (edge_fits (V.shown image.now).shapes (context_of taken.now) ((V.shown image.now).block_at target)
+        && edge_fits (V.shown image.now).shapes (context_of fallen.now) ((V.shown image.now).block_at next)) }
 {
     fits(image, taken, target) && fits(image, fallen, next)
 }

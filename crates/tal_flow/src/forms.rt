@@ -2,18 +2,75 @@ ghost use Rattle.std.specs.Prelude.{◌≡◌, Some, true, false};
 ghost use Rattle.tal_flow.specs.Forms.{target, one, two, three, form_of};
 
 use ia32_code::{Alu, Cond, Count, Inst, Mem, Operand, Reg, Shift};
+use std::marker::Model;
 use tal_types::FlagKind;
 
+/// One, two or three operands.
+#[derive(Debug, Drop)]
+pub struct Operands {
+    /// the operands, and the last of them again behind
+    all: [Operand; 3],
+    count: usize,
+}
+
+impl Model for Operands {
+    ghost use Rattle.std.specs.Prelude.{◌≤◌, List, take};
+    ghost use Rattle.ia32_code.specs.declared.instruction.Operand.{Operand};
+
+    ghost Value = { List Operand };
+
+    ghost view = { λ o. take o.count o.all };
+
+    ghost invariant = { λ o. o.count ≤ 3 };
+}
+
+impl Operands {
+    ghost use Rattle.std.specs.Prelude.{◌≡◌};
+
+    /// The operands as a slice.
+    pub(crate) fn as_slice(&self) -> &[Operand]
+        ensures { result.now ≡ self.now }
+    {
+        &self.all[..self.count]
+    }
+}
+
+fn one(a: Operand) -> Operands
+    ensures { result ≡ one a }
+{
+    Operands {
+        all: [a, a, a],
+        count: 1,
+    }
+}
+
+fn two(a: Operand, b: Operand) -> Operands
+    ensures { result ≡ two a b }
+{
+    Operands {
+        all: [a, b, b],
+        count: 2,
+    }
+}
+
+fn three(a: Operand, b: Operand, c: Operand) -> Operands
+    ensures { result ≡ three a b c }
+{
+    Operands {
+        all: [a, b, c],
+        count: 3,
+    }
+}
+
 /// An instruction, by what typing says of it. Targets are addresses.
-#[derive(Clone, Copy, Debug, PartialEq, Eq)]
+#[derive(Debug, Drop)]
 pub enum Form {
-    /// an instruction of the system, or one without a spelling
+    /// an instruction of the system, or a LEA that is not of memory into a register
     Refused,
-    /// an operation on numbers. Where there are fewer than three sources, the last stands again; where
-    /// it is `wide`, the upper half of the result goes to EDX; `kind` is the flag kind afterwards, none
-    /// where it stays
+    /// an operation on numbers. Where it is `wide`, the upper half of the result goes to EDX; `kind` is the
+    /// flag kind afterwards, none where it stays
     Compute {
-        sources: [Operand; 3],
+        sources: Operands,
         destination: Operand,
         wide: bool,
         kind: Option<FlagKind>,
@@ -48,7 +105,7 @@ fn target(next: u32, distance: i32) -> u32
 }
 
 /// An operation on the first source and others, which goes to its destination.
-fn compute(sources: [Operand; 3], destination: Operand, kind: Option<FlagKind>) -> Form
+fn compute(sources: Operands, destination: Operand, kind: Option<FlagKind>) -> Form
     ensures { result ≡ Form.Compute sources destination false kind }
 {
     Form::Compute {
@@ -60,7 +117,7 @@ fn compute(sources: [Operand; 3], destination: Operand, kind: Option<FlagKind>) 
 }
 
 /// A product or a quotient of 64 bits, which goes to EAX and EDX.
-fn wide(sources: [Operand; 3]) -> Form
+fn wide(sources: Operands) -> Form
     ensures { result ≡ Form.Compute sources (Operand.R Reg.Eax) true (Some FlagKind.Lost) }
 {
     Form::Compute {
@@ -79,7 +136,7 @@ fn alu_form(next: u32, op: Alu, dst: Operand, src: Operand) -> Form
     match (op, dst, src) {
         (Alu::Cmp, _, _) => Form::Compare(dst, src),
         (Alu::Add, Operand::R(Reg::Esp), Operand::I(n)) => Form::DropSlots(n),
-        _ => compute([dst, src, src], dst, Some(FlagKind::Num)),
+        _ => compute(two(dst, src), dst, Some(FlagKind::Num)),
     }
 }
 
@@ -90,7 +147,7 @@ fn shift_form(next: u32, op: Shift, dst: Operand, by: Count) -> Form
 {
     match by {
         Count::By(n) => compute(
-            [dst; 3],
+            one(dst),
             dst,
             if n % 32 == 0 {
                 None
@@ -100,7 +157,7 @@ fn shift_form(next: u32, op: Shift, dst: Operand, by: Count) -> Form
         ),
         Count::Cl => {
             let count = Operand::R(Reg::Ecx);
-            compute([dst, count, count], dst, Some(FlagKind::Lost))
+            compute(two(dst, count), dst, Some(FlagKind::Lost))
         }
     }
 }
@@ -121,15 +178,15 @@ pub(crate) fn form_of(next: u32, inst: &Inst) -> Form
         } => Form::Address(r, m),
         Inst::Lea { .. } | Inst::Priv { .. } => Form::Refused,
         Inst::Test { dst, src } => Form::TestBits(dst, src),
-        Inst::Inc(dst) | Inst::Dec(dst) => compute([dst; 3], dst, Some(FlagKind::Eq)),
-        Inst::Not(dst) => compute([dst; 3], dst, None),
-        Inst::Neg(dst) => compute([dst; 3], dst, Some(FlagKind::Num)),
-        Inst::Mul(src) | Inst::Imul1(src) => wide([eax, src, src]),
-        Inst::Div(src) | Inst::Idiv(src) => wide([eax, edx, src]),
-        Inst::Imul2 { dst, src } => compute([dst, src, src], dst, Some(FlagKind::Lost)),
-        Inst::Imul3 { dst, src, .. } => compute([src; 3], dst, Some(FlagKind::Lost)),
+        Inst::Inc(dst) | Inst::Dec(dst) => compute(one(dst), dst, Some(FlagKind::Eq)),
+        Inst::Not(dst) => compute(one(dst), dst, None),
+        Inst::Neg(dst) => compute(one(dst), dst, Some(FlagKind::Num)),
+        Inst::Mul(src) | Inst::Imul1(src) => wide(two(eax, src)),
+        Inst::Div(src) | Inst::Idiv(src) => wide(three(eax, edx, src)),
+        Inst::Imul2 { dst, src } => compute(two(dst, src), dst, Some(FlagKind::Lost)),
+        Inst::Imul3 { dst, src, .. } => compute(one(src), dst, Some(FlagKind::Lost)),
         Inst::Shift { op, dst, by } => shift_form(next, op, dst, by),
-        Inst::Cdq => compute([eax; 3], edx, None),
+        Inst::Cdq => compute(one(eax), edx, None),
         Inst::Nop => Form::Nothing,
         Inst::Push(src) => Form::PushOf(src),
         Inst::Pop(r) => Form::PopTo(r),

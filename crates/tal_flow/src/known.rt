@@ -6,7 +6,7 @@ ghost use Rattle.tal_flow.specs.Afterwards.{kind_without, without, write, with_k
 ghost use Rattle.tal_flow.specs.Edges.{refine_reg, add_pair};
 
 use ia32_code::Reg;
-use tal_types::{Context, FlagKind, Ty};
+use tal_types::{Context, FlagKind, Ty, same};
 
 /// For each register the pairs that do not name it: the bits of all others.
 const KEPT: [u64; 8] = [
@@ -20,29 +20,12 @@ const KEPT: [u64; 8] = [
     0x007f7f7f7f7f7f7f,
 ];
 
-/// The number of a register.
-pub(crate) fn number(r: Reg) -> usize
+/// The number of a register, as an index.
+fn number(r: Reg) -> usize
     ensures value { result ≡ number r }
     ensures below { result < 8 }
 {
-    match r {
-        Reg::Eax => 0,
-        Reg::Ecx => 1,
-        Reg::Edx => 2,
-        Reg::Ebx => 3,
-        Reg::Esp => 4,
-        Reg::Ebp => 5,
-        Reg::Esi => 6,
-        Reg::Edi => 7,
-    }
-}
-
-/// Whether two registers are one.
-#[tactic(auto, unfolding(tal_types::specs::Contexts::same))]
-pub(crate) fn same(r: Reg, q: Reg) -> bool
-    ensures { result ≡ same r q }
-{
-    r == q
+    usize::from(r.number())
 }
 
 /// The type of a register.

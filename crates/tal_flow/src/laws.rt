@@ -37,7 +37,8 @@ pub fn one_head()
 pub fn strongest_contexts()
     ensures exactly { (v : ShownImage) → ClassLaws v.shapes → BlocksHaveOneHead v → (xs : List Placed) →
         ((cs : List ContextView) × NoneFails v xs cs × Joined v xs cs Dead) ↔ NoneFails v xs (contexts v xs Dead) }
-    ensures rows { (v : ShownImage) (xs : List Placed) (pc : ℕ) (x : Placed) → NoneFails v xs (contexts v xs Dead) → placed_at xs pc ≡ Some x → NoRuleAt v (At v xs pc) x }
-    ensures next { (v : ShownImage) (xs : List Placed) (n pc : ℕ) (x y : Placed) → Chained n xs → placed_at xs pc ≡ Some x → placed_at xs (next_of x.pc x.len) ≡ Some y →
-        At v xs (next_of x.pc x.len) ≡ start v (next_of x.pc x.len) (falls_from v (At v xs pc) x) }
+    ensures rows { (v : ShownImage) (xs : List Placed) (pc : ℕ) (x : Placed) → NoneFails v xs (contexts v xs Dead) → placed_at xs pc ≡ Some x →
+        NoRuleAt v (At v xs pc) x }
+    ensures next { (v : ShownImage) (xs : List Placed) (n pc : ℕ) (x y : Placed) → Chained n xs → placed_at xs pc ≡ Some x →
+        placed_at xs (next_of x.pc x.len) ≡ Some y → At v xs (next_of x.pc x.len) ≡ start v (next_of x.pc x.len) (falls_from v (At v xs pc) x) }
 {}

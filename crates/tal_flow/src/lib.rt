@@ -20,6 +20,7 @@ mod places;
 mod rows;
 mod rules;
 
+pub use calls::is_entry;
 pub use edges::{Edges, Rule};
 pub use flowing::flow;
 pub use places::{Place, place_of};

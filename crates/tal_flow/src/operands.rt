@@ -3,10 +3,10 @@ ghost use Rattle.std.specs.List.{list_all};
 ghost use Rattle.tal_types.specs.Kept.{live_of};
 ghost use Rattle.tal_flow.specs.Places.{place_in, place_type, is_readable, is_writable, takes, operand_place, mark_type, immediate_type, type_of, is_esp, spares_esp, found, readable, writable, is_num, storable};
 
-use crate::known::{register, same};
+use crate::known::register;
 use crate::places::{Place, place_in};
 use ia32_code::{Operand, Reg};
-use tal_types::{Context, ImageView, Mark, Ty, sub};
+use tal_types::{Context, ImageView, Mark, Ty, same, sub};
 
 /// The type of what is read at a place.
 #[tactic(auto, unfolding(crate::specs::Places::place_type, tal_types::specs::Kept::live_of))]

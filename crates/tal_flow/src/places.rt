@@ -1,10 +1,10 @@
 ghost use Rattle.std.specs.Prelude.{◌≡◌, Option, Some, None};
-ghost use Rattle.object_layout.specs.Areas.{word_index};
 ghost use Rattle.tal_types.specs.Kept.{live_of, context_of};
 ghost use Rattle.tal_flow.specs.Places.{whole, static_place, slot_place, object_place, array_place, element_place, display_place, table_place, based, place_in, PlaceType};
 
 use crate::known::{has_pair, register};
 use ia32_code::{Mem, Reg};
+use object_layout::areas::{STATICS_START, word_index};
 use object_layout::{FieldTy, Shapes};
 use tal_types::{Context, Ty};
 
@@ -25,17 +25,6 @@ pub enum Place {
     Display(Reg, u32),
 }
 
-/// Which word of those from byte `first` on stands at a byte.
-#[tactic(auto, unfolding(object_layout::specs::Areas::word_index))]
-pub(crate) fn word_index(first: u32, byte: u32) -> Option<u32>
-    ensures { result ≡ word_index first byte }
-{
-    if byte < first || (byte - first) % 4 != 0 {
-        return None;
-    }
-    Some((byte - first) / 4)
-}
-
 /// A place that holds values of a field's type.
 fn whole(field: Option<FieldTy>) -> Option<Place>
     ensures { result ≡ whole field }
@@ -47,7 +36,7 @@ fn whole(field: Option<FieldTy>) -> Option<Place>
 fn static_place(statics: &[FieldTy], disp: u32) -> Option<Place>
     ensures { result ≡ static_place statics.now disp }
 {
-    let j = word_index(0x300000, disp)?;
+    let j = word_index(STATICS_START, disp)?;
     whole(statics.get(j as usize).copied())
 }
 

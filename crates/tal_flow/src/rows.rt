@@ -2,12 +2,12 @@ ghost use Rattle.std.specs.Prelude.{◌≡◌};
 ghost use Rattle.tal_types.specs.Kept.{live_of};
 ghost use Rattle.tal_flow.specs.Rows.{family, has_null, unmarked_zero, class_of, marked_class, base_of_length, length_base, has_depth, first_head, class_test, display_row, bound_kind, null_kind, compare_row, compare_kind, same_register, test_row, test_kind};
 
-use crate::known::{has_pair, same};
+use crate::known::has_pair;
 use crate::operands::{immediate_type, operand_place, type_of};
 use crate::places::Place;
 use ia32_code::{Operand, Reg};
 use object_layout::Shapes;
-use tal_types::{Context, FlagKind, ImageView, Ty};
+use tal_types::{Context, FlagKind, ImageView, Ty, same};
 
 /// What CMP and TEST ask of a type.
 #[derive(Clone, Copy, Debug, PartialEq, Eq)]

@@ -10,15 +10,15 @@ ghost use Rattle.tal_flow.specs.Rules.{demand, in_function, fits_result, is_targ
 use crate::calls::{Called, call_by, call_to};
 use crate::edges::allows;
 use crate::forms::Form;
-use crate::known::{register, same};
+use crate::known::register;
 use crate::operands::{
     all_found, all_numbers, all_readable, all_spare_esp, found, is_esp, is_num, readable,
     spares_esp, storable, type_of, writable,
 };
-use crate::places::word_index;
 use crate::rows::{compare_kind, test_kind};
 use ia32_code::{Mem, Operand, Reg};
-use tal_types::{Context, ImageView, Ty, sub};
+use object_layout::areas::word_index;
+use tal_types::{Context, ImageView, Ty, same, sub};
 
 /// Whether an address lies in the function that has the byte at `pc`.
 #[tactic(auto, unfolding(crate::specs::Rules::in_function))]
@@ -69,7 +69,7 @@ fn compute_rule<V: ImageView>(
     image: &V,
     context: &Context,
     pc: u32,
-    sources: &[Operand; 3],
+    sources: &[Operand],
     d: &Operand,
 ) -> Option<u8>
     ensures { (wide : Bool) (kind : Option FlagKind) → result ≡ operand_rule (V.shown image.now) (live_of context.now) pc (Form.Compute sources.now d.now wide kind) }
@@ -83,7 +83,7 @@ fn compute_rule<V: ImageView>(
     if !(all_readable(image, context, sources) && writable(image, context, d)) {
         return Some(4);
     }
-    if !(all_numbers(image, context, pc, sources) && storable(image, context, Ty::Num, d)) {
+    if !all_numbers(image, context, pc, sources) {
         return Some(5);
     }
     None
@@ -180,7 +180,8 @@ fn test_rule<V: ImageView>(
 
 /// The least of the rules 2 to 4 that fails at an operand that is read.
 fn read_rule<V: ImageView>(image: &V, context: &Context, x: &Operand) -> Option<u8>
-    ensures { result ≡ demand 2 (spares_esp x.now) (demand 3 (found (V.shown image.now) (live_of context.now) x.now) (demand 4 (readable (V.shown image.now) (live_of context.now) x.now) None)) }
+    ensures { result ≡ demand 2 (spares_esp x.now) (demand 3 (found (V.shown image.now) (live_of context.now) x.now)
+        (demand 4 (readable (V.shown image.now) (live_of context.now) x.now) None)) }
 {
     if !spares_esp(x) {
         return Some(2);
@@ -286,7 +287,7 @@ pub(crate) fn operand_rule<V: ImageView>(
             sources,
             destination,
             ..
-        } => compute_rule(image, context, pc, sources, destination),
+        } => compute_rule(image, context, pc, sources.as_slice(), destination),
         Form::Move(d, x) => move_rule(image, context, pc, d, x),
         Form::Address(r, m) => address_rule(context, *r, m),
         Form::Compare(d, x) => compare_rule(image, context, pc, d, x),

@@ -1,4 +1,4 @@
-use crate::{Place, Rule, flow, place_of};
+use crate::{Edges, Place, Rule, flow, is_entry, place_of};
 use ia32_code::{Alu, Cond, Inst, Mem, Operand, Reg};
 use object_layout::{ClassRow, FieldList, FieldTy, KindRow, MethodList, Shapes};
 use std::alloc::Global;
@@ -196,6 +196,37 @@ fn jump_into_an_instruction_has_no_block(rt: HostRuntime) -> Result<(), Fail> {
         (1, Inst::Ret),
     ];
     assert_eq!(rt; refused(&image, &code), Some((0, 14)));
+    Ok(())
+}
+
+#[test]
+fn jump_goes_to_its_block_alone(rt: HostRuntime) -> Result<(), Fail> {
+    let mut image = bare(rt.alloc(), 4)?;
+    image.block = START + 3;
+    let mut context = entry_context(&SIG);
+    let before = context;
+    assert_eq!(rt;
+        flow(&image, &mut context, START, &Inst::Jmp(1), 2).ok(),
+        Some(Edges {
+            branch: Some((START + 3, before)),
+            falls: false
+        })
+    );
+    assert_eq!(rt; context.dead, true);
+    Ok(())
+}
+
+#[test]
+fn entries_stand_at_every_16th_byte(rt: HostRuntime) -> Result<(), Fail> {
+    for (address, there) in [
+        (0xFF0, false),
+        (0x1000, true),
+        (0x1008, false),
+        (0x10A0, true),
+        (0x10B0, false),
+    ] {
+        assert_eq!(rt; is_entry(address), there, "{address:X}");
+    }
     Ok(())
 }
 

@@ -74,6 +74,7 @@ every p = p Eax && (p Ecx && (p Edx && (p Ebx && (p Esp && (p Ebp && (p Esi && p
 unfoldable pub has_all : (Reg → Reg → Bool) → (Reg → Reg → Bool) → Bool
 has_all p q = every (λ r. every (λ t. not (q r t) || p r t))
 
+-- the order of live contexts as a test
 unfoldable pub live_below : ShapesView → LiveContext → LiveContext → Bool
 live_below s a b =
     every (λ r. sub s (a.regs r) (b.regs r))

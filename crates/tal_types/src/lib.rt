@@ -16,7 +16,7 @@ mod types;
 mod views;
 
 pub use contexts::Context;
-pub use order::{context_below, sub};
+pub use order::{context_below, same, sub, within};
 pub use signatures::{FrameRow, Sig, entry_context};
 pub use types::{FlagKind, Ty};
 pub use views::{ImageView, Mark, Span};

@@ -28,7 +28,7 @@ pub fn sub(shapes: &Shapes, t: Ty, u: Ty) -> bool
 
 /// Whether class `c` is `d`, or has `d` as an ancestor.
 #[tactic(auto, unfolding(crate::specs::Types::within))]
-fn within(shapes: &Shapes, c: u32, d: u32) -> bool
+pub fn within(shapes: &Shapes, c: u32, d: u32) -> bool
     ensures { result ≡ within shapes.now c d }
 {
     c == d || shapes.below(c, d)
@@ -51,7 +51,7 @@ fn all_sub(shapes: &Shapes, ts: &[Ty], us: &[Ty]) -> bool
 
 /// Whether two registers are one.
 #[tactic(auto, unfolding(crate::specs::Contexts::same))]
-fn same(r: Reg, q: Reg) -> bool
+pub fn same(r: Reg, q: Reg) -> bool
     ensures { result ≡ same r q }
 {
     r == q
