@@ -8,7 +8,8 @@ use Rattle.frame_tables.specs.Layout.{numbered, rows_at, IsKept}
 use Rattle.frame_tables.proofs.Rows.{different_rows-append, numbered-joined, length-joined}
 
 -- An address and the number of its row at the ends are a row at the end.
-pub rows_at-append : (rows : List FrameRow) (as' ns : List ℕ) (a n : ℕ) → length as' ≡ length ns → rows_at rows (as' ++ a ∷ []) (ns ++ n ∷ []) ≡ rows_at rows as' ns ++ record { pc = a; row = numbered rows n } ∷ []
+pub rows_at-append : (rows : List FrameRow) (as' ns : List ℕ) (a n : ℕ) → length as' ≡ length ns
+    → rows_at rows (as' ++ a ∷ []) (ns ++ n ∷ []) ≡ rows_at rows as' ns ++ record { pc = a; row = numbered rows n } ∷ []
 rows_at-append rows [] [] a n paired = refl
 rows_at-append rows [] (m ∷ ns) a n paired = absurd (omega arith)
 rows_at-append rows (b ∷ as') [] a n paired = absurd (omega arith)
@@ -18,6 +19,7 @@ rows_at-append rows (b ∷ as') (m ∷ ns) a n paired = ap (λ l. record { pc = 
 pub All-first : {X : Type 0} (P : X → Type 0) (x : X) (xs : List X) → All P (x ∷ xs) → P x
 All-first P x xs all = all 0 x (omega arith)
 
+-- what holds of all holds of the rest
 pub All-rest : {X : Type 0} (P : X → Type 0) (x : X) (xs : List X) → All P (x ∷ xs) → All P xs
 All-rest P x xs all k d within = all (suc k) d (omega arith)
 
@@ -38,7 +40,8 @@ known-append few more n ns grows below known =
     alone (suc k) d within = absurd (omega arith)
 
 -- Each address of rows that stand below is below.
-pub addresses-below : (rows : List FrameRow) (as' ns : List ℕ) (pc : ℕ) → length as' ≡ length ns → All (λ r. r.pc < pc) (rows_at rows as' ns) → (i : ℕ) → i < length as' → get_or as' i 0 < pc
+pub addresses-below : (rows : List FrameRow) (as' ns : List ℕ) (pc : ℕ) → length as' ≡ length ns → All (λ r. r.pc < pc) (rows_at rows as' ns) → (i : ℕ) → i < length as'
+    → get_or as' i 0 < pc
 addresses-below rows [] ns pc paired below i within = absurd (omega arith)
 addresses-below rows (a ∷ as') [] pc paired below i within = absurd (omega arith)
 addresses-below rows (a ∷ as') (n ∷ ns) pc paired below zero within = All-first (λ r. r.pc < pc) _ _ below
@@ -50,13 +53,15 @@ get_or-front [] x i within = absurd (omega arith)
 get_or-front (y ∷ xs) x zero within = refl
 get_or-front (y ∷ xs) x (suc i) within = get_or-front xs x i (omega arith)
 
+-- the last number of a list with one more
 pub get_or-end : (xs : List ℕ) (x i : ℕ) → i ≡ length xs → get_or (xs ++ x ∷ []) i 0 ≡ x
 get_or-end [] x i at = rw at refl
 get_or-end (y ∷ xs) x zero at = absurd (omega arith)
 get_or-end (y ∷ xs) x (suc i) at = get_or-end xs x i (omega arith)
 
 -- Addresses rise with a greater one at the end.
-pub rising-append : (xs : List ℕ) (x : ℕ) → ((i j : ℕ) → i < j → j < length xs → get_or xs i 0 < get_or xs j 0) → ((i : ℕ) → i < length xs → get_or xs i 0 < x) → (i j : ℕ) → i < j → j < length (xs ++ x ∷ []) → get_or (xs ++ x ∷ []) i 0 < get_or (xs ++ x ∷ []) j 0
+pub rising-append : (xs : List ℕ) (x : ℕ) → ((i j : ℕ) → i < j → j < length xs → get_or xs i 0 < get_or xs j 0) → ((i : ℕ) → i < length xs → get_or xs i 0 < x)
+    → (i j : ℕ) → i < j → j < length (xs ++ x ∷ []) → get_or (xs ++ x ∷ []) i 0 < get_or (xs ++ x ∷ []) j 0
 rising-append xs x rising above i j before within = by_case (cases_eq j (length xs))
   where
     by_case : (j ≡ length xs) ⊎ (j ≡ length xs → ⊥) → get_or (xs ++ x ∷ []) i 0 < get_or (xs ++ x ∷ []) j 0
@@ -74,7 +79,9 @@ pub record Pushed (rows rows' : List FrameRow) (as' ns : List ℕ) (pc n : ℕ) 
   pub kept : IsKept rows' (as' ++ pc ∷ []) (ns ++ n ∷ [])
   pub table : rows_at rows' (as' ++ pc ∷ []) (ns ++ n ∷ []) ≡ rows_at rows as' ns ++ record { pc = pc; row = row } ∷ []
 
-pub pushes : (rows rows' : List FrameRow) (as' ns : List ℕ) (pc n : ℕ) (row : FrameRow) → IsKept rows as' ns → All (λ r. r.pc < pc) (rows_at rows as' ns) → rows' ≡ joined rows row → length rows' < 2 ^ 32 → n < length rows' → numbered rows' n ≡ row → Pushed rows rows' as' ns pc n row
+-- one row more is kept
+pub pushes : (rows rows' : List FrameRow) (as' ns : List ℕ) (pc n : ℕ) (row : FrameRow) → IsKept rows as' ns → All (λ r. r.pc < pc) (rows_at rows as' ns)
+    → rows' ≡ joined rows row → length rows' < 2 ^ 32 → n < length rows' → numbered rows' n ≡ row → Pushed rows rows' as' ns pc n row
 pushes rows rows' as' ns pc n row kept below made few known is_row =
     let table : rows_at rows' (as' ++ pc ∷ []) (ns ++ n ∷ []) ≡ rows_at rows as' ns ++ record { pc = pc; row = row } ∷ [] =
     rows_at-append rows' as' ns pc n kept.paired ∙ rw (is_row, made, rows_at-joined rows row as' ns kept.known) refl in

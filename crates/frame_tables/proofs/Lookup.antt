@@ -7,7 +7,8 @@ use Rattle.frame_tables.specs.FrameRows.{row_at}
 use Rattle.frame_tables.specs.Layout.{Rises, numbered, rows_at}
 
 -- Where addresses rise, the row at one of them is its own.
-pub row_at-found : (rows : List FrameRow) (xs ns : List ℕ) (pc i d : ℕ) → length xs ≡ length ns → Rises xs → i < length xs → get_or xs i 0 ≡ pc → row_at (rows_at rows xs ns) pc ≡ Some (numbered rows (get_or ns i d))
+pub row_at-found : (rows : List FrameRow) (xs ns : List ℕ) (pc i d : ℕ) → length xs ≡ length ns → Rises xs → i < length xs → get_or xs i 0 ≡ pc
+    → row_at (rows_at rows xs ns) pc ≡ Some (numbered rows (get_or ns i d))
 row_at-found rows [] ns pc i d paired rising within at = absurd (omega arith)
 row_at-found rows (x ∷ xs) [] pc i d paired rising within at = absurd (omega arith)
 row_at-found rows (x ∷ xs) (n ∷ ns) pc zero d paired rising within at =

@@ -46,7 +46,8 @@ list_any-row_of row [] = refl
 list_any-row_of row (k ∷ ks) = ap (λ b. same_row row (row_of k) || b) (list_any-row_of row ks)
 
 -- Where a key joins the kept ones, its row joins theirs.
-pub map-row_of-joined : (row : FrameRow) (ks : List (ℕ × ℕ × ℕ)) → map row_of (if list_any (λ k. same_row row (row_of k)) ks then ks else ks ++ (row.regs, row.slots, row.refs) ∷ []) ≡ joined (map row_of ks) row
+pub map-row_of-joined : (row : FrameRow) (ks : List (ℕ × ℕ × ℕ))
+    → map row_of (if list_any (λ k. same_row row (row_of k)) ks then ks else ks ++ (row.regs, row.slots, row.refs) ∷ []) ≡ joined (map row_of ks) row
 map-row_of-joined row ks = rw (list_any-row_of row ks) (by_case (list_any (λ k. same_row row (row_of k)) ks))
   where
     by_case : (b : Bool) → map row_of (if b then ks else ks ++ (row.regs, row.slots, row.refs) ∷ []) ≡ (if b then map row_of ks else map row_of ks ++ row ∷ [])

@@ -76,7 +76,8 @@ impl FrameTable {
         }
     }
 
-    /// Keeps the row of the instruction at `pc`, which is above every address so far.
+    /// Keeps the row of the instruction at `pc`, which is above every address so far. Different rows have numbers of 32 bits:
+    /// with 2^32 - 1 of them a further one is answered by `NoMemory`, too. No image comes near that.
     pub fn push(&mut self, pc: u32, row: FrameRow) -> Result<(), NoMemory>
         requires { All (λ r. r.pc < pc) self.old }
         ensures ok { OnOk result (self.new ≡ self.old ++ record { pc = pc; row = row } ∷ []) }

@@ -31,6 +31,7 @@ module _ (image : ImageParts) (code : List ℕ) (whole : code ≡ image.code) wh
   refuses_untyped one NoMemory h w = refl
 
   -- a refusal is the only one
-  pub refuses_only : OneRefusal → (answer : CheckAnswer) (address rule : ℕ) → Refuses (shown image) code answer → FirstRefusal image address rule → (answer ≡ Refused address rule) ⊎ (answer ≡ NoMemory)
+  pub refuses_only : OneRefusal → (answer : CheckAnswer) (address rule : ℕ) → Refuses (shown image) code answer → FirstRefusal image address rule
+      → (answer ≡ Refused address rule) ⊎ (answer ≡ NoMemory)
   refuses_only one (Refused a r) address rule h f = let e = one.one image a address r rule (of-refused image a r (said (Refused a r) h)) f in inl cc
   refuses_only one NoMemory address rule h f = inr refl

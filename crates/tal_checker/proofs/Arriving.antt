@@ -36,7 +36,8 @@ pub record RunLaws : Type 0 where
   pub decides : StrongestDecides
   pub rows : RowsPass
   pub rules : OneRuleIsLeast
-  pub next : (v : ShownImage) (xs : List Placed) (n pc : ℕ) (x y : Placed) → Chained n xs → placed_at xs pc ≡ Some x → placed_at xs (next_of x.pc x.len) ≡ Some y → At v xs (next_of x.pc x.len) ≡ start v (next_of x.pc x.len) (falls_from v (At v xs pc) x)
+  pub next : (v : ShownImage) (xs : List Placed) (n pc : ℕ) (x y : Placed) → Chained n xs → placed_at xs pc ≡ Some x → placed_at xs (next_of x.pc x.len) ≡ Some y
+      → At v xs (next_of x.pc x.len) ≡ start v (next_of x.pc x.len) (falls_from v (At v xs pc) x)
   pub told : (s : ShapesView) (a b : ContextView) → context_below s a b ≡ true → ContextBelow s a b
   pub reflexive : (s : ShapesView) (a : ContextView) → ContextBelow s a a
 
@@ -85,12 +86,14 @@ module _ (laws : RunLaws) (image : ImageParts) (w : WellTyped image) (k : HasCod
       }
 
   -- what is known where a block begins, and where none does and no function either
-  at-block : (pc : ℕ) (x : Placed) (d : ContextView) → instruction_in image pc ≡ Some x → begun_by pc (spans code_start image.functions) ≡ None → block_in pc image.blocks ≡ Some d → strongest_at image pc ≡ d
+  at-block : (pc : ℕ) (x : Placed) (d : ContextView) → instruction_in image pc ≡ Some x → begun_by pc (spans code_start image.functions) ≡ None
+      → block_in pc image.blocks ≡ Some d → strongest_at image pc ≡ d
   unfolding strongest_at At shown
   at-block pc x d e f b = at-known (shown image) (instructions image.code) Dead pc x d e (known-block (shown image) pc (Some d) f b)
 
   -- an edge to a block of the function arrives
-  to-block : (from to : ℕ) (x : Placed) (d : LiveContext) (b : ContextView) → instruction_in image from ≡ Some x → in_function (shown image) from to ≡ true → (shown image).block_at to ≡ Some b → edge_fits (shown image).shapes (Live d) ((shown image).block_at to) ≡ true → Arrives image from to (Live d)
+  to-block : (from to : ℕ) (x : Placed) (d : LiveContext) (b : ContextView) → instruction_in image from ≡ Some x → in_function (shown image) from to ≡ true
+      → (shown image).block_at to ≡ Some b → edge_fits (shown image).shapes (Live d) ((shown image).block_at to) ≡ true → Arrives image from to (Live d)
   unfolding shown edge_fits
   to-block from to x d b e inside here fits =
       let p = k.blocks to b here in
@@ -110,13 +113,15 @@ module _ (laws : RunLaws) (image : ImageParts) (w : WellTyped image) (k : HasCod
   no-rule pc x e = (laws.rules.none (shown image) (strongest_at image pc) x.pc x.inst x.len).1 (none_fails laws.decides laws.rows image w pc x e)
 
   -- no rule fails, in the words of the form
-  fits-at : (pc : ℕ) (x : Placed) (c : LiveContext) → instruction_in image pc ≡ Some x → strongest_at image pc ≡ Live c → EdgesFit (shown image) c x.pc (next_of x.pc x.len) (form_of (next_of x.pc x.len) x.inst)
+  fits-at : (pc : ℕ) (x : Placed) (c : LiveContext) → instruction_in image pc ≡ Some x → strongest_at image pc ≡ Live c
+      → EdgesFit (shown image) c x.pc (next_of x.pc x.len) (form_of (next_of x.pc x.len) x.inst)
   unfolding rule_of
   fits-at pc x c e a =
       let n = no-rule pc x e in
       edges-fit (shown image) c x.pc (next_of x.pc x.len) (form_of (next_of x.pc x.len) x.inst) (ap (λ (d : ContextView). rule_at (shown image) d x) (sym a) ∙ n)
 
-  branches : (pc : ℕ) (x : Placed) (c d : LiveContext) (to : ℕ) → instruction_in image pc ≡ Some x → strongest_at image pc ≡ Live c → Branches (shown image) (Live c) x.pc x.inst x.len ≡ Live d → Target x.pc x.inst x.len ≡ Some to → Arrives image pc to (Live d)
+  branches : (pc : ℕ) (x : Placed) (c d : LiveContext) (to : ℕ) → instruction_in image pc ≡ Some x → strongest_at image pc ≡ Live c
+      → Branches (shown image) (Live c) x.pc x.inst x.len ≡ Live d → Target x.pc x.inst x.len ≡ Some to → Arrives image pc to (Live d)
   unfolding Branches Target branches_to
   branches pc x c d to e a b t =
       let v = shown image in
@@ -129,7 +134,8 @@ module _ (laws : RunLaws) (image : ImageParts) (w : WellTyped image) (k : HasCod
       to-block pc to x d block.0.0 e (subst (λ (n : ℕ). in_function v n to ≡ true) here block.1) block.0.1 fit
 
   -- a fall to no block arrives with what falls
-  to-next : (pc to : ℕ) (x y : Placed) (d : LiveContext) → instruction_in image pc ≡ Some x → instruction_in image to ≡ Some y → to ≡ next_of x.pc x.len → falls_from (shown image) (strongest_at image pc) x ≡ Live d
+  to-next : (pc to : ℕ) (x y : Placed) (d : LiveContext) → instruction_in image pc ≡ Some x → instruction_in image to ≡ Some y → to ≡ next_of x.pc x.len
+      → falls_from (shown image) (strongest_at image pc) x ≡ Live d
       → begun_by to (spans code_start image.functions) ≡ None → block_in to image.blocks ≡ None → strongest_at image to ≡ Live d
   unfolding strongest_at start shown
   to-next pc to x y d e f n falls g b =
@@ -141,7 +147,8 @@ module _ (laws : RunLaws) (image : ImageParts) (w : WellTyped image) (k : HasCod
       let own : known_at v (next_of x.pc x.len) ≡ None = ap (known_at v) (sym n) ∙ known-block v to None g b in
       ap (λ (m : ℕ). At v xs m) n ∙ step ∙ ap (carried (falls_from v (At v xs pc) x)) own ∙ falls
 
-  falls : (pc : ℕ) (x : Placed) (c d : LiveContext) → instruction_in image pc ≡ Some x → strongest_at image pc ≡ Live c → falls_from (shown image) (Live c) x ≡ Live d → Arrives image pc (next_of x.pc x.len) (Live d)
+  falls : (pc : ℕ) (x : Placed) (c d : LiveContext) → instruction_in image pc ≡ Some x → strongest_at image pc ≡ Live c → falls_from (shown image) (Live c) x ≡ Live d
+      → Arrives image pc (next_of x.pc x.len) (Live d)
   unfolding Falls falls_to shown is_dead
   falls pc x c d e a b =
       let v = shown image in
@@ -173,7 +180,8 @@ module _ (laws : RunLaws) (image : ImageParts) (w : WellTyped image) (k : HasCod
       living : (d : LiveContext) (b : Bool) → (is_dead (Live d) || b) ≡ true → b ≡ true
       living d b e = e
 
-      arrive : (next : ℕ) (y : Placed) → next ≡ next_of x.pc x.len → instruction_in image next ≡ Some y → begun_by next (spans code_start image.functions) ≡ None → in_function (shown image) pc next ≡ true → edge_fits (shown image).shapes (Live d) ((shown image).block_at next) ≡ true
+      arrive : (next : ℕ) (y : Placed) → next ≡ next_of x.pc x.len → instruction_in image next ≡ Some y → begun_by next (spans code_start image.functions) ≡ None
+          → in_function (shown image) pc next ≡ true → edge_fits (shown image).shapes (Live d) ((shown image).block_at next) ≡ true
           → (shown image).function_of next ≡ (shown image).function_of pc → (o : Option ContextView) → (shown image).block_at next ≡ o → Arrives image pc next (Live d)
       arrive next y n h unbegun inside fit same (Some q) block = to-block pc next x d q e inside block fit
       arrive next y n h unbegun inside fit same None block = record {
@@ -204,7 +212,8 @@ module _ (laws : RunLaws) (image : ImageParts) (w : WellTyped image) (k : HasCod
       subst (λ (n : ℕ). IsSome (slice_get image.sigs n)) f.3 (signature-there f.0.sig f.1.sig)
 
   -- a stack begins at a function
-  starts : (s f : ℕ) → slice_get image.entries s ≡ Some f → (span : Span) × (sig : Sig) × (function_in image f ≡ Some span) × Begins image span.start sig × (starts_stack sig ≡ true)
+  starts : (s f : ℕ) → slice_get image.entries s ≡ Some f
+      → (span : Span) × (sig : Sig) × (function_in image f ≡ Some span) × Begins image span.start sig × (starts_stack sig ≡ true)
   unfolding function_in shown
   starts s f e =
       let t = k.entries s f e in

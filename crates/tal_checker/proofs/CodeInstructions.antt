@@ -19,7 +19,8 @@ placed-skip (suc k) pc (b ∷ bytes) h =
     placed-skip k (pc + 1) bytes (omega arith) ∙ ap (λ (n : ℕ). placed_from zero n (drop k bytes)) e
 
 -- the instruction at the front is the first
-pub placed-step : (pc : ℕ) (bytes : List ℕ) (i : Inst) (n : ℕ) → front_of bytes ≡ Some (i, n) → 0 < n → n ≤ length bytes → placed_from 0 pc bytes ≡ record { pc = pc; inst = i; len = n } ∷ placed_from 0 (pc + n) (drop n bytes)
+pub placed-step : (pc : ℕ) (bytes : List ℕ) (i : Inst) (n : ℕ) → front_of bytes ≡ Some (i, n) → 0 < n → n ≤ length bytes
+    → placed_from 0 pc bytes ≡ record { pc = pc; inst = i; len = n } ∷ placed_from 0 (pc + n) (drop n bytes)
 unfolding placed_from
 placed-step pc bytes i zero e some fits = absurd (omega arith)
 placed-step pc [] i (suc n) e some fits = absurd (omega arith)
@@ -43,11 +44,13 @@ placed-above [] k pc at x e = absurd (none-some x e)
 placed-above (b ∷ bytes) (suc k) pc at x e = let h = placed-above bytes k (pc + 1) at x e in omega arith
 placed-above (b ∷ bytes) zero pc at x e = go (front_of (b ∷ bytes)) e (λ n h. let l = placed-above bytes n (pc + 1) at x h in omega arith)
   where
-    here : (t : Bool) (y : Placed) (n : ℕ) → eqb pc at ≡ t → (if t then Some y else placed_at (placed_from n (pc + 1) bytes) at) ≡ Some x → (placed_at (placed_from n (pc + 1) bytes) at ≡ Some x → pc ≤ at) → pc ≤ at
+    here : (t : Bool) (y : Placed) (n : ℕ) → eqb pc at ≡ t → (if t then Some y else placed_at (placed_from n (pc + 1) bytes) at) ≡ Some x
+        → (placed_at (placed_from n (pc + 1) bytes) at ≡ Some x → pc ≤ at) → pc ≤ at
     here true y n q h further = let l = eqb-true pc at q in omega arith
     here false y n q h further = further h
 
-    go : (o : Option (Inst × ℕ)) → placed_at (placed_then pc (λ inside. placed_from inside (pc + 1) bytes) o) at ≡ Some x → ((n : ℕ) → placed_at (placed_from n (pc + 1) bytes) at ≡ Some x → pc ≤ at) → pc ≤ at
+    go : (o : Option (Inst × ℕ)) → placed_at (placed_then pc (λ inside. placed_from inside (pc + 1) bytes) o) at ≡ Some x
+        → ((n : ℕ) → placed_at (placed_from n (pc + 1) bytes) at ≡ Some x → pc ≤ at) → pc ≤ at
     go None h further = absurd (none-some x h)
     go (Some i) h further = here (eqb pc at) (record { pc = pc; inst = i.0; len = i.1 }) (i.1 - 1) refl h (further (i.1 - 1))
 

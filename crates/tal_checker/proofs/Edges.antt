@@ -18,6 +18,7 @@ pub record EdgesFit (v : ShownImage) (c : LiveContext) (pc next : ℕ) (form : F
   pub fall : edge_fits v.shapes (falling v c pc form) (v.block_at next) ≡ true
   pub stays : (is_dead (falling v c pc form) || in_function v pc next) ≡ true
 
+-- where no rule fails, each test of the edges holds
 pub edges-fit : (v : ShownImage) (c : LiveContext) (pc next : ℕ) (form : Form) → rule_of_form v (Live c) pc next form ≡ None → EdgesFit v c pc next form
 unfolding rule_of_form edge_rule
 edges-fit v c pc next form e = go (operand_rule v c pc form) refl e
@@ -56,7 +57,8 @@ pub target-block : (v : ShownImage) (pc to : ℕ) → is_target v pc to ≡ true
 unfolding is_target
 target-block v pc to e = go (v.block_at to) (in_function v pc to) refl refl e
   where
-    go : (o : Option ContextView) (b : Bool) → v.block_at to ≡ o → in_function v pc to ≡ b → (is_some o && b) ≡ true → ((d : ContextView) × (v.block_at to ≡ Some d)) × (in_function v pc to ≡ true)
+    go : (o : Option ContextView) (b : Bool) → v.block_at to ≡ o → in_function v pc to ≡ b → (is_some o && b) ≡ true
+        → ((d : ContextView) × (v.block_at to ≡ Some d)) × (in_function v pc to ≡ true)
     go (Some d) true p q e = ((d, p), q)
     go (Some d) false p q e = absurd cc
     go None b p q e = absurd cc

@@ -23,7 +23,7 @@ one_refused v xs c a b r s f g = elim (cases_order a b) [
   | inl e ↦ (
     e,
     let same : f.placed ≡ g.placed = same_Some f.placed g.placed (sym f.here ∙ ap (λ (x : ℕ). placed_at xs x) e ∙ g.here) in
-    let there : LeastRuleAt v (at_in v xs c b) g.placed r =
+        let there : LeastRuleAt v (at_in v xs c b) g.placed r =
         subst (λ (x : Placed). LeastRuleAt v (at_in v xs c b) x r) same (subst (λ (x : ℕ). LeastRuleAt v (at_in v xs c x) f.placed r) e f.fails) in
         one_least v (at_in v xs c b) g.placed r s there g.fails,
   )
@@ -34,7 +34,8 @@ one_refused v xs c a b r s f g = elim (cases_order a b) [
 ]
 
 -- the first instruction is refused
-pub refused_first : (v : ShownImage) (x : Placed) (xs : List Placed) (c : ContextView) (rule : ℕ) → Ordered (x ∷ xs) → LeastRuleAt v (start v x.pc c) x rule → RefusedIn v (x ∷ xs) c x.pc rule
+pub refused_first : (v : ShownImage) (x : Placed) (xs : List Placed) (c : ContextView) (rule : ℕ) → Ordered (x ∷ xs) → LeastRuleAt v (start v x.pc c) x rule
+    → RefusedIn v (x ∷ xs) c x.pc rule
 refused_first v x xs c rule o f = record {
   placed = x;
   here = there-first x xs x.pc refl;
@@ -46,7 +47,8 @@ refused_first v x xs c rule o f = record {
 }
 
 -- an instruction after the first is refused
-pub refused_later : (v : ShownImage) (x : Placed) (xs : List Placed) (c : ContextView) (address rule : ℕ) → Ordered (x ∷ xs) → NoRuleAt v (start v x.pc c) x → RefusedIn v xs (falls_from v (start v x.pc c) x) address rule → RefusedIn v (x ∷ xs) c address rule
+pub refused_later : (v : ShownImage) (x : Placed) (xs : List Placed) (c : ContextView) (address rule : ℕ) → Ordered (x ∷ xs) → NoRuleAt v (start v x.pc c) x
+    → RefusedIn v xs (falls_from v (start v x.pc c) x) address rule → RefusedIn v (x ∷ xs) c address rule
 refused_later v x xs c address rule o f s =
     let l : x.pc < address = o.0 address s.placed s.here in
     record {
@@ -71,11 +73,13 @@ pub record OneRuleIsLeast : Type 0 where
   pub none : (v : ShownImage) (c : ContextView) (pc : ℕ) (inst : Inst) (len : ℕ) → (rule_of v c pc inst len ≡ None) ↔ NoRuleFails v c pc inst len
 
 -- no rule fails at these instructions, or one does first
-pub decided : OneRuleIsLeast → (v : ShownImage) (xs : List Placed) (c : ContextView) → Ordered xs → NoneFails v xs (contexts v xs c) ⊎ ((address : ℕ) × (rule : ℕ) × RefusedIn v xs c address rule)
+pub decided : OneRuleIsLeast → (v : ShownImage) (xs : List Placed) (c : ContextView) → Ordered xs
+    → NoneFails v xs (contexts v xs c) ⊎ ((address : ℕ) × (rule : ℕ) × RefusedIn v xs c address rule)
 decided laws v [] c o = inl tt
 decided laws v (x ∷ xs) c o = go (rule_at v (start v x.pc c) x) refl (decided laws v xs (falls_from v (start v x.pc c) x) o.1)
   where
-    go : (r : Option ℕ) → rule_at v (start v x.pc c) x ≡ r → NoneFails v xs (contexts v xs (falls_from v (start v x.pc c) x)) ⊎ ((address : ℕ) × (rule : ℕ) × RefusedIn v xs (falls_from v (start v x.pc c) x) address rule)
+    go : (r : Option ℕ) → rule_at v (start v x.pc c) x ≡ r
+        → NoneFails v xs (contexts v xs (falls_from v (start v x.pc c) x)) ⊎ ((address : ℕ) × (rule : ℕ) × RefusedIn v xs (falls_from v (start v x.pc c) x) address rule)
         → NoneFails v (x ∷ xs) (contexts v (x ∷ xs) c) ⊎ ((address : ℕ) × (rule : ℕ) × RefusedIn v (x ∷ xs) c address rule)
     go (Some rule) e rest = inr (x.pc, rule, refused_first v x xs c rule o ((laws.least v (start v x.pc c) x.pc x.inst x.len rule).0 e))
     go None e rest =

@@ -65,7 +65,8 @@ module _ (front : FrontLaw) (long : SpellingLength) where
       (append-texts body (joined bodies) a.0 b.0, omega arith)
 
   -- where a function begins an instruction begins
-  function-there : (fs : List FunctionPart) (bodies : List (List Spelled)) (a sigs pc g : ℕ) → AreFunctions sigs fs → AreBodies fs bodies → begun_by pc (spans a fs) ≡ Some g → (x : Placed) × (placed_at (placed_spelled a (joined bodies)) pc ≡ Some x)
+  function-there : (fs : List FunctionPart) (bodies : List (List Spelled)) (a sigs pc g : ℕ) → AreFunctions sigs fs → AreBodies fs bodies
+      → begun_by pc (spans a fs) ≡ Some g → (x : Placed) × (placed_at (placed_spelled a (joined bodies)) pc ≡ Some x)
   unfolding spans begun_by
   function-there [] bodies a sigs pc g h b e = absurd cc
   function-there (f ∷ fs) [] a sigs pc g h b e = absurd b
@@ -93,6 +94,7 @@ record IsPlace (functions : List FunctionPart) (code : List Spelled) (pc : ℕ) 
   instruction : is_some (begins_at offset code) ≡ true
   no_function : function_begins offset functions ≡ false
 
+-- a block stands where an instruction begins and no function does
 block-place : (t : Tables) (functions : List FunctionPart) (code : List Spelled) (bs : List BlockPart) (least pc : ℕ) (c : ContextView)
     → EachAfter after_block (λ later least b. IsBlock t functions code least b) least bs → block_in pc bs ≡ Some c → IsPlace functions code pc
 unfolding block_in block_fits
@@ -102,7 +104,8 @@ block-place t functions code (b ∷ bs) least pc c h e = go ((code_start + b.off
     at : (s u : Bool) → ((nat_le least b.offset && s) && not u) ≡ true → (s ≡ true) × (u ≡ false)
     at s u k = (grind arith, grind arith)
 
-    go : (s : Bool) → ((code_start + b.offset) == pc) ≡ s → (if s then Some (plain b.types b.slots) else block_in pc bs) ≡ Some c → (block_in pc bs ≡ Some c → IsPlace functions code pc) → IsPlace functions code pc
+    go : (s : Bool) → ((code_start + b.offset) == pc) ≡ s → (if s then Some (plain b.types b.slots) else block_in pc bs) ≡ Some c
+        → (block_in pc bs ≡ Some c → IsPlace functions code pc) → IsPlace functions code pc
     go true p e later =
         let k = h.0 in
         let q = at (is_some (begins_at b.offset code)) (function_begins b.offset functions) k.condition_24 in
@@ -123,15 +126,18 @@ pub record IsStart (image : ImageParts) (f : ℕ) : Type 0 where
   pub signature : slice_get image.sigs row.sig ≡ Some sig
   pub starts : starts_stack sig ≡ true
 
+-- an entry is the beginning of a stack
 entry-start : (image : ImageParts) (f : ℕ) → entry_fits image.sigs image.functions f ≡ true → IsStart image f
 unfolding entry_fits
 entry-start image f h = go (slice_get image.functions f) refl h
   where
-    sig_of : (row : FunctionPart) → slice_get image.functions f ≡ Some row → (o : Option Sig) → slice_get image.sigs row.sig ≡ o → option_map_or starts_stack o false ≡ true → IsStart image f
+    sig_of : (row : FunctionPart) → slice_get image.functions f ≡ Some row → (o : Option Sig) → slice_get image.sigs row.sig ≡ o
+        → option_map_or starts_stack o false ≡ true → IsStart image f
     sig_of row e None p h = absurd cc
     sig_of row e (Some sig) p h = record { row = row; sig = sig; function = e; signature = p; starts = h }
 
-    go : (o : Option FunctionPart) → slice_get image.functions f ≡ o → option_map_or (λ (row : FunctionPart). option_map_or starts_stack (slice_get image.sigs row.sig) false) o false ≡ true → IsStart image f
+    go : (o : Option FunctionPart) → slice_get image.functions f ≡ o
+        → option_map_or (λ (row : FunctionPart). option_map_or starts_stack (slice_get image.sigs row.sig) false) o false ≡ true → IsStart image f
     go None p h = absurd cc
     go (Some row) p h = sig_of row p (slice_get image.sigs row.sig) refl h
 
@@ -145,10 +151,12 @@ pub record HasCode (image : ImageParts) : Type 0 where
   pub whole : length image.code ≡ total image.functions
   pub room : code_start + length image.code < 2 ^ 32
   pub begins : (pc g : ℕ) → begun_by pc (spans code_start image.functions) ≡ Some g → (x : Placed) × (placed_at (placed_spelled code_start code) pc ≡ Some x)
-  pub blocks : (pc : ℕ) (c : ContextView) → block_in pc image.blocks ≡ Some c → ((x : Placed) × (placed_at (placed_spelled code_start code) pc ≡ Some x)) × (begun_by pc (spans code_start image.functions) ≡ None)
+  pub blocks : (pc : ℕ) (c : ContextView) → block_in pc image.blocks ≡ Some c
+      → ((x : Placed) × (placed_at (placed_spelled code_start code) pc ≡ Some x)) × (begun_by pc (spans code_start image.functions) ≡ None)
   pub entries : (s f : ℕ) → slice_get image.entries s ≡ Some f → IsStart image f
   pub count : length image.entries ≡ image.stacks
 
+-- a formed image has code of which all this holds
 pub has_code : FrontLaw → SpellingLength → (image : ImageParts) → Formed image → HasCode image
 unfolding instructions
 has_code front long image f =

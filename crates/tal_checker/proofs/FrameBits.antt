@@ -27,7 +27,8 @@ pub bits-word : (ts : List Ty) (n : ℕ) → length ts ≤ n → reference_bits 
 bits-word ts n h = let a = bits-small ts in let b : 2 ^ length ts ≤ 2 ^ n = pow_mono h in omega arith
 
 -- the bits from one type on are one bit and those of the rest
-pub bits-more : (ts : List Ty) (at : ℕ) → 0 < at → at ≤ length ts → (if refers (get_or ts (at - 1) Num) then 1 else 0) + 2 * reference_bits (drop at ts) ≡ reference_bits (drop (at - 1) ts)
+pub bits-more : (ts : List Ty) (at : ℕ) → 0 < at → at ≤ length ts
+    → (if refers (get_or ts (at - 1) Num) then 1 else 0) + 2 * reference_bits (drop at ts) ≡ reference_bits (drop (at - 1) ts)
 unfolding reference_bits
 bits-more ts zero some h = absurd (omega arith)
 bits-more ts (suc at) some h =
@@ -36,11 +37,13 @@ bits-more ts (suc at) some h =
     rw (e, d) refl
 
 -- one bit more
-pub bits-longer : (ts : List Ty) (at bits bit : ℕ) → 0 < at → at ≤ length ts → bits ≡ reference_bits (drop at ts) → bit ≡ (if refers (get_or ts (at - 1) Num) then 1 else 0) → 2 * bits + bit ≡ reference_bits (drop (at - 1) ts)
+pub bits-longer : (ts : List Ty) (at bits bit : ℕ) → 0 < at → at ≤ length ts → bits ≡ reference_bits (drop at ts)
+    → bit ≡ (if refers (get_or ts (at - 1) Num) then 1 else 0) → 2 * bits + bit ≡ reference_bits (drop (at - 1) ts)
 bits-longer ts at bits bit some h e f = let m = bits-more ts at some h in rw (e, f) (let s : 2 * reference_bits (drop at ts) + (if refers (get_or ts (at - 1) Num) then 1 else 0) ≡ (if refers (get_or ts (at - 1) Num) then 1 else 0) + 2 * reference_bits (drop at ts) = omega arith in s ∙ m)
 
 -- two of 64 bits fit one word
-pub bits-fit : (ts : List Ty) (at bits bit : ℕ) → 0 < at → at ≤ length ts → length ts ≤ 64 → bits ≡ reference_bits (drop at ts) → bit ≡ (if refers (get_or ts (at - 1) Num) then 1 else 0) → 2 * bits + bit < 2 ^ 64
+pub bits-fit : (ts : List Ty) (at bits bit : ℕ) → 0 < at → at ≤ length ts → length ts ≤ 64 → bits ≡ reference_bits (drop at ts)
+    → bit ≡ (if refers (get_or ts (at - 1) Num) then 1 else 0) → 2 * bits + bit < 2 ^ 64
 bits-fit ts at bits bit some h l e f =
     let a = bits-longer ts at bits bit some h e f in
     let b = bits-word (drop (at - 1) ts) 64 (omega (arith, length-drop (at - 1) ts)) in
@@ -58,7 +61,8 @@ unfolding row_in context_of
 dead-row c e = rw e refl
 
 -- eight types are those of the eight registers
-eight : (ts : List Ty) → length ts ≡ 8 → type_at ts Eax ∷ type_at ts Ecx ∷ type_at ts Edx ∷ type_at ts Ebx ∷ type_at ts Esp ∷ type_at ts Ebp ∷ type_at ts Esi ∷ type_at ts Edi ∷ [] ≡ ts
+eight : (ts : List Ty) → length ts ≡ 8
+    → type_at ts Eax ∷ type_at ts Ecx ∷ type_at ts Edx ∷ type_at ts Ebx ∷ type_at ts Esp ∷ type_at ts Ebp ∷ type_at ts Esi ∷ type_at ts Edi ∷ [] ≡ ts
 unfolding type_at
 eight [] l = absurd (omega arith)
 eight (a ∷ []) l = absurd (omega arith)
@@ -72,6 +76,7 @@ eight (a ∷ b ∷ c ∷ d ∷ e ∷ f ∷ g ∷ h ∷ []) l = refl
 eight (a ∷ b ∷ c ∷ d ∷ e ∷ f ∷ g ∷ h ∷ i ∷ more) l = absurd (omega arith)
 
 -- the row of a context that is not dead
-pub live-row : (c : Context) (regs slots refs : ℕ) → c.dead ≡ false → length c.regs ≡ 8 → regs ≡ reference_bits c.regs → slots ≡ length (live_of c).slots → refs ≡ reference_bits (live_of c).slots → record { regs = regs; slots = slots; refs = refs } ≡ row_in (context_of c)
+pub live-row : (c : Context) (regs slots refs : ℕ) → c.dead ≡ false → length c.regs ≡ 8 → regs ≡ reference_bits c.regs → slots ≡ length (live_of c).slots
+    → refs ≡ reference_bits (live_of c).slots → record { regs = regs; slots = slots; refs = refs } ≡ row_in (context_of c)
 unfolding row_in context_of live_of
 live-row c regs slots refs e long r s f = rw (e, r, s, f, eight c.regs long) refl

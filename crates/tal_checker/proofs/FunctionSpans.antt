@@ -63,7 +63,8 @@ unfolding spans begun_by
 begun-range [] a sigs pc g h e = absurd cc
 begun-range (f ∷ fs) a sigs pc g h e = go (a == pc) refl e (λ k. begun-range fs (a + f.length) sigs pc g h.2 k)
   where
-    go : (t : Bool) → (a == pc) ≡ t → (if t then Some f.sig else begun_by pc (spans (a + f.length) fs)) ≡ Some g → (begun_by pc (spans (a + f.length) fs) ≡ Some g → (a + f.length ≤ pc) × (pc < a + f.length + total fs)) → (a ≤ pc) × (pc < a + (f.length + total fs))
+    go : (t : Bool) → (a == pc) ≡ t → (if t then Some f.sig else begun_by pc (spans (a + f.length) fs)) ≡ Some g
+        → (begun_by pc (spans (a + f.length) fs) ≡ Some g → (a + f.length ≤ pc) × (pc < a + f.length + total fs)) → (a ≤ pc) × (pc < a + (f.length + total fs))
     go true p e later = let q : a ≡ pc = grind (arith, nat_tests) in let some = h.0 in (omega arith, omega arith)
     go false p e later = let r = later e in let u = r.0 in let v = r.1 in (omega arith, omega arith)
 
@@ -109,7 +110,8 @@ covered (f ∷ fs) a sigs pc h low high = go (cases_lt pc (a + f.length)) (λ l.
         )
 
 -- the function that begins at an address, with what it covers
-pub begun_covered : (fs : List FunctionPart) (a sigs pc g : ℕ) → AreFunctions sigs fs → begun_by pc (spans a fs) ≡ Some g → (s : Span) × Covers a sigs fs pc s × (s.start ≡ pc) × (s.sig ≡ g)
+pub begun_covered : (fs : List FunctionPart) (a sigs pc g : ℕ) → AreFunctions sigs fs → begun_by pc (spans a fs) ≡ Some g
+    → (s : Span) × Covers a sigs fs pc s × (s.start ≡ pc) × (s.sig ≡ g)
 begun_covered fs a sigs pc g h e =
     let r = begun-range fs a sigs pc g h e in
     let t = covered fs a sigs pc h r.0 r.1 in
@@ -123,7 +125,8 @@ begun_covered fs a sigs pc g h e =
     (t.0, c, first, same_Some t.0.sig g (sym c.begins ∙ ap (λ (n : ℕ). begun_by n (spans a fs)) first ∙ e))
 
 -- a function by its number begins at its address
-pub numbered : (fs : List FunctionPart) (a sigs n : ℕ) (f : FunctionPart) → AreFunctions sigs fs → slice_get fs n ≡ Some f → (s : Span) × (slice_get (spans a fs) n ≡ Some s) × (s.sig ≡ f.sig) × (begun_by s.start (spans a fs) ≡ Some s.sig)
+pub numbered : (fs : List FunctionPart) (a sigs n : ℕ) (f : FunctionPart) → AreFunctions sigs fs → slice_get fs n ≡ Some f
+    → (s : Span) × (slice_get (spans a fs) n ≡ Some s) × (s.sig ≡ f.sig) × (begun_by s.start (spans a fs) ≡ Some s.sig)
 unfolding spans
 numbered [] a sigs n f h e = absurd cc
 numbered (g ∷ fs) a sigs zero f h e = (record { start = a; end = a + g.length; sig = g.sig }, refl, ap (λ (x : FunctionPart). x.sig) (same_Some g f e), begun-first a g fs a refl)

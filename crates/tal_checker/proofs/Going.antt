@@ -33,7 +33,8 @@ unfolding instructions
 all_left v code = record { accepts = λ n. n; refuses = λ x rule r. r; kept = refl }
 
 -- no instruction is left
-pub none_left : (v : ShownImage) (code : List ℕ) (pc : ℕ) (bytes : List ℕ) (c : ContextView) (rows : List RowAt) → Left v code pc bytes c rows → front_of bytes ≡ None → Passed v code rows
+pub none_left : (v : ShownImage) (code : List ℕ) (pc : ℕ) (bytes : List ℕ) (c : ContextView) (rows : List RowAt) → Left v code pc bytes c rows → front_of bytes ≡ None
+    → Passed v code rows
 none_left v code pc bytes c rows l e =
     let end = placed-end pc bytes e in
     record {
@@ -42,12 +43,14 @@ none_left v code pc bytes c rows l e =
     }
 
 -- the rows in front of those of the instruction at the front are below it
-pub rows-below : (rows : List RowAt) (pc n : ℕ) (row : FrameRow) → 0 < n → All (λ (r : RowAt). r.pc < pc) rows → All (λ (r : RowAt). r.pc < pc + n) (rows ++ record { pc = pc; row = row } ∷ [])
+pub rows-below : (rows : List RowAt) (pc n : ℕ) (row : FrameRow) → 0 < n → All (λ (r : RowAt). r.pc < pc) rows
+    → All (λ (r : RowAt). r.pc < pc + n) (rows ++ record { pc = pc; row = row } ∷ [])
 rows-below rows pc n row some h =
     All-push (λ (r : RowAt). r.pc < pc + n) rows (record { pc = pc; row = row }) (All-weaker (λ (r : RowAt). r.pc < pc) (λ (r : RowAt). r.pc < pc + n) (λ r l. omega arith) rows h) (omega arith)
 
 -- what no rule forbids passes, and hands on what falls through
-pub flows-pass : (v : ShownImage) (c : ContextView) (pc : ℕ) (i : Inst) (n : ℕ) (after : ContextView) (edges : Edges) → Flows v c pc i n after edges → NoRuleFails v c pc i n × (after ≡ Falls v c pc i n)
+pub flows-pass : (v : ShownImage) (c : ContextView) (pc : ℕ) (i : Inst) (n : ℕ) (after : ContextView) (edges : Edges) → Flows v c pc i n after edges
+    → NoRuleFails v c pc i n × (after ≡ Falls v c pc i n)
 unfolding Falls
 flows-pass v c pc i n after edges f = (f.none_fails, f.falls)
 
@@ -67,7 +70,8 @@ module _ (v : ShownImage) (code : List ℕ) (pc : ℕ) (bytes : List ℕ) (c : C
       l.refuses pc rule (subst (λ (t : List Placed). RefusedIn v t c pc rule) (sym step) (refused_first v x (placed_from 0 (pc + n) (drop n bytes)) c rule ordered f))
 
   -- the instruction at the front passes
-  pub left_after : (next : ContextView) (row : FrameRow) → NoRuleFails v here pc i n → next ≡ Falls v here pc i n → row ≡ row_in here → Left v code (pc + n) (drop n bytes) next (rows ++ record { pc = pc; row = row } ∷ [])
+  pub left_after : (next : ContextView) (row : FrameRow) → NoRuleFails v here pc i n → next ≡ Falls v here pc i n → row ≡ row_in here
+      → Left v code (pc + n) (drop n bytes) next (rows ++ record { pc = pc; row = row } ∷ [])
   left_after next row passes falls is =
       let x : Placed = record { pc = pc; inst = i; len = n } in
       let xs = placed_from 0 (pc + n) (drop n bytes) in

@@ -12,6 +12,7 @@ pub there-first : (x : Placed) (xs : List Placed) (pc : ℕ) → x.pc ≡ pc →
 unfolding placed_at
 there-first x xs pc e = rw (sym e, eq-eqb x.pc x.pc refl) refl
 
+-- an instruction behind the first is one of the rest
 pub there-later : (x : Placed) (xs : List Placed) (pc : ℕ) → x.pc < pc → placed_at (x ∷ xs) pc ≡ placed_at xs pc
 unfolding placed_at
 there-later x xs pc l = rw (ne_eqb x.pc pc (λ e. omega arith)) refl
@@ -21,6 +22,7 @@ pub at-first : (v : ShownImage) (x : Placed) (xs : List Placed) (c : ContextView
 unfolding at_in
 at-first v x xs c pc e = rw (sym e, eq-eqb x.pc x.pc refl) refl
 
+-- and its context is that in the rest
 pub at-later : (v : ShownImage) (x : Placed) (xs : List Placed) (c : ContextView) (pc : ℕ) → x.pc < pc → at_in v (x ∷ xs) c pc ≡ at_in v xs (falls_from v (start v x.pc c) x) pc
 unfolding at_in
 at-later v x xs c pc l = rw (ne_eqb x.pc pc (λ e. omega arith)) refl

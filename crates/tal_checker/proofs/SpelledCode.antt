@@ -21,6 +21,7 @@ pub record IsText (s : Spelled) : Type 0 where
   pub some : 0 < length s.text
   pub front : (rest : List ℕ) → front_of (s.text ++ rest) ≡ Some (s.means, length s.text)
 
+-- each is spelled by its text
 abbrev pub AreTexts : List Spelled → Type 0
 AreTexts [] = Unit {0}
 AreTexts (s ∷ more) = IsText s × AreTexts more
@@ -29,6 +30,7 @@ AreTexts (s ∷ more) = IsText s × AreTexts more
 abbrev pub SpellingLength : Type 0
 SpellingLength = (text : List ℕ) (inst : Inst) → Spells text inst → (0 < length text) × (length text ≤ 11)
 
+-- what spells an instruction is its text
 pub spelled-text : FrontLaw → SpellingLength → (s : Spelled) → Spells s.text s.means → IsText s
 spelled-text front long s h = record {
   some = (long s.text s.means h).0;
@@ -116,7 +118,8 @@ first_there [] pc some = absurd (omega arith)
 first_there (s ∷ more) pc some = (record { pc = pc; inst = s.means; len = length s.text }, there-first (record { pc = pc; inst = s.means; len = length s.text }) (placed_spelled (pc + length s.text) more) pc refl)
 
 -- the instruction after one that does not end the code
-pub next_there : (code : List Spelled) (pc at : ℕ) (x : Placed) → AreTexts code → placed_at (placed_spelled pc code) at ≡ Some x → at + x.len < pc + length (code_bytes code) → (y : Placed) × (placed_at (placed_spelled pc code) (at + x.len) ≡ Some y)
+pub next_there : (code : List Spelled) (pc at : ℕ) (x : Placed) → AreTexts code → placed_at (placed_spelled pc code) at ≡ Some x
+    → at + x.len < pc + length (code_bytes code) → (y : Placed) × (placed_at (placed_spelled pc code) (at + x.len) ≡ Some y)
 unfolding placed_at
 next_there [] pc at x h e l = absurd (none-some x e)
 next_there (s ∷ more) pc at x h e l =
@@ -144,6 +147,7 @@ pub next-is : (pc n : ℕ) → pc + n < 2 ^ 32 → next_of pc n ≡ pc + n
 unfolding next_of
 next-is pc n h = omega arith
 
+-- spelled instructions lie one after another
 pub chained : (code : List Spelled) (pc : ℕ) → AreTexts code → pc + length (code_bytes code) < 2 ^ 32 → Chained pc (placed_spelled pc code)
 chained [] pc h room = tt
 chained (s ∷ more) pc h room =
@@ -154,12 +158,14 @@ chained (s ∷ more) pc h room =
     (refl, omega arith, subst (λ (n : ℕ). Chained n (placed_spelled (pc + length s.text) more)) (sym e) (chained more (pc + length s.text) h.1 (omega arith)))
 
 -- an instruction that begins at an offset stands at its address
-pub begun_there : (code : List Spelled) (pc offset : ℕ) → AreTexts code → is_some (begins_at offset code) ≡ true → (x : Placed) × (placed_at (placed_spelled pc code) (pc + offset) ≡ Some x)
+pub begun_there : (code : List Spelled) (pc offset : ℕ) → AreTexts code → is_some (begins_at offset code) ≡ true
+    → (x : Placed) × (placed_at (placed_spelled pc code) (pc + offset) ≡ Some x)
 unfolding begins_at
 begun_there [] pc offset h e = absurd cc
 begun_there (s ∷ more) pc offset h e = go (offset == 0) (nat_lt offset (length s.text)) refl refl e (λ k. begun_there more (pc + length s.text) (offset - length s.text) h.1 k)
   where
-    go : (a b : Bool) → offset == 0 ≡ a → nat_lt offset (length s.text) ≡ b → is_some (if a then Some s.means else if b then None else begins_at (offset - length s.text) more) ≡ true
+    go : (a b : Bool) → offset == 0 ≡ a → nat_lt offset (length s.text) ≡ b
+        → is_some (if a then Some s.means else if b then None else begins_at (offset - length s.text) more) ≡ true
         → (is_some (begins_at (offset - length s.text) more) ≡ true → (x : Placed) × (placed_at (placed_spelled (pc + length s.text) more) (pc + length s.text + (offset - length s.text)) ≡ Some x))
         → (x : Placed) × (placed_at (record { pc = pc; inst = s.means; len = length s.text } ∷ placed_spelled (pc + length s.text) more) (pc + offset) ≡ Some x)
     go true b p q e later = let z = eqb-true offset 0 p in (record { pc = pc; inst = s.means; len = length s.text }, there-first (record { pc = pc; inst = s.means; len = length s.text }) (placed_spelled (pc + length s.text) more) (pc + offset) (omega arith))
@@ -173,7 +179,8 @@ begun_there (s ∷ more) pc offset h e = go (offset == 0) (nat_lt offset (length
         (t.0, there-later (record { pc = pc; inst = s.means; len = length s.text }) (placed_spelled (pc + length s.text) more) (pc + offset) (omega arith) ∙ ap (λ (n : ℕ). placed_at (placed_spelled (pc + length s.text) more) n) (sym on) ∙ t.1)
 
 -- instructions after others stand where they stand by themselves
-pub there-after : (before code : List Spelled) (pc at : ℕ) (x : Placed) → AreTexts before → placed_at (placed_spelled (pc + length (code_bytes before)) code) at ≡ Some x → placed_at (placed_spelled pc (before ++ code)) at ≡ Some x
+pub there-after : (before code : List Spelled) (pc at : ℕ) (x : Placed) → AreTexts before → placed_at (placed_spelled (pc + length (code_bytes before)) code) at ≡ Some x
+    → placed_at (placed_spelled pc (before ++ code)) at ≡ Some x
 there-after [] code pc at x h e = let z : pc + 0 ≡ pc = omega arith in subst (λ (n : ℕ). placed_at (placed_spelled n code) at ≡ Some x) z e
 there-after (s ∷ before) code pc at x h e =
     let long = length-append s.text (code_bytes before) in

@@ -65,7 +65,8 @@ abbrev pub RowsPass : Type 0
 RowsPass = (v : ShownImage) (xs : List Placed) (pc : ℕ) (x : Placed) → NoneFails v xs (contexts v xs Dead) → placed_at xs pc ≡ Some x → NoRuleAt v (At v xs pc) x
 
 -- no rule fails at an instruction of an image that is well typed
-pub none_fails : StrongestDecides → RowsPass → (image : ImageParts) → WellTyped image → (pc : ℕ) (x : Placed) → placed_at (instructions image.code) pc ≡ Some x → NoRuleAt (shown image) (strongest_at image pc) x
+pub none_fails : StrongestDecides → RowsPass → (image : ImageParts) → WellTyped image → (pc : ℕ) (x : Placed) → placed_at (instructions image.code) pc ≡ Some x
+    → NoRuleAt (shown image) (strongest_at image pc) x
 unfolding strongest strongest_at
 none_fails decides pass image w pc x e = pass (shown image) (instructions image.code) pc x ((decides image w.formed).0 w) e
 

@@ -70,17 +70,24 @@ pub operand-fails : (v : ShownImage) (c : LiveContext) (pc next n : ℕ) (f : Fo
 unfolding rule_of_form
 operand-fails v c pc next n f e = rw e refl
 
-edge-fails : (v : ShownImage) (c : LiveContext) (pc next : ℕ) (f : Form) (o : Option ℕ) → operand_rule v c pc f ≡ None → edge_rule v c pc next f ≡ o → rule_of_form v (Live c) pc next f ≡ o
+-- where no rule of the operands fails, the edges decide
+edge-fails : (v : ShownImage) (c : LiveContext) (pc next : ℕ) (f : Form) (o : Option ℕ) → operand_rule v c pc f ≡ None → edge_rule v c pc next f ≡ o
+    → rule_of_form v (Live c) pc next f ≡ o
 unfolding rule_of_form
 edge-fails v c pc next f o e g = rw (e, g) refl
 
-demands : (x y : Bool) → demand 16 x (demand 17 y None) ≡ (if x then (if y then None else Some 17) else Some 16)
+-- the rules 16 and 17 by their two tests
+abbrev by_edges : Bool → Bool → Option ℕ
+by_edges fits stays = if fits then (if stays then None else Some 17) else Some 16
+
+demands : (x y : Bool) → demand 16 x (demand 17 y None) ≡ by_edges x y
 demands true true = refl
 demands true false = refl
 demands false y = refl
 
 -- the rules 16 and 17 of an instruction that falls through
-fall-rules : (v : ShownImage) (c : LiveContext) (pc next : ℕ) (f : Form) → goes_on f ≡ true → edge_rule v c pc next f ≡ (if edge_fits v.shapes (Live (after v c pc f)) (v.block_at next) then (if in_function v pc next then None else Some 17) else Some 16)
+fall-rules : (v : ShownImage) (c : LiveContext) (pc next : ℕ) (f : Form) → goes_on f ≡ true
+    → edge_rule v c pc next f ≡ by_edges (edge_fits v.shapes (Live (after v c pc f)) (v.block_at next)) (in_function v pc next)
 unfolding edge_rule is_dead
 fall-rules v c pc next f e =
     let a = goes_on-falls v c pc f e in
@@ -92,29 +99,36 @@ left : (v : ShownImage) (c : LiveContext) (pc : ℕ) (f : Form) (d : Context) �
 left v c pc f d e k = live-context d e ∙ ap Live k
 
 -- what falls through is not below the annotation
-pub fall-sixteen : (v : ShownImage) (c : LiveContext) (pc next : ℕ) (f : Form) (d : Context) → goes_on f ≡ true → operand_rule v c pc f ≡ None → d.dead ≡ false → live_of d ≡ after v c pc f → edge_fits v.shapes (context_of d) (v.block_at next) ≡ false → rule_of_form v (Live c) pc next f ≡ Some 16
+pub fall-sixteen : (v : ShownImage) (c : LiveContext) (pc next : ℕ) (f : Form) (d : Context) → goes_on f ≡ true → operand_rule v c pc f ≡ None → d.dead ≡ false
+    → live_of d ≡ after v c pc f → edge_fits v.shapes (context_of d) (v.block_at next) ≡ false → rule_of_form v (Live c) pc next f ≡ Some 16
 fall-sixteen v c pc next f d g op e k h =
     let i = rw (left v c pc f d e k) at h in
     edge-fails v c pc next f (Some 16) op (rw (fall-rules v c pc next f g, i) refl)
 
 -- the next instruction, a block, is not of the function
-pub fall-seventeen : (v : ShownImage) (c : LiveContext) (pc next : ℕ) (f : Form) (d : Context) → goes_on f ≡ true → operand_rule v c pc f ≡ None → d.dead ≡ false → live_of d ≡ after v c pc f → edge_fits v.shapes (context_of d) (v.block_at next) ≡ true → in_function v pc next ≡ false → rule_of_form v (Live c) pc next f ≡ Some 17
+pub fall-seventeen : (v : ShownImage) (c : LiveContext) (pc next : ℕ) (f : Form) (d : Context) → goes_on f ≡ true → operand_rule v c pc f ≡ None → d.dead ≡ false
+    → live_of d ≡ after v c pc f → edge_fits v.shapes (context_of d) (v.block_at next) ≡ true → in_function v pc next ≡ false
+    → rule_of_form v (Live c) pc next f ≡ Some 17
 fall-seventeen v c pc next f d g op e k h j =
     let i = rw (left v c pc f d e k) at h in
     edge-fails v c pc next f (Some 17) op (rw (fall-rules v c pc next f g, i, j) refl)
 
 -- where no block is
-pub fits-nothing : (v : ShownImage) (c : ContextView) (next : ℕ) (o : Option Context) → option_map context_of o ≡ v.block_at next → o ≡ None → edge_fits v.shapes c (v.block_at next) ≡ true
+pub fits-nothing : (v : ShownImage) (c : ContextView) (next : ℕ) (o : Option Context) → option_map context_of o ≡ v.block_at next → o ≡ None
+    → edge_fits v.shapes c (v.block_at next) ≡ true
 unfolding edge_fits
 fits-nothing v c next None h e = rw (sym h) refl
 fits-nothing v c next (Some d) h e = absurd (grind arith)
 
 -- the same where no context was made for it
-pub fall-outside : (v : ShownImage) (c : LiveContext) (pc next : ℕ) (f : Form) → goes_on f ≡ true → operand_rule v c pc f ≡ None → edge_fits v.shapes (Live (after v c pc f)) (v.block_at next) ≡ true → in_function v pc next ≡ false → rule_of_form v (Live c) pc next f ≡ Some 17
+pub fall-outside : (v : ShownImage) (c : LiveContext) (pc next : ℕ) (f : Form) → goes_on f ≡ true → operand_rule v c pc f ≡ None
+    → edge_fits v.shapes (Live (after v c pc f)) (v.block_at next) ≡ true → in_function v pc next ≡ false → rule_of_form v (Live c) pc next f ≡ Some 17
 fall-outside v c pc next f g op h j = edge-fails v c pc next f (Some 17) op (rw (fall-rules v c pc next f g, h, j) refl)
 
 -- no rule fails, and what falls through is kept
-pub fall-flows : (v : ShownImage) (c : LiveContext) (pc next : ℕ) (f : Form) (d : Context) → goes_on f ≡ true → operand_rule v c pc f ≡ None → d.dead ≡ false → live_of d ≡ after v c pc f → edge_fits v.shapes (context_of d) (v.block_at next) ≡ true → in_function v pc next ≡ true → FormFlows v (Live c) pc next f (context_of d) (record { branch = None; falls = true })
+pub fall-flows : (v : ShownImage) (c : LiveContext) (pc next : ℕ) (f : Form) (d : Context) → goes_on f ≡ true → operand_rule v c pc f ≡ None → d.dead ≡ false
+    → live_of d ≡ after v c pc f → edge_fits v.shapes (context_of d) (v.block_at next) ≡ true → in_function v pc next ≡ true
+    → FormFlows v (Live c) pc next f (context_of d) (record { branch = None; falls = true })
 unfolding falls_to branches_to is_dead
 fall-flows v c pc next f d g op e k h j =
     let i = rw (left v c pc f d e k) at h in
@@ -128,7 +142,8 @@ fall-flows v c pc next f d g op e k h j =
 -- RET
 
 -- no rule of RET fails
-pub return-flows : (v : ShownImage) (c : LiveContext) (pc next : ℕ) (f : Form) (d : Context) → f ≡ Return → operand_rule v c pc f ≡ None → d.dead ≡ true → FormFlows v (Live c) pc next f (context_of d) (record { branch = None; falls = false })
+pub return-flows : (v : ShownImage) (c : LiveContext) (pc next : ℕ) (f : Form) (d : Context) → f ≡ Return → operand_rule v c pc f ≡ None → d.dead ≡ true
+    → FormFlows v (Live c) pc next f (context_of d) (record { branch = None; falls = false })
 unfolding falls_to branches_to is_dead falling branching edge_rule target_of
 return-flows v c pc next Return d g op e = record {
   none_fails = form-none v (Live c) pc next Return (edge-fails v c pc next Return None op (rw (edge_fits-dead v.shapes None, edge_fits-dead v.shapes (v.block_at next)) refl));
@@ -140,6 +155,7 @@ return-flows v c pc next f d g op e = absurd (grind arith)
 
 -- JMP
 
+-- the rules 16 and 17 of a jump
 jump-rules : (v : ShownImage) (c : LiveContext) (pc next t : ℕ) → edge_rule v c pc next (Jump t) ≡ (if edge_fits v.shapes (Live c) (v.block_at t) then None else Some 16)
 unfolding edge_rule is_dead branching falling target_of
 jump-rules v c pc next t = rw (edge_fits-dead v.shapes (v.block_at next)) (go (edge_fits v.shapes (Live c) (v.block_at t)))
@@ -149,13 +165,16 @@ jump-rules v c pc next t = rw (edge_fits-dead v.shapes (v.block_at next)) (go (e
     go false = refl
 
 -- what a jump takes along is not below the annotation
-pub jump-sixteen : (v : ShownImage) (d : Context) (pc next t : ℕ) → operand_rule v (live_of d) pc (Jump t) ≡ None → d.dead ≡ false → edge_fits v.shapes (context_of d) (v.block_at t) ≡ false → rule_of_form v (Live (live_of d)) pc next (Jump t) ≡ Some 16
+pub jump-sixteen : (v : ShownImage) (d : Context) (pc next t : ℕ) → operand_rule v (live_of d) pc (Jump t) ≡ None → d.dead ≡ false
+    → edge_fits v.shapes (context_of d) (v.block_at t) ≡ false → rule_of_form v (Live (live_of d)) pc next (Jump t) ≡ Some 16
 jump-sixteen v d pc next t op e h =
     let i = rw (live-context d e) at h in
     edge-fails v (live_of d) pc next (Jump t) (Some 16) op (rw (jump-rules v (live_of d) pc next t, i) refl)
 
 -- no rule of a jump fails
-pub jump-flows : (v : ShownImage) (d after : Context) (pc next t : ℕ) → operand_rule v (live_of d) pc (Jump t) ≡ None → d.dead ≡ false → edge_fits v.shapes (context_of d) (v.block_at t) ≡ true → after.dead ≡ true → FormFlows v (Live (live_of d)) pc next (Jump t) (context_of after) (record { branch = Some (t, d); falls = false })
+pub jump-flows : (v : ShownImage) (d after : Context) (pc next t : ℕ) → operand_rule v (live_of d) pc (Jump t) ≡ None → d.dead ≡ false
+    → edge_fits v.shapes (context_of d) (v.block_at t) ≡ true → after.dead ≡ true
+    → FormFlows v (Live (live_of d)) pc next (Jump t) (context_of after) (record { branch = Some (t, d); falls = false })
 unfolding falls_to branches_to is_dead falling branching target_of
 jump-flows v d after pc next t op e h g =
     let i = rw (live-context d e) at h in
@@ -168,7 +187,11 @@ jump-flows v d after pc next t op e h g =
 
 -- Jcc
 
-branch-rules : (v : ShownImage) (c : LiveContext) (pc next t : ℕ) (k : Cond) → edge_rule v c pc next (Branch k t) ≡ (if edge_fits v.shapes (refine v.shapes c c.kind (told_by_branch k)) (v.block_at t) && edge_fits v.shapes (refine v.shapes c c.kind (told_by_fall k)) (v.block_at next) then (if is_dead (refine v.shapes c c.kind (told_by_fall k)) || in_function v pc next then None else Some 17) else Some 16)
+-- the rules 16 and 17 of a branch
+branch-rules : (v : ShownImage) (c : LiveContext) (pc next t : ℕ) (k : Cond)
+    → edge_rule v c pc next (Branch k t) ≡ by_edges
+    (edge_fits v.shapes (refine v.shapes c c.kind (told_by_branch k)) (v.block_at t) && edge_fits v.shapes (refine v.shapes c c.kind (told_by_fall k)) (v.block_at next))
+    (is_dead (refine v.shapes c c.kind (told_by_fall k)) || in_function v pc next)
 unfolding edge_rule branching falling target_of
 branch-rules v c pc next t k = demands _ _
 
@@ -177,26 +200,39 @@ pub record Refined (v : ShownImage) (d : Context) (k : Cond) (p q : Context) : T
   pub taken : context_of p ≡ refine v.shapes (live_of d) d.kind (told_by_branch k)
   pub fallen : context_of q ≡ refine v.shapes (live_of d) d.kind (told_by_fall k)
 
-kept-rules : (v : ShownImage) (d : Context) (pc next t : ℕ) (k : Cond) (p q : Context) → Refined v d k p q → edge_rule v (live_of d) pc next (Branch k t) ≡ (if edge_fits v.shapes (context_of p) (v.block_at t) && edge_fits v.shapes (context_of q) (v.block_at next) then (if is_dead (context_of q) || in_function v pc next then None else Some 17) else Some 16)
+-- the same by what the code keeps on both edges
+kept-rules : (v : ShownImage) (d : Context) (pc next t : ℕ) (k : Cond) (p q : Context) → Refined v d k p q
+    → edge_rule v (live_of d) pc next (Branch k t) ≡ by_edges
+    (edge_fits v.shapes (context_of p) (v.block_at t) && edge_fits v.shapes (context_of q) (v.block_at next))
+    (is_dead (context_of q) || in_function v pc next)
 unfolding live_of
 kept-rules v d pc next t k p q h = rw (h.taken, h.fallen) (branch-rules v (live_of d) pc next t k)
 
 -- what one of the ways takes along is not below the annotation there
-pub branch-sixteen : (v : ShownImage) (d : Context) (pc next t : ℕ) (k : Cond) (p q : Context) → operand_rule v (live_of d) pc (Branch k t) ≡ None → Refined v d k p q → (edge_fits v.shapes (context_of p) (v.block_at t) && edge_fits v.shapes (context_of q) (v.block_at next)) ≡ false → rule_of_form v (Live (live_of d)) pc next (Branch k t) ≡ Some 16
+pub branch-sixteen : (v : ShownImage) (d : Context) (pc next t : ℕ) (k : Cond) (p q : Context) → operand_rule v (live_of d) pc (Branch k t) ≡ None → Refined v d k p q
+    → (edge_fits v.shapes (context_of p) (v.block_at t) && edge_fits v.shapes (context_of q) (v.block_at next)) ≡ false
+    → rule_of_form v (Live (live_of d)) pc next (Branch k t) ≡ Some 16
 branch-sixteen v d pc next t k p q op h e = edge-fails v (live_of d) pc next (Branch k t) (Some 16) op (rw (kept-rules v d pc next t k p q h, e) refl)
 
 -- a run may fall out of the function
-pub branch-seventeen : (v : ShownImage) (d : Context) (pc next t : ℕ) (k : Cond) (p q : Context) → operand_rule v (live_of d) pc (Branch k t) ≡ None → Refined v d k p q → (edge_fits v.shapes (context_of p) (v.block_at t) && edge_fits v.shapes (context_of q) (v.block_at next)) ≡ true → (is_dead (context_of q) || in_function v pc next) ≡ false → rule_of_form v (Live (live_of d)) pc next (Branch k t) ≡ Some 17
+pub branch-seventeen : (v : ShownImage) (d : Context) (pc next t : ℕ) (k : Cond) (p q : Context) → operand_rule v (live_of d) pc (Branch k t) ≡ None → Refined v d k p q
+    → (edge_fits v.shapes (context_of p) (v.block_at t) && edge_fits v.shapes (context_of q) (v.block_at next)) ≡ true
+    → (is_dead (context_of q) || in_function v pc next) ≡ false → rule_of_form v (Live (live_of d)) pc next (Branch k t) ≡ Some 17
 branch-seventeen v d pc next t k p q op h e f = edge-fails v (live_of d) pc next (Branch k t) (Some 17) op (rw (kept-rules v d pc next t k p q h, e, f) refl)
 
 -- the edge that is answered
-taken-edge : (v : ShownImage) (d : Context) (t : ℕ) (k : Cond) (p : Context) (o : Option (ℕ × Context)) → context_of p ≡ branches_to v (Live (live_of d)) (Branch k t) → MatchOption o (p.dead ≡ true) (λ b. (b.0 ≡ t) × (b.1 ≡ p) × (p.dead ≡ false)) → MatchOption o (branches_to v (Live (live_of d)) (Branch k t) ≡ Dead) (λ b. (target_of (Branch k t) ≡ Some b.0) × (context_of b.1 ≡ branches_to v (Live (live_of d)) (Branch k t)) × (b.1.dead ≡ false))
+taken-edge : (v : ShownImage) (d : Context) (t : ℕ) (k : Cond) (p : Context) (o : Option (ℕ × Context)) → context_of p ≡ branches_to v (Live (live_of d)) (Branch k t)
+    → MatchOption o (p.dead ≡ true) (λ b. (b.0 ≡ t) × (b.1 ≡ p) × (p.dead ≡ false))
+    → MatchOption o (branches_to v (Live (live_of d)) (Branch k t) ≡ Dead) (λ b. (target_of (Branch k t) ≡ Some b.0) × (context_of b.1 ≡ branches_to v (Live (live_of d)) (Branch k t)) × (b.1.dead ≡ false))
 unfolding target_of
 taken-edge v d t k p None h m = sym h ∙ dead-context p m
 taken-edge v d t k p (Some b) h m = (ap Some (sym m.0), ap context_of m.1 ∙ h, ap (λ (x : Context). x.dead) m.1 ∙ m.2)
 
 -- no rule of a branch fails
-pub branch-flows : (v : ShownImage) (d : Context) (pc next t : ℕ) (k : Cond) (p q : Context) (edges : Edges) → operand_rule v (live_of d) pc (Branch k t) ≡ None → Refined v d k p q → (edge_fits v.shapes (context_of p) (v.block_at t) && edge_fits v.shapes (context_of q) (v.block_at next)) ≡ true → (is_dead (context_of q) || in_function v pc next) ≡ true → edges.falls ≡ not q.dead → MatchOption edges.branch (p.dead ≡ true) (λ b. (b.0 ≡ t) × (b.1 ≡ p) × (p.dead ≡ false)) → FormFlows v (Live (live_of d)) pc next (Branch k t) (context_of q) edges
+pub branch-flows : (v : ShownImage) (d : Context) (pc next t : ℕ) (k : Cond) (p q : Context) (edges : Edges) → operand_rule v (live_of d) pc (Branch k t) ≡ None
+    → Refined v d k p q → (edge_fits v.shapes (context_of p) (v.block_at t) && edge_fits v.shapes (context_of q) (v.block_at next)) ≡ true
+    → (is_dead (context_of q) || in_function v pc next) ≡ true → edges.falls ≡ not q.dead
+    → MatchOption edges.branch (p.dead ≡ true) (λ b. (b.0 ≡ t) × (b.1 ≡ p) × (p.dead ≡ false)) → FormFlows v (Live (live_of d)) pc next (Branch k t) (context_of q) edges
 unfolding falls_to branches_to falling branching live_of
 branch-flows v d pc next t k p q edges op h e f g m = record {
   none_fails = form-none v (Live (live_of d)) pc next (Branch k t) (edge-fails v (live_of d) pc next (Branch k t) None op (rw (kept-rules v d pc next t k p q h, e, f) refl));
@@ -212,7 +248,9 @@ refined s t c k e f p q = rw (p, q) refl
 -- from forms to instructions
 
 -- no rule of the instruction fails where none of its form does
-pub whole-flows : (v : ShownImage) (d : Context) (pc next : ℕ) (form : Form) (inst : Inst) (len : ℕ) (after : ContextView) → d.dead ≡ false → next ≡ next_of pc len → form ≡ form_of next inst → (r : Result Edges Rule) → IfOk r (λ edges. FormFlows v (Live (live_of d)) pc next form after edges) → IfOk r (λ edges. Flows v (context_of d) pc inst len after edges)
+pub whole-flows : (v : ShownImage) (d : Context) (pc next : ℕ) (form : Form) (inst : Inst) (len : ℕ) (after : ContextView) → d.dead ≡ false → next ≡ next_of pc len
+    → form ≡ form_of next inst → (r : Result Edges Rule) → IfOk r (λ edges. FormFlows v (Live (live_of d)) pc next form after edges)
+    → IfOk r (λ edges. Flows v (context_of d) pc inst len after edges)
 whole-flows v d pc next form inst len after e n f (Err rule) h = h
 whole-flows v d pc next form inst len after e n f (Ok edges) h =
     let i = subst (λ x. FormFlows v (Live (live_of d)) pc next x after edges) f h in
@@ -220,7 +258,9 @@ whole-flows v d pc next form inst len after e n f (Ok edges) h =
     subst (λ x. FormFlows v x pc (next_of pc len) (form_of (next_of pc len) inst) after edges) (sym (live-context d e)) j
 
 -- the least rule of the instruction is that of its form
-pub whole-fails : (v : ShownImage) (d : Context) (pc next : ℕ) (form : Form) (inst : Inst) (len : ℕ) → d.dead ≡ false → next ≡ next_of pc len → form ≡ form_of next inst → (r : Result Edges Rule) → IfErr r (λ rule. rule_of_form v (Live (live_of d)) pc next form ≡ Some rule.0) → IfErr r (λ rule. LeastRule v (context_of d) pc inst len rule.0)
+pub whole-fails : (v : ShownImage) (d : Context) (pc next : ℕ) (form : Form) (inst : Inst) (len : ℕ) → d.dead ≡ false → next ≡ next_of pc len → form ≡ form_of next inst
+    → (r : Result Edges Rule) → IfErr r (λ rule. rule_of_form v (Live (live_of d)) pc next form ≡ Some rule.0)
+    → IfErr r (λ rule. LeastRule v (context_of d) pc inst len rule.0)
 unfolding rule_of
 whole-fails v d pc next form inst len e n f (Ok edges) h = h
 whole-fails v d pc next form inst len e n f (Err rule) h =
@@ -230,30 +270,38 @@ whole-fails v d pc next form inst len e n f (Err rule) h =
 
 -- the dead context
 
+-- rule 1 fails at a refused form in the dead context
 refused-dead : (v : ShownImage) (pc next : ℕ) → rule_of_form v Dead pc next Refused ≡ Some 1
 unfolding rule_of_form
 refused-dead v pc next = refl
 
+-- none fails there at another form
 no-dead-rule : (v : ShownImage) (pc next : ℕ) (form : Form) → is_refused form ≡ false → rule_of_form v Dead pc next form ≡ None
 unfolding rule_of_form
 no-dead-rule v pc next Refused r = absurd (grind arith)
 no-dead-rule v pc next form r = refl
 
+-- and nothing goes on from there
 none-dead : (v : ShownImage) (pc next : ℕ) (form : Form) → is_refused form ≡ false → FormFlows v Dead pc next form Dead (record { branch = None; falls = false })
 unfolding falls_to branches_to is_dead
 none-dead v pc next form r = record { none_fails = form-none v Dead pc next form (no-dead-rule v pc next form r); falls = refl; falls_on = refl; branch = refl }
 
 -- rule 1 fails in the dead context, too
-pub dead-fails : (v : ShownImage) (d : Context) (pc next : ℕ) (form : Form) (inst : Inst) (len : ℕ) → d.dead ≡ true → next ≡ next_of pc len → form ≡ form_of next inst → is_refused form ≡ true → LeastRule v (context_of d) pc inst len 1
+pub dead-fails : (v : ShownImage) (d : Context) (pc next : ℕ) (form : Form) (inst : Inst) (len : ℕ) → d.dead ≡ true → next ≡ next_of pc len → form ≡ form_of next inst
+    → is_refused form ≡ true → LeastRule v (context_of d) pc inst len 1
 unfolding rule_of
 dead-fails v d pc next form inst len e n f r =
-    rw (dead-context d e) (rule-least v Dead pc inst len 1 (subst (λ x. rule_of_form v Dead pc x (form_of x inst) ≡ Some 1) n (subst (λ x. rule_of_form v Dead pc next x ≡ Some 1) f (go form r))))
+    rw (dead-context d e)
+    (rule-least v Dead pc inst len 1 (subst (λ x. rule_of_form v Dead pc x (form_of x inst) ≡ Some 1) n (subst (λ x. rule_of_form v Dead pc next x ≡ Some 1) f (go form r))))
   where
     go : (form : Form) → is_refused form ≡ true → rule_of_form v Dead pc next form ≡ Some 1
     go Refused r = refused-dead v pc next
     go form r = absurd (grind arith)
 
 -- no other rule fails in the dead context
-pub dead-flows : (v : ShownImage) (d : Context) (pc next : ℕ) (form : Form) (inst : Inst) (len : ℕ) → d.dead ≡ true → next ≡ next_of pc len → form ≡ form_of next inst → is_refused form ≡ false → Flows v (context_of d) pc inst len (context_of d) (record { branch = None; falls = false })
+pub dead-flows : (v : ShownImage) (d : Context) (pc next : ℕ) (form : Form) (inst : Inst) (len : ℕ) → d.dead ≡ true → next ≡ next_of pc len → form ≡ form_of next inst
+    → is_refused form ≡ false → Flows v (context_of d) pc inst len (context_of d) (record { branch = None; falls = false })
 dead-flows v d pc next form inst len e n f r =
-    rw (dead-context d e) (subst (λ x. FormFlows v Dead pc x (form_of x inst) Dead (record { branch = None; falls = false })) n (subst (λ x. FormFlows v Dead pc next x Dead (record { branch = None; falls = false })) f (none-dead v pc next form r)))
+    rw (dead-context d e)
+    (subst (λ x. FormFlows v Dead pc x (form_of x inst) Dead (record { branch = None; falls = false })) n
+    (subst (λ x. FormFlows v Dead pc next x Dead (record { branch = None; falls = false })) f (none-dead v pc next form r)))

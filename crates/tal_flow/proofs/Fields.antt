@@ -32,11 +32,13 @@ abbrev pub agrees : Bool → Bool → Bool
 agrees true b = b
 agrees false b = not b
 
+-- tests that agree are equal
 agree-equal : (p q : Bool) → agrees p q ≡ true → p ≡ q
 agree-equal true q e = sym e
 agree-equal false true e = e
 agree-equal false false e = refl
 
+-- each register's mask agrees with the relation at each pair
 masks : every (λ r. every (λ i. every (λ a. agrees (pair_in (get_or KEPT (number r) 0) i a) (not (same i r) && not (same a r))))) ≡ true
 unfolding pair_in same
 masks = refl
@@ -48,6 +50,7 @@ kept-mask r i a =
     (every-all (λ i. every (λ a. agrees (pair_in (get_or KEPT (number r) 0) i a) (not (same i r) && not (same a r)))) i
     (every-all (λ r. every (λ i. every (λ a. agrees (pair_in (get_or KEPT (number r) 0) i a) (not (same i r) && not (same a r))))) r masks)))
 
+-- a pair is in what two sets share where it is in both
 pair_in-and : (m n : ℕ) (i a : Reg) → pair_in (bit_and m n) i a ≡ (pair_in m i a && pair_in n i a)
 unfolding pair_in
 pair_in-and m n i a =
@@ -57,6 +60,7 @@ pair_in-and m n i a =
     let high = bit_at-lt n k in
     grind (arith, nat_tests)
 
+-- three tests in another order
 both-in-order : (p x y : Bool) → (p && (x && y)) ≡ (x && (y && p))
 both-in-order p x y = grind arith
 
@@ -68,6 +72,7 @@ pairs-without bits r i a =
     ∙ ap (λ b. pair_in bits i a && b) (kept-mask r i a)
     ∙ both-in-order (pair_in bits i a) (not (same i r)) (not (same a r))
 
+-- a number below 64 is one pair of numbers below 8
 same_place : (x y z w : ℕ) → y < 8 → w < 8 → 8 * x + y ≡ 8 * z + w → (x ≡ z) × (y ≡ w)
 same_place x y z w h k e = (omega arith, omega arith)
 
@@ -79,7 +84,8 @@ pairs-with bits r q i a = go (nat_eq (8 * number i + number a) (8 * number r + n
     within : 8 * number r + number q < 64
     within = let x = number-below r in let y = number-below q in omega arith
 
-    go : (t : Bool) → nat_eq (8 * number i + number a) (8 * number r + number q) ≡ t → nat_eq (bit_at (bit_or bits (1 * 2 ^ (8 * number r + number q) % 2 ^ 64)) (8 * number i + number a)) 1 ≡ (nat_eq (number i) (number r) && nat_eq (number a) (number q) || nat_eq (bit_at bits (8 * number i + number a)) 1)
+    go : (t : Bool) → nat_eq (8 * number i + number a) (8 * number r + number q) ≡ t
+        → nat_eq (bit_at (bit_or bits (1 * 2 ^ (8 * number r + number q) % 2 ^ 64)) (8 * number i + number a)) 1 ≡ (nat_eq (number i) (number r) && nat_eq (number a) (number q) || nat_eq (bit_at bits (8 * number i + number a)) 1)
     go true e =
         let f : 8 * number i + number a ≡ 8 * number r + number q = grind (arith, nat_tests) in
         let one = bit_at_set_same w64 bits (8 * number r + number q) within in
@@ -123,17 +129,20 @@ past [] k h = refl
 past (x ∷ xs) zero h = absurd (omega arith)
 past (x ∷ xs) (suc k) h = past xs k (omega arith)
 
+-- what stands behind one more element
 next_of_front : (ys : List Ty) (y : Ty) (k : ℕ) → get_or ys k Junk ≡ get_or (y ∷ ys) (k + 1) Junk
 next_of_front ys y k = rw (add-one k) refl
 
 -- the slots with one more before them
-pub take-pushed : (ys xs : List Ty) (d : ℕ) (t : Ty) → length ys ≡ 64 → length xs ≡ 64 → d < 64 → get_or ys 0 Junk ≡ t → ((k : ℕ) → k < 63 → get_or ys (k + 1) Junk ≡ get_or xs k Junk) → take (d + 1) ys ≡ t ∷ take d xs
+pub take-pushed : (ys xs : List Ty) (d : ℕ) (t : Ty) → length ys ≡ 64 → length xs ≡ 64 → d < 64 → get_or ys 0 Junk ≡ t
+    → ((k : ℕ) → k < 63 → get_or ys (k + 1) Junk ≡ get_or xs k Junk) → take (d + 1) ys ≡ t ∷ take d xs
 take-pushed [] xs d t l m h e f = absurd (omega arith)
 take-pushed (y ∷ ys) xs d t l m h e f =
     rw (add-one d) (ap (λ z. z ∷ take d ys) e ∙ ap (λ zs. t ∷ zs) (take-alike d ys xs (omega arith) (omega arith) (λ k i. next_of_front ys y k ∙ f k (omega arith))))
 
 -- the places behind them are Junk
-pub junk-pushed : (ys xs : List Ty) (d k : ℕ) → length ys ≡ 64 → length xs ≡ 64 → ((k : ℕ) → k < 63 → get_or ys (k + 1) Junk ≡ get_or xs k Junk) → ((k : ℕ) → d ≤ k → get_or xs k Junk ≡ Junk) → d + 1 ≤ k → get_or ys k Junk ≡ Junk
+pub junk-pushed : (ys xs : List Ty) (d k : ℕ) → length ys ≡ 64 → length xs ≡ 64 → ((k : ℕ) → k < 63 → get_or ys (k + 1) Junk ≡ get_or xs k Junk)
+    → ((k : ℕ) → d ≤ k → get_or xs k Junk ≡ Junk) → d + 1 ≤ k → get_or ys k Junk ≡ Junk
 junk-pushed ys xs d zero l m f j h = absurd (omega arith)
 junk-pushed ys xs d (suc k) l m f j h = go (nat_lt k 63) refl
   where
@@ -141,33 +150,39 @@ junk-pushed ys xs d (suc k) l m f j h = go (nat_lt k 63) refl
     go true e = let low : k < 63 = grind (arith, nat_tests) in (rw (add-one k) at (f k low)) ∙ j k (omega arith)
     go false e = let high : 63 ≤ k = grind (arith, nat_tests) in past ys (suc k) (omega arith)
 
+-- a place in a list is one further in the list with one more element
 plus-suc : (k n : ℕ) (ys : List Ty) (x : Ty) (xs : List Ty) → ys ≡ x ∷ xs → get_or xs (k + n) Junk ≡ get_or ys (k + suc n) Junk
 plus-suc k n ys x xs e =
     let f : k + suc n ≡ suc (k + n) = omega arith in
     rw (e, f) refl
 
+-- what stands at a place behind those dropped
 get-drop : (n : ℕ) (xs : List Ty) (k : ℕ) → get_or (drop n xs) k Junk ≡ get_or xs (k + n) Junk
 get-drop zero xs k = ap (λ m. get_or xs m Junk) {x = k} {y = k + 0} (omega arith)
 get-drop (suc n) [] k = refl
 get-drop (suc n) (x ∷ xs) k = get-drop n xs k ∙ plus-suc k n (x ∷ xs) x xs refl
 
+-- no front of an empty list
 take-none : (d : ℕ) (xs : List Ty) → xs ≡ [] → take d xs ≡ []
 take-none zero xs e = refl
 take-none (suc d) xs e = rw e refl
 
+-- dropping from a front is a front of what is dropped from
 drop-within : (n d : ℕ) (xs : List Ty) → drop n (take d xs) ≡ take (d - n) (drop n xs)
 drop-within zero d xs = ap (λ m. take m xs) {x = d} {y = d - 0} (omega arith)
 drop-within (suc n) zero xs = sym (ap (λ m. take m (drop (suc n) xs)) {x = 0 - suc n} {y = 0} (omega arith))
 drop-within (suc n) (suc d) [] = sym (take-none (suc d - suc n) [] refl)
 drop-within (suc n) (suc d) (x ∷ xs) = drop-within n d xs ∙ ap (λ m. take m (drop n xs)) {x = d - n} {y = suc d - suc n} (omega arith)
 
+-- how long the rest is
 length-dropped : (n : ℕ) (xs : List Ty) → length (drop n xs) ≡ length xs - n
 length-dropped zero xs = omega arith
 length-dropped (suc n) [] = omega arith
 length-dropped (suc n) (x ∷ xs) = let l = length-dropped n xs in omega arith
 
 -- the slots without the first n
-pub take-dropped : (ys xs : List Ty) (d n : ℕ) → length ys ≡ 64 → length xs ≡ 64 → d ≤ 64 → n ≤ d → ((k : ℕ) → get_or ys k Junk ≡ get_or xs (k + n) Junk) → take (d - n) ys ≡ drop n (take d xs)
+pub take-dropped : (ys xs : List Ty) (d n : ℕ) → length ys ≡ 64 → length xs ≡ 64 → d ≤ 64 → n ≤ d → ((k : ℕ) → get_or ys k Junk ≡ get_or xs (k + n) Junk)
+    → take (d - n) ys ≡ drop n (take d xs)
 take-dropped ys xs d n l m h e f =
     take-alike (d - n) ys (drop n xs) (omega arith) (let g = length-dropped n xs in omega arith) (λ k i. f k ∙ sym (get-drop n xs k))
     ∙ sym (drop-within n d xs)
@@ -199,7 +214,8 @@ pub slot-depth : (c : Context) (i : ℕ) → length c.slots ≡ 64 → i < lengt
 slot-depth c i l h = let d = depth-of c l in omega arith
 
 -- the slots from n on, copied as far as the last
-pub dropped-whole : (ys xs : List Ty) (n i k : ℕ) → length xs ≡ 64 → 64 ≤ i → ((k : ℕ) → k + n < i → get_or ys k Junk ≡ get_or xs (k + n) Junk) → ((k : ℕ) → i ≤ k + n → get_or ys k Junk ≡ Junk) → get_or ys k Junk ≡ get_or xs (k + n) Junk
+pub dropped-whole : (ys xs : List Ty) (n i k : ℕ) → length xs ≡ 64 → 64 ≤ i → ((k : ℕ) → k + n < i → get_or ys k Junk ≡ get_or xs (k + n) Junk)
+    → ((k : ℕ) → i ≤ k + n → get_or ys k Junk ≡ Junk) → get_or ys k Junk ≡ get_or xs (k + n) Junk
 dropped-whole ys xs n i k l h f j = go (nat_lt (k + n) i) refl
   where
     go : (t : Bool) → nat_lt (k + n) i ≡ t → get_or ys k Junk ≡ get_or xs (k + n) Junk

@@ -34,24 +34,29 @@ pub head-above : (s : ShapesView) (a : LiveContext) (b : ContextView) → Contex
 head-above s a Dead h one = tt
 head-above s a (Live b) h one = λ t r q e f. one t r q (h.heads t r e) (h.heads t q f)
 
+-- a write adds no head
 write-head : (c : LiveContext) (r : Reg) (t : Ty) → OneHead c → OneHead (write r t c)
 unfolding write without
 write-head c r t h = λ i a b e f. h i a b (grind arith) (grind arith)
 
+-- nor does the upper half of a wide result
 write_high-head : (c : LiveContext) (r : Bool) → OneHead c → OneHead (write_high r c)
 unfolding write_high
 write_high-head c false h = h
 write_high-head c true h = write-head c Edx Num h
 
+-- nor a kind
 give_kind-head : (c : LiveContext) (k : Option FlagKind) → OneHead c → OneHead (give_kind k c)
 unfolding give_kind
 give_kind-head c k h = h
 
+-- nor a value at a place
 store_place-head : (c : LiveContext) (p : Option Place) (t : Ty) → OneHead c → OneHead (store_place p t c)
 unfolding store_place
 store_place-head c (Some (Slot i)) t h = h
 store_place-head c p t h = h
 
+-- nor a value in an operand
 store-head : (v : ShownImage) (c : LiveContext) (d : Operand) (t : Ty) → OneHead c → OneHead (store v d t c)
 unfolding store
 store-head v c (R r) t h = write-head c r t h
@@ -63,9 +68,11 @@ add-head-one : (c : LiveContext) (r b : Reg) (t : Ty) → OneHead c → OneHead 
 unfolding add_head write without
 add-head-one c r b t h = λ i x y e f. one_of c r b t h i x y e f
   where
-    one_of : (c : LiveContext) (r b : Reg) (t : Ty) → OneHead c → (i x y : Reg) → (same i r && same x b || not (same i r) && (not (same x r) && c.heads i x)) ≡ true → (same i r && same y b || not (same i r) && (not (same y r) && c.heads i y)) ≡ true → x ≡ y
+    one_of : (c : LiveContext) (r b : Reg) (t : Ty) → OneHead c → (i x y : Reg) → (same i r && same x b || not (same i r) && (not (same x r) && c.heads i x)) ≡ true
+        → (same i r && same y b || not (same i r) && (not (same y r) && c.heads i y)) ≡ true → x ≡ y
     one_of c r b t h i x y e f = grind (arith, same-cases, h i x y)
 
+-- a MOV notes a head of a register whose heads it has just dropped
 note_head-one : (v : ShownImage) (c : LiveContext) (d : Operand) (t : Ty) (p : Option Place) → OneHead c → OneHead (note_head d p (store v d t c))
 unfolding note_head store
 note_head-one v c (R r) t (Some (Head b k)) h = go (same b r)
@@ -77,14 +84,17 @@ note_head-one v c (R r) t p h = write-head c r t h
 note_head-one v c (M m) t p h = store-head v c (M m) t h
 note_head-one v c (I n) t p h = h
 
+-- a call leaves no heads
 after_call-head : (c : LiveContext) (t : Ty) → OneHead (after_call t c)
 unfolding after_call
 after_call-head c t = λ i x y e f. absurd (grind arith)
 
+-- a POP adds none
 pop_to-head : (c : LiveContext) (r : Reg) → OneHead c → OneHead (pop_to r c)
 unfolding pop_to
 pop_to-head c r h = write-head c r _ h
 
+-- what an instruction leaves has one head at most
 after-head : (v : ShownImage) (c : LiveContext) (pc : ℕ) (f : Form) → OneHead c → OneHead (after v c pc f)
 unfolding after
 after-head v c pc (Compute xs d r k) h = give_kind-head _ k (write_high-head _ r (store-head v c d Num h))
@@ -95,30 +105,36 @@ after-head v c pc (CallTo t) h = after_call-head c _
 after-head v c pc (CallBy x) h = after_call-head c _
 after-head v c pc f h = h
 
+-- each of two contexts has one head at most, and so has the one that a test picks
 either-head : (b : Bool) (c d : ContextView) → HasOneHead c → HasOneHead d → HasOneHead (if b then c else d)
 either-head true c d g h = g
 either-head false c d g h = h
 
+-- more about a register adds no head
 refine_reg-head : (c : LiveContext) (r : Reg) (t : Ty) → OneHead c → OneHead (refine_reg r t c)
 unfolding refine_reg
 refine_reg-head c r t h = h
 
+-- nor does a class test
 meet_class-head : (s : ShapesView) (c : LiveContext) (r : Reg) (k d : ℕ) → OneHead c → HasOneHead (meet_class s c r k d)
 unfolding meet_class
 meet_class-head s c r k d h =
     either-head (within s k d) _ _ (refine_reg-head c r (Obj k) h)
     (either-head (within s d k) (Live (refine_reg r (Obj d) c)) Dead (refine_reg-head c r (Obj d) h) tt)
 
+-- nor does a test of a register's class
 meet-head : (s : ShapesView) (c : LiveContext) (r : Reg) (t : Ty) (d : ℕ) → OneHead c → HasOneHead (meet s c r t d)
 unfolding meet
 meet-head s c r (Obj k) d h = meet_class-head s c r k d h
 meet-head s c r (Ref k) d h = meet_class-head s c r k d h
 meet-head s c r t d h = h
 
+-- nor does a pair
 add_pair-head : (c : LiveContext) (i a : Reg) → OneHead c → OneHead (add_pair i a c)
 unfolding add_pair
 add_pair-head c i a h = h
 
+-- nor does refinement
 refine-head : (s : ShapesView) (c : LiveContext) (k : FlagKind) (e : Told) → OneHead c → HasOneHead (refine s c k e)
 unfolding refine
 refine-head s c (NullTest r) Unequal h = refine_reg-head c r _ h
@@ -126,6 +142,7 @@ refine-head s c (Bound i a) Below h = add_pair-head c i a h
 refine-head s c (IsA r d) Equal h = meet-head s c r (c.regs r) d h
 refine-head s c k e h = h
 
+-- what falls through has one head at most
 falls_to-head : (v : ShownImage) (a : ContextView) (pc : ℕ) (f : Form) → HasOneHead a → HasOneHead (falls_to v a pc f)
 unfolding falls_to falling
 falls_to-head v Dead pc f h = tt
@@ -139,6 +156,7 @@ pub falls-head : (v : ShownImage) (a : ContextView) (x : Placed) → HasOneHead 
 unfolding Falls
 falls-head v a x h = falls_to-head v a x.pc (form_of (next_of x.pc x.len) x.inst) h
 
+-- the context of a signature has none
 entry-head : (sig : Sig) → HasOneHead (entry sig)
 unfolding entry plain
 entry-head sig = λ t r q e f. absurd (grind arith)
@@ -153,6 +171,7 @@ start-head v blocks pc a h = go (option_and_then v.sig (v.function_at pc)) (v.bl
     go None (Some d) e = blocks pc d e
     go None None e = h
 
+-- the contexts of instructions one after another have one at most
 at_in-head : (v : ShownImage) → BlocksHaveOneHead v → (xs : List Placed) (a : ContextView) (pc : ℕ) → HasOneHead a → HasOneHead (at_in v xs a pc)
 unfolding at_in
 at_in-head v blocks [] a pc h = tt

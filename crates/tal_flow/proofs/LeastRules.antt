@@ -75,7 +75,8 @@ first-append : (xs ys : List Trial) → first_failing (xs ++ ys) ≡ option_or (
 first-append [] ys = refl
 first-append (t ∷ xs) ys = go t.holds (first-append xs ys)
   where
-    go : (b : Bool) → first_failing (xs ++ ys) ≡ option_or (first_failing xs) (first_failing ys) → demand t.rule b (first_failing (xs ++ ys)) ≡ option_or (demand t.rule b (first_failing xs)) (first_failing ys)
+    go : (b : Bool) → first_failing (xs ++ ys) ≡ option_or (first_failing xs) (first_failing ys)
+        → demand t.rule b (first_failing (xs ++ ys)) ≡ option_or (demand t.rule b (first_failing xs)) (first_failing ys)
     go true h = h
     go false h = refl
 
@@ -106,7 +107,8 @@ form-ascends v (Live c) pc next (Branch condition address) = refl
 form-ascends v (Live c) pc next Nothing = refl
 
 -- the rule of an instruction is the first that fails of those that are tried
-first-of : (v : ShownImage) (c : ContextView) (pc : ℕ) (inst : Inst) (len : ℕ) → rule_of v c pc inst len ≡ first_failing (trials v c pc (next_of pc len) (form_of (next_of pc len) inst))
+first-of : (v : ShownImage) (c : ContextView) (pc : ℕ) (inst : Inst) (len : ℕ)
+    → rule_of v c pc inst len ≡ first_failing (trials v c pc (next_of pc len) (form_of (next_of pc len) inst))
 unfolding rule_of
 first-of v c pc inst len = first-of-form v c pc (next_of pc len) (form_of (next_of pc len) inst)
 

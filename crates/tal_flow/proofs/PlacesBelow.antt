@@ -60,10 +60,12 @@ pub slot-within : (s : ShapesView) → ClassLaws s → (c d n g : ℕ) → withi
 unfolding within
 slot-within s l c d n g h e = grind (arith, nat_tests, l.slot_kept c d n g)
 
+-- a field that the higher class has, the lower one has
 whole-below : (s : ShapesView) (x y : Option FieldTy) → ((t : FieldTy) → y ≡ Some t → x ≡ Some t) → FoundBelow s (whole x) (whole y)
 whole-below s x None h = tt
 whole-below s x (Some t) h = rw (h t refl) refl
 
+-- and so is it with a method
 method-below : (s : ShapesView) (x y : Option ℕ) → ((g : ℕ) → y ≡ Some g → x ≡ Some g) → FoundBelow s (option_map Method x) (option_map Method y)
 method-below s x None h = tt
 method-below s x (Some g) h = rw (h g refl) refl
@@ -90,7 +92,8 @@ table_place-below s l r c d n h =
     (place-same s (display_place r n))
 
 -- elements, whose pair the lower context has, too
-pub element_place-below : (s : ShapesView) (a b : LiveContext) (r : Reg) (j k : ℕ) (i : Reg) (scale n : ℕ) → LiveBelow s a b → j ≡ k → FoundBelow s (element_place s a r j i scale n) (element_place s b r k i scale n)
+pub element_place-below : (s : ShapesView) (a b : LiveContext) (r : Reg) (j k : ℕ) (i : Reg) (scale n : ℕ) → LiveBelow s a b → j ≡ k
+    → FoundBelow s (element_place s a r j i scale n) (element_place s b r k i scale n)
 unfolding element_place
 element_place-below s a b r j k i scale n h e = rw e (go (b.pairs i r) (h.pairs i r))
   where
@@ -99,7 +102,8 @@ element_place-below s a b r j k i scale n h e = rw e (go (b.pairs i r) (h.pairs 
     go true f = rw (f refl) (place-same s (if (scale == 2) && (n == 8) then whole (Element s k) else None))
 
 -- places at a base other than ESP
-pub based-below : (s : ShapesView) → ClassLaws s → (a b : LiveContext) (r : Reg) (t u : Ty) (x : Option Reg) (k n : ℕ) → LiveBelow s a b → sub s t u ≡ true → FoundBelow s (based s a r t x k n) (based s b r u x k n)
+pub based-below : (s : ShapesView) → ClassLaws s → (a b : LiveContext) (r : Reg) (t u : Ty) (x : Option Reg) (k n : ℕ) → LiveBelow s a b → sub s t u ≡ true
+    → FoundBelow s (based s a r t x k n) (based s b r u x k n)
 unfolding sub based
 based-below s l a b r (Obj c) (Obj d) None k n h e = object_place-below s l r c d n e
 based-below s l a b r (Tab c) (Tab d) None k n h e = table_place-below s l r c d n e
@@ -125,6 +129,7 @@ slot_type-below s [] (u ∷ us) i h = absurd (grind arith)
 slot_type-below s (t ∷ ts) (u ∷ us) zero h = (and_parts (sub s t u) _ h).0
 slot_type-below s (t ∷ ts) (u ∷ us) (suc i) h = slot_type-below s ts us i (and_parts (sub s t u) _ h).1
 
+-- the same slot, if it is there, in both contexts
 same-slot : (s : ShapesView) (t : Bool) (i : ℕ) → FoundBelow s (if t then Some (Slot i) else None) (if t then Some (Slot i) else None)
 same-slot s true i = refl
 same-slot s false i = tt
@@ -134,26 +139,32 @@ pub slot_place-below : (s : ShapesView) (a b : LiveContext) (n : ℕ) → all_su
 unfolding slot_place
 slot_place-below s a b n h = go (word_index 0 n)
   where
-    go : (o : Option ℕ) → FoundBelow s (option_and_then (λ i. if is_some (slice_get a.slots i) then Some (Slot i) else None) o) (option_and_then (λ i. if is_some (slice_get b.slots i) then Some (Slot i) else None) o)
+    go : (o : Option ℕ)
+        → FoundBelow s (option_and_then (λ i. if is_some (slice_get a.slots i) then Some (Slot i) else None) o) (option_and_then (λ i. if is_some (slice_get b.slots i) then Some (Slot i) else None) o)
     go None = tt
     go (Some i) = rw (slot_there s a.slots b.slots i h) (same-slot s (is_some (slice_get b.slots i)) i)
 
+-- the places at ESP in two contexts
 stack_place-below : (s : ShapesView) (a b : LiveContext) (x : Option Reg) (n : ℕ) → all_sub s a.slots b.slots ≡ true → FoundBelow s (stack_place a x n) (stack_place b x n)
 stack_place-below s a b None n h = slot_place-below s a b n h
 stack_place-below s a b (Some i) n h = tt
 
-located-below : (s : ShapesView) → ClassLaws s → (statics : List FieldTy) (a b : LiveContext) (r x : Option Reg) (k n : ℕ) → LiveBelow s a b → FoundBelow s (located s statics a r x k n) (located s statics b r x k n)
+-- the places at a base and an index in two contexts
+located-below : (s : ShapesView) → ClassLaws s → (statics : List FieldTy) (a b : LiveContext) (r x : Option Reg) (k n : ℕ) → LiveBelow s a b
+    → FoundBelow s (located s statics a r x k n) (located s statics b r x k n)
 located-below s l statics a b None None k n h = place-same s (static_place statics n)
 located-below s l statics a b None (Some i) k n h = tt
 located-below s l statics a b (Some r) x k n h = if-both (FoundBelow s) (same r Esp) _ _ _ _ (stack_place-below s a b x n h.slots) (based-below s l a b r _ _ x k n h (h.regs r))
 
 -- a memory operand is the same place in the lower context
-pub place-below : (s : ShapesView) → ClassLaws s → (statics : List FieldTy) (a b : LiveContext) (m : Mem) → LiveBelow s a b → FoundBelow s (place_in s statics a m) (place_in s statics b m)
+pub place-below : (s : ShapesView) → ClassLaws s → (statics : List FieldTy) (a b : LiveContext) (m : Mem) → LiveBelow s a b
+    → FoundBelow s (place_in s statics a m) (place_in s statics b m)
 unfolding place_in
 place-below s l statics a b m h = located-below s l statics a b m.base m.index m.scale m.disp h
 
 -- the same of each operand
-pub operand_place-below : (v : ShownImage) → ClassLaws v.shapes → (a b : LiveContext) (x : Operand) → LiveBelow v.shapes a b → FoundBelow v.shapes (operand_place v a x) (operand_place v b x)
+pub operand_place-below : (v : ShownImage) → ClassLaws v.shapes → (a b : LiveContext) (x : Operand) → LiveBelow v.shapes a b
+    → FoundBelow v.shapes (operand_place v a x) (operand_place v b x)
 unfolding operand_place
 operand_place-below v l a b (R r) h = tt
 operand_place-below v l a b (M m) h = place-below v.shapes l v.statics a b m h
@@ -161,6 +172,7 @@ operand_place-below v l a b (I n) h = tt
 
 -- types, and what rules ask of operands
 
+-- a lower table of a class is below
 tab-below : (s : ShapesView) (c d : ℕ) → within s c d ≡ true → sub s (Tab c) (Tab d) ≡ true
 unfolding sub
 tab-below s c d e = e
@@ -181,18 +193,22 @@ pub sub-junk : (s : ShapesView) (t : Ty) → sub s t Junk ≡ true
 unfolding sub
 sub-junk s t = refl
 
-found_type-below : (s : ShapesView) (a b : LiveContext) (p q : Option Place) → LiveBelow s a b → FoundBelow s p q → sub s (option_map_or (place_type a) p Junk) (option_map_or (place_type b) q Junk) ≡ true
+-- what is read at a lower place has a lower type
+found_type-below : (s : ShapesView) (a b : LiveContext) (p q : Option Place) → LiveBelow s a b → FoundBelow s p q
+    → sub s (option_map_or (place_type a) p Junk) (option_map_or (place_type b) q Junk) ≡ true
 found_type-below s a b p None h e = sub-junk s _
 found_type-below s a b (Some p) (Some q) h e = place_type-below s a b p q h e
 found_type-below s a b None (Some q) h e = absurd e
 
 -- an operand has a lower type
-pub type_of-below : (v : ShownImage) → ClassLaws v.shapes → (a b : LiveContext) (pc : ℕ) (x : Operand) → LiveBelow v.shapes a b → sub v.shapes (type_of v a pc x) (type_of v b pc x) ≡ true
+pub type_of-below : (v : ShownImage) → ClassLaws v.shapes → (a b : LiveContext) (pc : ℕ) (x : Operand) → LiveBelow v.shapes a b
+    → sub v.shapes (type_of v a pc x) (type_of v b pc x) ≡ true
 unfolding type_of
 type_of-below v l a b pc (R r) h = h.regs r
 type_of-below v l a b pc (M m) h = found_type-below v.shapes a b _ _ h (place-below v.shapes l v.statics a b m h)
 type_of-below v l a b pc (I n) h = sub-refl v.shapes (immediate_type v pc n)
 
+-- a place that the higher context has, the lower one has
 is_found-below : (s : ShapesView) (p q : Option Place) → FoundBelow s p q → is_some q ≡ true → is_some p ≡ true
 is_found-below s p None h e = absurd (grind arith)
 is_found-below s (Some p) (Some q) h e = refl
@@ -205,6 +221,7 @@ found-below v l a b (R r) h e = e
 found-below v l a b (M m) h e = is_found-below v.shapes _ _ (place-below v.shapes l v.statics a b m h) e
 found-below v l a b (I n) h e = e
 
+-- a place that may be read may be read below
 is_readable-below : (s : ShapesView) (p q : Place) → PlaceBelow s p q → is_readable q ≡ true → is_readable p ≡ true
 unfolding is_readable
 is_readable-below s p q h e = grind arith
@@ -214,22 +231,26 @@ pub is_writable-below : (s : ShapesView) (p q : Place) → PlaceBelow s p q → 
 unfolding is_writable
 is_writable-below s p q h e = grind arith
 
+-- a place takes a lower value where it takes a higher one
 takes-below : (s : ShapesView) → ClassLaws s → (t u : Ty) (p q : Place) → PlaceBelow s p q → sub s t u ≡ true → takes s u q ≡ true → takes s t p ≡ true
 unfolding takes
 takes-below s l t u p q h g e = grind (arith, sub-trans s l t u)
 
+-- an operand that may be read in the higher context may be read in the lower
 read-below : (s : ShapesView) (p q : Option Place) → FoundBelow s p q → is_some q ≡ true → option_map_or is_readable q true ≡ true → option_map_or is_readable p true ≡ true
 read-below s p None h d e = absurd (grind arith)
 read-below s (Some p) (Some q) h d e = is_readable-below s p q h e
 read-below s None (Some q) h d e = absurd h
 
 -- rule 4 of an operand that is read
-pub readable-below : (v : ShownImage) → ClassLaws v.shapes → (a b : LiveContext) (x : Operand) → LiveBelow v.shapes a b → found v b x ≡ true → readable v b x ≡ true → readable v a x ≡ true
+pub readable-below : (v : ShownImage) → ClassLaws v.shapes → (a b : LiveContext) (x : Operand) → LiveBelow v.shapes a b → found v b x ≡ true → readable v b x ≡ true
+    → readable v a x ≡ true
 unfolding readable found operand_place
 readable-below v l a b (R r) h d e = e
 readable-below v l a b (M m) h d e = read-below v.shapes _ _ (place-below v.shapes l v.statics a b m h) d e
 readable-below v l a b (I n) h d e = e
 
+-- an operand that may be written in the higher context may be written in the lower
 written-below : (s : ShapesView) (p q : Option Place) → FoundBelow s p q → option_map_or is_writable q false ≡ true → option_map_or is_writable p false ≡ true
 written-below s p None h e = absurd (grind arith)
 written-below s (Some p) (Some q) h e = is_writable-below s p q h e
@@ -247,13 +268,16 @@ pub is_num-below : (s : ShapesView) (t u : Ty) → sub s t u ≡ true → is_num
 unfolding is_num sub
 is_num-below s t u h e = grind arith
 
-taken-below : (s : ShapesView) → ClassLaws s → (t u : Ty) (p q : Option Place) → FoundBelow s p q → sub s t u ≡ true → option_map_or is_writable q false ≡ true → option_map_or (takes s u) q true ≡ true → option_map_or (takes s t) p true ≡ true
+-- a place that the higher context may write takes the lower value below
+taken-below : (s : ShapesView) → ClassLaws s → (t u : Ty) (p q : Option Place) → FoundBelow s p q → sub s t u ≡ true → option_map_or is_writable q false ≡ true
+    → option_map_or (takes s u) q true ≡ true → option_map_or (takes s t) p true ≡ true
 taken-below s l t u p None h g w e = absurd (grind arith)
 taken-below s l t u (Some p) (Some q) h g w e = takes-below s l t u p q h g e
 taken-below s l t u None (Some q) h g w e = absurd h
 
 -- rule 6: what is lower is stored in the same place
-pub storable-below : (v : ShownImage) → ClassLaws v.shapes → (a b : LiveContext) (x : Operand) (t u : Ty) → LiveBelow v.shapes a b → sub v.shapes t u ≡ true → writable v b x ≡ true → storable v b u x ≡ true → storable v a t x ≡ true
+pub storable-below : (v : ShownImage) → ClassLaws v.shapes → (a b : LiveContext) (x : Operand) (t u : Ty) → LiveBelow v.shapes a b → sub v.shapes t u ≡ true
+    → writable v b x ≡ true → storable v b u x ≡ true → storable v a t x ≡ true
 unfolding storable writable operand_place
 storable-below v l a b (R r) t u h g w e = refl
 storable-below v l a b (M m) t u h g w e = taken-below v.shapes l t u _ _ (place-below v.shapes l v.statics a b m h) g w e
@@ -261,20 +285,24 @@ storable-below v l a b (I n) t u h g w e = refl
 
 -- lists of operands
 
+-- a test of each operand that holds in the higher context holds in the lower
 all-below : (p q : Operand → Bool) (xs : List Operand) → ((x : Operand) → q x ≡ true → p x ≡ true) → list_all q xs ≡ true → list_all p xs ≡ true
 all-below p q [] h e = e
 all-below p q (x ∷ xs) h e = let f = and_parts (q x) _ e in rw (h x f.0) (all-below p q xs h f.1)
 
 -- rule 3 of all sources
-pub all_found-below : (v : ShownImage) → ClassLaws v.shapes → (a b : LiveContext) (xs : List Operand) → LiveBelow v.shapes a b → list_all (found v b) xs ≡ true → list_all (found v a) xs ≡ true
+pub all_found-below : (v : ShownImage) → ClassLaws v.shapes → (a b : LiveContext) (xs : List Operand) → LiveBelow v.shapes a b → list_all (found v b) xs ≡ true
+    → list_all (found v a) xs ≡ true
 all_found-below v l a b xs h e = all-below (found v a) (found v b) xs (λ x. found-below v l a b x h) e
 
 -- rule 5 of all sources
-pub all_num-below : (v : ShownImage) → ClassLaws v.shapes → (a b : LiveContext) (pc : ℕ) (xs : List Operand) → LiveBelow v.shapes a b → list_all (λ x. is_num (type_of v b pc x)) xs ≡ true → list_all (λ x. is_num (type_of v a pc x)) xs ≡ true
+pub all_num-below : (v : ShownImage) → ClassLaws v.shapes → (a b : LiveContext) (pc : ℕ) (xs : List Operand) → LiveBelow v.shapes a b
+    → list_all (λ x. is_num (type_of v b pc x)) xs ≡ true → list_all (λ x. is_num (type_of v a pc x)) xs ≡ true
 all_num-below v l a b pc xs h e = all-below (λ x. is_num (type_of v a pc x)) (λ x. is_num (type_of v b pc x)) xs (λ x. is_num-below v.shapes _ _ (type_of-below v l a b pc x h)) e
 
 -- rule 4 of all sources
-pub all_readable-below : (v : ShownImage) → ClassLaws v.shapes → (a b : LiveContext) (xs : List Operand) → LiveBelow v.shapes a b → list_all (found v b) xs ≡ true → list_all (readable v b) xs ≡ true → list_all (readable v a) xs ≡ true
+pub all_readable-below : (v : ShownImage) → ClassLaws v.shapes → (a b : LiveContext) (xs : List Operand) → LiveBelow v.shapes a b → list_all (found v b) xs ≡ true
+    → list_all (readable v b) xs ≡ true → list_all (readable v a) xs ≡ true
 all_readable-below v l a b [] h d e = e
 all_readable-below v l a b (x ∷ xs) h d e =
     let f = and_parts (found v b x) _ d in let g = and_parts (readable v b x) _ e in

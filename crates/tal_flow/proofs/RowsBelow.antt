@@ -28,10 +28,12 @@ KindBelow j None = Unit {0}
 KindBelow (Some j) (Some k) = kind_below j k ≡ true
 KindBelow None (Some k) = ⊥
 
+-- the first head is a head
 first_head-some : (c : LiveContext) (t r : Reg) → first_head c t ≡ Some r → c.heads t r ≡ true
 unfolding first_head
 first_head-some c t r e = grind arith
 
+-- where there is no first head, there is none
 first_head-none : (c : LiveContext) (t r : Reg) → first_head c t ≡ None → c.heads t r ≡ true → ⊥
 unfolding first_head
 first_head-none c t r e h = grind arith
@@ -47,6 +49,7 @@ first_head-below s a b t r h one e = go (first_head a t) refl
     go None f = absurd (first_head-none a t r f here)
     go (Some q) f = let k = one t q r (first_head-some a t q f) here in cc
 
+-- the kind of a class test in two contexts
 class_test-below : (s : ShapesView) (a b : LiveContext) (t : Reg) (d : ℕ) → LiveBelow s a b → OneHead a → kind_below (class_test a t d) (class_test b t d) ≡ true
 unfolding class_test kind_below
 class_test-below s a b t d h one = go (first_head b t) refl
@@ -55,16 +58,20 @@ class_test-below s a b t d h one = go (first_head b t) refl
     go None f = grind arith
     go (Some r) f = let g = first_head-below s a b t r h one f in grind (arith, nat_tests, same-refl)
 
-display-below : (s : ShapesView) (a b : LiveContext) (t : Reg) (k : ℕ) (m : Option ℕ) → LiveBelow s a b → OneHead a → KindBelow (display_row s a (Some (Display t k)) m) (display_row s b (Some (Display t k)) m)
+-- the row of a display in two contexts
+display-below : (s : ShapesView) (a b : LiveContext) (t : Reg) (k : ℕ) (m : Option ℕ) → LiveBelow s a b → OneHead a
+    → KindBelow (display_row s a (Some (Display t k)) m) (display_row s b (Some (Display t k)) m)
 unfolding display_row
 display-below s a b t k None h one = tt
 display-below s a b t k (Some d) h one = grind (arith, class_test-below s a b t d h one)
 
+-- the same display in two contexts
 display-same : (s : ShapesView) (p : Option Place) (t : Reg) (k : ℕ) → FoundBelow s p (Some (Display t k)) → p ≡ Some (Display t k)
 display-same s p t k e = grind arith
 
 -- the row of displays gives a lower kind
-pub display_row-below : (s : ShapesView) (a b : LiveContext) (p q : Option Place) (m : Option ℕ) → LiveBelow s a b → OneHead a → FoundBelow s p q → KindBelow (display_row s a p m) (display_row s b q m)
+pub display_row-below : (s : ShapesView) (a b : LiveContext) (p q : Option Place) (m : Option ℕ) → LiveBelow s a b → OneHead a → FoundBelow s p q
+    → KindBelow (display_row s a p m) (display_row s b q m)
 unfolding display_row
 display_row-below s a b p (Some (Display t k)) m h one e = rw (display-same s p t k e) (display-below s a b t k m h one)
 display_row-below s a b p q m h one e = tt
@@ -84,10 +91,12 @@ abbrev pub is_display : Option Place → Bool
 is_display (Some (Display t k)) = true
 is_display _ = false
 
+-- what is no display has no row
 display_row-none : (s : ShapesView) (c : LiveContext) (p : Option Place) (m : Option ℕ) → is_display p ≡ false → display_row s c p m ≡ None
 unfolding display_row
 display_row-none s c p m e = grind arith
 
+-- a display in the higher context is one in the lower
 display-above : (s : ShapesView) (p q : Option Place) → FoundBelow s p q → is_display q ≡ true → is_display p ≡ true
 display-above s p q h e = grind arith
 
@@ -96,19 +105,29 @@ abbrev pub ArrayBelow : Option Reg → Option Reg → Type 0
 ArrayBelow x None = Unit {0}
 ArrayBelow x (Some a) = x ≡ Some a
 
+-- a comparison with a length is below one with a number
 bound-below : (d : Operand) (x y : Option Reg) → ArrayBelow x y → kind_below (bound_kind d x) (bound_kind d y) ≡ true
 unfolding kind_below
 bound-below d x y h = grind (arith, same-refl)
 
-readable_row-below : (s : ShapesView) (a b : LiveContext) (d : Operand) (f f' g g' : Family) (p p' : Option Place) (x x' : Option Reg) (z : Bool) (m : Option ℕ) → (z ≡ true → g ≡ Numbers) → FamilyBelow f f' → FamilyBelow g g' → ArrayBelow x x' → display_row s b p' m ≡ None → KindBelow (compare_row s a d f g p x z m) (compare_row s b d f' g' p' x' z m)
+-- the row of operands that may be read
+readable_row-below : (s : ShapesView) (a b : LiveContext) (d : Operand) (f f' g g' : Family) (p p' : Option Place) (x x' : Option Reg) (z : Bool) (m : Option ℕ)
+    → (z ≡ true → g ≡ Numbers) → FamilyBelow f f' → FamilyBelow g g' → ArrayBelow x x' → display_row s b p' m ≡ None
+    → KindBelow (compare_row s a d f g p x z m) (compare_row s b d f' g' p' x' z m)
 unfolding compare_row kind_below has_null
 readable_row-below s a b d f f' g g' p p' x x' z m w e i y n = let k = bound-below d x x' y in grind (arith, same-refl)
 
-unreadable_row-below : (s : ShapesView) (a b : LiveContext) (d : Operand) (f f' g g' : Family) (p p' : Option Place) (x x' : Option Reg) (z : Bool) (m : Option ℕ) → f ≡ Others → FamilyBelow f f' → KindBelow (display_row s a p m) (display_row s b p' m) → KindBelow (compare_row s a d f g p x z m) (compare_row s b d f' g' p' x' z m)
+-- the row of a display
+unreadable_row-below : (s : ShapesView) (a b : LiveContext) (d : Operand) (f f' g g' : Family) (p p' : Option Place) (x x' : Option Reg) (z : Bool) (m : Option ℕ)
+    → f ≡ Others → FamilyBelow f f' → KindBelow (display_row s a p m) (display_row s b p' m)
+    → KindBelow (compare_row s a d f g p x z m) (compare_row s b d f' g' p' x' z m)
 unfolding compare_row kind_below has_null
 unreadable_row-below s a b d f f' g g' p p' x x' z m n e dm = grind arith
 
-compare_row-below : (s : ShapesView) (a b : LiveContext) (d : Operand) (f f' g g' : Family) (p p' : Option Place) (x x' : Option Reg) (z : Bool) (m : Option ℕ) → LiveBelow s a b → OneHead a → (is_display p ≡ true → f ≡ Others) → (z ≡ true → g ≡ Numbers) → FamilyBelow f f' → FamilyBelow g g' → FoundBelow s p p' → ArrayBelow x x' → KindBelow (compare_row s a d f g p x z m) (compare_row s b d f' g' p' x' z m)
+-- the row of CMP by its parts
+compare_row-below : (s : ShapesView) (a b : LiveContext) (d : Operand) (f f' g g' : Family) (p p' : Option Place) (x x' : Option Reg) (z : Bool) (m : Option ℕ)
+    → LiveBelow s a b → OneHead a → (is_display p ≡ true → f ≡ Others) → (z ≡ true → g ≡ Numbers) → FamilyBelow f f' → FamilyBelow g g' → FoundBelow s p p'
+    → ArrayBelow x x' → KindBelow (compare_row s a d f g p x z m) (compare_row s b d f' g' p' x' z m)
 compare_row-below s a b d f f' g g' p p' x x' z m h one j w e i k y = go (is_display p') refl
   where
     go : (t : Bool) → is_display p' ≡ t → KindBelow (compare_row s a d f g p x z m) (compare_row s b d f' g' p' x' z m)
@@ -122,13 +141,16 @@ display-other v a pc (R r) e = absurd (grind arith)
 display-other v a pc (M m) e = grind arith
 display-other v a pc (I n) e = absurd (grind arith)
 
+-- an unmarked 0 is a number
 zero-number : (v : ShownImage) (a : LiveContext) (pc : ℕ) (x : Operand) → unmarked_zero v pc x ≡ true → family (type_of v a pc x) ≡ Numbers
 unfolding type_of unmarked_zero immediate_type family
 zero-number v a pc x e = grind arith
 
+-- a length in the higher context is one in the lower
 length-below : (s : ShapesView) (p q : Option Place) (base : Option Reg) → FoundBelow s p q → ArrayBelow (base_of_length p base) (base_of_length q base)
 length-below s p q base h = grind arith
 
+-- and it is the length of the array in the same register
 length_base-below : (v : ShownImage) → ClassLaws v.shapes → (a b : LiveContext) (x : Operand) → LiveBelow v.shapes a b → ArrayBelow (length_base v a x) (length_base v b x)
 unfolding length_base
 length_base-below v l a b (M m) h = length-below v.shapes _ _ m.base (place-below v.shapes l v.statics a b m h)
@@ -136,7 +158,8 @@ length_base-below v l a b (R r) h = tt
 length_base-below v l a b (I n) h = tt
 
 -- CMP gives a lower kind
-pub compare_kind-below : (v : ShownImage) → ClassLaws v.shapes → (a b : LiveContext) (pc : ℕ) (d x : Operand) → LiveBelow v.shapes a b → OneHead a → KindBelow (compare_kind v a pc d x) (compare_kind v b pc d x)
+pub compare_kind-below : (v : ShownImage) → ClassLaws v.shapes → (a b : LiveContext) (pc : ℕ) (d x : Operand) → LiveBelow v.shapes a b → OneHead a
+    → KindBelow (compare_kind v a pc d x) (compare_kind v b pc d x)
 unfolding compare_kind
 compare_kind-below v l a b pc d x h one =
     compare_row-below v.shapes a b d _ _ _ _ _ _ _ _ (unmarked_zero v pc x) (marked_class v pc x) h one
@@ -147,11 +170,13 @@ compare_kind-below v l a b pc d x h one =
     (operand_place-below v l a b d h)
     (length_base-below v l a b x h)
 
+-- the row of TEST by its parts
 test_row-below : (d : Operand) (f f' g g' : Family) (z : Bool) → FamilyBelow f f' → FamilyBelow g g' → KindBelow (test_row d f g z) (test_row d f' g' z)
 unfolding test_row kind_below has_null
 test_row-below d f f' g g' z e i = grind (arith, same-refl)
 
 -- TEST gives a lower kind
-pub test_kind-below : (v : ShownImage) → ClassLaws v.shapes → (a b : LiveContext) (pc : ℕ) (d x : Operand) → LiveBelow v.shapes a b → KindBelow (test_kind v a pc d x) (test_kind v b pc d x)
+pub test_kind-below : (v : ShownImage) → ClassLaws v.shapes → (a b : LiveContext) (pc : ℕ) (d x : Operand) → LiveBelow v.shapes a b
+    → KindBelow (test_kind v a pc d x) (test_kind v b pc d x)
 unfolding test_kind
 test_kind-below v l a b pc d x h = test_row-below d _ _ _ _ _ (family-below v.shapes _ _ (type_of-below v l a b pc d h)) (family-below v.shapes _ _ (type_of-below v l a b pc x h))

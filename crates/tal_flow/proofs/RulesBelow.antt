@@ -39,34 +39,45 @@ slots-length s (t ∷ ts) [] e = absurd (grind arith)
 slots-length s [] (u ∷ us) e = absurd (grind arith)
 slots-length s (t ∷ ts) (u ∷ us) e = let f = and_parts (sub s t u) _ e in let g = slots-length s ts us f.1 in grind arith
 
+-- a lower kind allows what a higher one allows
 allows-below : (j k : FlagKind) (c : Cond) → kind_below j k ≡ true → allows k c ≡ true → allows j c ≡ true
 unfolding allows kind_below
 allows-below j k c h e = grind arith
 
+-- where the higher context has a row, the lower one has
 kind_there : (j k : Option FlagKind) → KindBelow j k → is_some k ≡ true → is_some j ≡ true
 kind_there j k h e = grind arith
 
-stored-below : (v : ShownImage) → ClassLaws v.shapes → (a b : LiveContext) (pc : ℕ) (d x : Operand) → LiveBelow v.shapes a b → writable v b d ≡ true → storable v b (type_of v b pc x) d ≡ true → storable v a (type_of v a pc x) d ≡ true
+-- a lower value may be stored where a higher one may
+stored-below : (v : ShownImage) → ClassLaws v.shapes → (a b : LiveContext) (pc : ℕ) (d x : Operand) → LiveBelow v.shapes a b → writable v b d ≡ true
+    → storable v b (type_of v b pc x) d ≡ true → storable v a (type_of v a pc x) d ≡ true
 stored-below v l a b pc d x h w e = storable-below v l a b d _ _ h (type_of-below v l a b pc x h) w e
 
-reg_num-below : (s : ShapesView) (a b : LiveContext) (o : Option Reg) → LiveBelow s a b → option_map_or (λ q. is_num (b.regs q)) o true ≡ true → option_map_or (λ q. is_num (a.regs q)) o true ≡ true
+-- a register of an address that holds a number above holds one below
+reg_num-below : (s : ShapesView) (a b : LiveContext) (o : Option Reg) → LiveBelow s a b → option_map_or (λ q. is_num (b.regs q)) o true ≡ true
+    → option_map_or (λ q. is_num (a.regs q)) o true ≡ true
 reg_num-below s a b None h e = e
 reg_num-below s a b (Some q) h e = is_num-below s _ _ (h.regs q) e
 
+-- and so do both registers of an address
 address-below : (s : ShapesView) (a b : LiveContext) (m : Mem) → LiveBelow s a b → address_is_num b m ≡ true → address_is_num a m ≡ true
 unfolding address_is_num
 address-below s a b m h e =
     let f = and_parts (option_map_or (λ q. is_num (b.regs q)) m.base true) _ e in
     rw (reg_num-below s a b m.base h f.0, reg_num-below s a b m.index h f.1) refl
 
+-- as many slots may be dropped
 may_drop-below : (s : ShapesView) (a b : LiveContext) (n : ℕ) → LiveBelow s a b → may_drop b n ≡ true → may_drop a n ≡ true
 unfolding may_drop
 may_drop-below s a b n h e = rw (slots-length s a.slots b.slots h.slots) e
 
-fits_sig-below : (s : ShapesView) → ClassLaws s → (t u : Ty) (o : Option Sig) → sub s t u ≡ true → option_map_or (λ (sig : Sig). sub s u sig.result) o false ≡ true → option_map_or (λ (sig : Sig). sub s t sig.result) o false ≡ true
+-- a lower type fits a signature's result
+fits_sig-below : (s : ShapesView) → ClassLaws s → (t u : Ty) (o : Option Sig) → sub s t u ≡ true → option_map_or (λ (sig : Sig). sub s u sig.result) o false ≡ true
+    → option_map_or (λ (sig : Sig). sub s t sig.result) o false ≡ true
 fits_sig-below s l t u None h e = e
 fits_sig-below s l t u (Some sig) h e = sub-trans s l t u sig.result h e
 
+-- and the result of the function that has an address
 fits_result-below : (v : ShownImage) → ClassLaws v.shapes → (pc : ℕ) (t u : Ty) → sub v.shapes t u ≡ true → fits_result v pc u ≡ true → fits_result v pc t ≡ true
 unfolding fits_result
 fits_result-below v l pc t u h e = fits_sig-below v.shapes l t u (option_and_then (λ (span : Span). v.sig span.sig) (v.function_of pc)) h e
@@ -76,14 +87,20 @@ called-below : (s : ShapesView) (p q : Called) → CalledBelow s p q → is_call
 unfolding is_callable is_fit
 called-below s p q h e f = grind arith
 
-call_to-holds : (v : ShownImage) → ClassLaws v.shapes → (a b : LiveContext) (address : ℕ) → LiveBelow v.shapes a b → is_callable (call_to v b address) ≡ true → is_fit (call_to v b address) ≡ true → (is_callable (call_to v a address) && is_fit (call_to v a address)) ≡ true
+-- a CALL of an address that has no fault above has none below
+call_to-holds : (v : ShownImage) → ClassLaws v.shapes → (a b : LiveContext) (address : ℕ) → LiveBelow v.shapes a b → is_callable (call_to v b address) ≡ true
+    → is_fit (call_to v b address) ≡ true → (is_callable (call_to v a address) && is_fit (call_to v a address)) ≡ true
 call_to-holds v l a b address h e f = called-below v.shapes _ _ (call_to-below v l a b address h) e f
 
-call_by-holds : (v : ShownImage) → ClassLaws v.shapes → (a b : LiveContext) (pc : ℕ) (x : Operand) → LiveBelow v.shapes a b → is_callable (call_by v b (type_of v b pc x)) ≡ true → is_fit (call_by v b (type_of v b pc x)) ≡ true → (is_callable (call_by v a (type_of v a pc x)) && is_fit (call_by v a (type_of v a pc x))) ≡ true
+-- nor has a CALL of an operand
+call_by-holds : (v : ShownImage) → ClassLaws v.shapes → (a b : LiveContext) (pc : ℕ) (x : Operand) → LiveBelow v.shapes a b
+    → is_callable (call_by v b (type_of v b pc x)) ≡ true → is_fit (call_by v b (type_of v b pc x)) ≡ true
+    → (is_callable (call_by v a (type_of v a pc x)) && is_fit (call_by v a (type_of v a pc x))) ≡ true
 call_by-holds v l a b pc x h e f = called-below v.shapes _ _ (call_by-below v l a b _ _ h (type_of-below v l a b pc x h)) e f
 
 -- none of the rules 1 to 15 fails in the lower context alone
-pub operand_rule-below : (v : ShownImage) → ClassLaws v.shapes → (a b : LiveContext) (pc : ℕ) (f : Form) → LiveBelow v.shapes a b → OneHead a → operand_rule v b pc f ≡ None → operand_rule v a pc f ≡ None
+pub operand_rule-below : (v : ShownImage) → ClassLaws v.shapes → (a b : LiveContext) (pc : ℕ) (f : Form) → LiveBelow v.shapes a b → OneHead a
+    → operand_rule v b pc f ≡ None → operand_rule v a pc f ≡ None
 unfolding operand_rule
 operand_rule-below v l a b pc Refused h one e = absurd (grind arith)
 operand_rule-below v l a b pc (Compute xs d rs k) h one e = grind (arith, all_found-below v l a b, all_readable-below v l a b, found-below v l a b, writable-below v l a b, all_num-below v l a b)

@@ -16,11 +16,13 @@ use Rattle.tal_flow.specs.Places.{whole, static_place, slot_place, object_place,
 
 -- A slot that is a place is one of the frame's.
 
+-- a slot that is there has a number below the number of slots
 there-within : (xs : List Ty) (i : ℕ) → is_some (slice_get xs i) ≡ true → i < length xs
 there-within [] i e = absurd (grind arith)
 there-within (x ∷ xs) zero e = omega arith
 there-within (x ∷ xs) (suc i) e = let h = there-within xs i e in omega arith
 
+-- a place of a slot is one of the frame's slots
 slot_place-room : (c : LiveContext) (n i : ℕ) → slot_place c n ≡ Some (Slot i) → i < length c.slots
 unfolding slot_place
 slot_place-room c n i e = go (word_index 0 n) e
@@ -29,22 +31,27 @@ slot_place-room c n i e = go (word_index 0 n) e
     go None f = absurd (grind arith)
     go (Some j) f = there-within c.slots i (grind arith)
 
+-- a field's place is no slot
 whole-no_slot : (f : Option FieldTy) (i : ℕ) → whole f ≢ Some (Slot i)
 whole-no_slot None i e = absurd (grind arith)
 whole-no_slot (Some t) i e = absurd (grind arith)
 
+-- a method's place is no slot
 method-no_slot : (g : Option ℕ) (i : ℕ) → option_map Method g ≢ Some (Slot i)
 method-no_slot None i e = absurd (grind arith)
 method-no_slot (Some g) i e = absurd (grind arith)
 
+-- a display's place is no slot
 display-no_slot : (r : Reg) (n i : ℕ) → display_place r n ≢ Some (Slot i)
 unfolding display_place
 display-no_slot r n i e = grind arith
 
+-- a place at a base other than ESP is no slot
 based-no_slot : (s : ShapesView) (c : LiveContext) (r : Reg) (t : Ty) (x : Option Reg) (k n i : ℕ) → based s c r t x k n ≢ Some (Slot i)
 unfolding based object_place array_place element_place table_place
 based-no_slot s c r t x k n i e = grind (arith, whole-no_slot, method-no_slot, display-no_slot)
 
+-- a slot that an operand means is one of the frame's
 located-room : (s : ShapesView) (statics : List FieldTy) (c : LiveContext) (r x : Option Reg) (k n i : ℕ) → located s statics c r x k n ≡ Some (Slot i) → i < length c.slots
 unfolding static_place
 located-room s statics c None None k n i e = absurd (whole-no_slot _ i e)
@@ -56,6 +63,7 @@ located-room s statics c (Some r) x k n i e = go (same r Esp) x e
     go true (Some y) f = absurd (grind arith)
     go false x f = absurd (based-no_slot s c r (c.regs r) x k n i f)
 
+-- and so is that of an operand
 place-room : (v : ShownImage) (c : LiveContext) (x : Operand) (i : ℕ) → operand_place v c x ≡ Some (Slot i) → i < length c.slots
 unfolding operand_place place_in
 place-room v c (R r) i e = absurd (grind arith)

@@ -11,6 +11,7 @@ use Rattle.tal_flow.proofs.Heads.{start-head, falls-head}
 
 -- The strongest contexts serve where any contexts do, and are those of `At`.
 
+-- the context at an address is below where what falls to it is
 start-below : (v : ShownImage) (pc : ℕ) (a b : ContextView) → ContextBelow v.shapes a b → ContextBelow v.shapes (start v pc a) (start v pc b)
 unfolding start
 start-below v pc a b h = go (known_at v pc)
@@ -20,7 +21,8 @@ start-below v pc a b h = go (known_at v pc)
     go (Some d) = context-refl v.shapes d
 
 -- where some contexts serve, the strongest ones do
-strongest : (v : ShownImage) → ClassLaws v.shapes → BlocksHaveOneHead v → (xs : List Placed) (cs : List ContextView) (a b : ContextView) → ContextBelow v.shapes a b → HasOneHead a → NoneFails v xs cs → Joined v xs cs b → NoneFails v xs (contexts v xs a)
+strongest : (v : ShownImage) → ClassLaws v.shapes → BlocksHaveOneHead v → (xs : List Placed) (cs : List ContextView) (a b : ContextView) → ContextBelow v.shapes a b
+    → HasOneHead a → NoneFails v xs cs → Joined v xs cs b → NoneFails v xs (contexts v xs a)
 strongest v l blocks [] cs a b h one n j = tt
 strongest v l blocks (x ∷ xs) [] a b h one n j = absurd n
 strongest v l blocks (x ∷ xs) (c ∷ cs) a b h one n j =
@@ -30,21 +32,25 @@ strongest v l blocks (x ∷ xs) (c ∷ cs) a b h one n j =
     let r = rule-below v l s c x.pc x.inst x.len k o n.0 in
     (r, strongest v l blocks xs cs (falls_from v s x) (falls_from v c x) (falls-below v l s c x.pc x.inst x.len k o n.0) (falls-head v s x o) n.1 j.1)
 
+-- the strongest contexts join
 itself-joined : (v : ShownImage) (xs : List Placed) (a : ContextView) → Joined v xs (contexts v xs a) a
 itself-joined v [] a = tt
 itself-joined v (x ∷ xs) a = (context-refl v.shapes (start v x.pc a), itself-joined v xs (falls_from v (start v x.pc a) x))
 
 -- some contexts serve exactly where the strongest do
-pub serve-exactly : (v : ShownImage) → ClassLaws v.shapes → BlocksHaveOneHead v → (xs : List Placed) → ((cs : List ContextView) × NoneFails v xs cs × Joined v xs cs Dead) ↔ NoneFails v xs (contexts v xs Dead)
+pub serve-exactly : (v : ShownImage) → ClassLaws v.shapes → BlocksHaveOneHead v → (xs : List Placed)
+    → ((cs : List ContextView) × NoneFails v xs cs × Joined v xs cs Dead) ↔ NoneFails v xs (contexts v xs Dead)
 serve-exactly v l blocks xs = (λ h. strongest v l blocks xs h.0 Dead Dead tt tt h.1 h.2, λ h. (contexts v xs Dead, h, itself-joined v xs Dead))
 
 -- no rule fails at an instruction in the context at its address
-at_in-row : (v : ShownImage) (xs : List Placed) (c : ContextView) (pc : ℕ) (x : Placed) → NoneFails v xs (contexts v xs c) → placed_at xs pc ≡ Some x → NoRuleAt v (at_in v xs c pc) x
+at_in-row : (v : ShownImage) (xs : List Placed) (c : ContextView) (pc : ℕ) (x : Placed) → NoneFails v xs (contexts v xs c) → placed_at xs pc ≡ Some x
+    → NoRuleAt v (at_in v xs c pc) x
 unfolding placed_at at_in
 at_in-row v [] c pc x n e = absurd (grind arith)
 at_in-row v (y ∷ xs) c pc x n e = go (nat_eq y.pc pc) e (at_in-row v xs (falls_from v (start v y.pc c) y) pc x n.1)
   where
-    go : (b : Bool) → (if b then Some y else placed_at xs pc) ≡ Some x → (placed_at xs pc ≡ Some x → NoRuleAt v (at_in v xs (falls_from v (start v y.pc c) y) pc) x) → NoRuleAt v (if b then (start v y.pc c) else at_in v xs (falls_from v (start v y.pc c) y) pc) x
+    go : (b : Bool) → (if b then Some y else placed_at xs pc) ≡ Some x → (placed_at xs pc ≡ Some x → NoRuleAt v (at_in v xs (falls_from v (start v y.pc c) y) pc) x)
+        → NoRuleAt v (if b then (start v y.pc c) else at_in v xs (falls_from v (start v y.pc c) y) pc) x
     go true e r = let f : y ≡ x = grind arith in subst (λ z. NoRuleAt v (start v y.pc c) z) f n.0
     go false e r = r e
 
@@ -70,7 +76,8 @@ at-first v n [] c y h e = absurd (grind arith)
 at-first v n (z ∷ xs) c y h e = rw (h.0, eq-eqb n n refl) refl
 
 -- the context at the next address is what that has by itself, or else what falls to it
-at_in-next : (v : ShownImage) (xs : List Placed) (n : ℕ) (c : ContextView) (pc : ℕ) (x y : Placed) → Chained n xs → placed_at xs pc ≡ Some x → placed_at xs (next_of x.pc x.len) ≡ Some y → at_in v xs c (next_of x.pc x.len) ≡ start v (next_of x.pc x.len) (falls_from v (at_in v xs c pc) x)
+at_in-next : (v : ShownImage) (xs : List Placed) (n : ℕ) (c : ContextView) (pc : ℕ) (x y : Placed) → Chained n xs → placed_at xs pc ≡ Some x
+    → placed_at xs (next_of x.pc x.len) ≡ Some y → at_in v xs c (next_of x.pc x.len) ≡ start v (next_of x.pc x.len) (falls_from v (at_in v xs c pc) x)
 unfolding placed_at at_in
 at_in-next v [] n c pc x y h e f = absurd (grind arith)
 at_in-next v (z ∷ xs) n c pc x y h e f = go (nat_eq z.pc pc) e (λ u g. at_in-next v xs (next_of z.pc z.len) (falls_from v (start v z.pc c) z) pc x y h.2 u g)
@@ -81,14 +88,18 @@ at_in-next v (z ∷ xs) n c pc x y h e f = go (nat_eq z.pc pc) e (λ u g. at_in-
     further : placed_at xs pc ≡ Some x → nat_eq z.pc (next_of x.pc x.len) ≡ false
     further u = let a = h.0 in let b = h.1 in let d = row-after (next_of z.pc z.len) xs pc x h.2 u in grind (arith, nat_tests)
 
-    go : (b : Bool) → (if b then Some z else placed_at xs pc) ≡ Some x → (placed_at xs pc ≡ Some x → placed_at xs (next_of x.pc x.len) ≡ Some y → at_in v xs (falls_from v (start v z.pc c) z) (next_of x.pc x.len) ≡ start v (next_of x.pc x.len) (falls_from v (at_in v xs (falls_from v (start v z.pc c) z) pc) x)) → (if nat_eq z.pc (next_of x.pc x.len) then start v z.pc c else at_in v xs (falls_from v (start v z.pc c) z) (next_of x.pc x.len)) ≡ start v (next_of x.pc x.len) (falls_from v (if b then start v z.pc c else at_in v xs (falls_from v (start v z.pc c) z) pc) x)
+    go : (b : Bool) → (if b then Some z else placed_at xs pc) ≡ Some x
+        → (placed_at xs pc ≡ Some x → placed_at xs (next_of x.pc x.len) ≡ Some y → at_in v xs (falls_from v (start v z.pc c) z) (next_of x.pc x.len) ≡ start v (next_of x.pc x.len) (falls_from v (at_in v xs (falls_from v (start v z.pc c) z) pc) x))
+        → (if nat_eq z.pc (next_of x.pc x.len) then start v z.pc c else at_in v xs (falls_from v (start v z.pc c) z) (next_of x.pc x.len)) ≡ start v (next_of x.pc x.len) (falls_from v (if b then start v z.pc c else at_in v xs (falls_from v (start v z.pc c) z) pc) x)
     go true e r = let q : z ≡ x = grind arith in subst (λ w. (if nat_eq z.pc (next_of w.pc w.len) then start v z.pc c else at_in v xs (falls_from v (start v z.pc c) z) (next_of w.pc w.len)) ≡ start v (next_of w.pc w.len) (falls_from v (start v z.pc c) w)) q (rw passed (at-first v (next_of z.pc z.len) xs _ y h.2 (let g : (if nat_eq z.pc (next_of x.pc x.len) then Some z else placed_at xs (next_of x.pc x.len)) ≡ Some y = f in let k : next_of x.pc x.len ≡ next_of z.pc z.len = ap (λ w. next_of w.pc w.len) (sym q) in rest k g)))
       where
-        rest : next_of x.pc x.len ≡ next_of z.pc z.len → (if nat_eq z.pc (next_of x.pc x.len) then Some z else placed_at xs (next_of x.pc x.len)) ≡ Some y → placed_at xs (next_of z.pc z.len) ≡ Some y
+        rest : next_of x.pc x.len ≡ next_of z.pc z.len → (if nat_eq z.pc (next_of x.pc x.len) then Some z else placed_at xs (next_of x.pc x.len)) ≡ Some y
+            → placed_at xs (next_of z.pc z.len) ≡ Some y
         rest k g = rw (k, passed) at g
     go false e r = let p = further e in let g : placed_at xs (next_of x.pc x.len) ≡ Some y = rw p at f in rw p (r e g)
 
 -- the strongest context at the next instruction
-pub at-next : (v : ShownImage) (xs : List Placed) (n pc : ℕ) (x y : Placed) → Chained n xs → placed_at xs pc ≡ Some x → placed_at xs (next_of x.pc x.len) ≡ Some y → At v xs (next_of x.pc x.len) ≡ start v (next_of x.pc x.len) (falls_from v (At v xs pc) x)
+pub at-next : (v : ShownImage) (xs : List Placed) (n pc : ℕ) (x y : Placed) → Chained n xs → placed_at xs pc ≡ Some x → placed_at xs (next_of x.pc x.len) ≡ Some y
+    → At v xs (next_of x.pc x.len) ≡ start v (next_of x.pc x.len) (falls_from v (At v xs pc) x)
 unfolding At
 at-next v xs n pc x y h e f = at_in-next v xs n Dead pc x y h e f

@@ -230,6 +230,24 @@ fn entries_stand_at_every_16th_byte(rt: HostRuntime) -> Result<(), Fail> {
     Ok(())
 }
 
+/// An array in EBX, an index in ECX that is compared with its length, and a branch over what follows.
+fn behind_a_comparison(distance: i32) -> [(u8, Inst); 5] {
+    [
+        (5, load(Reg::Eax, Operand::I(0))),
+        (5, load(Reg::Ebx, Operand::I(0x300000))),
+        (5, load(Reg::Ecx, Operand::I(2))),
+        (
+            3,
+            Inst::Alu {
+                op: Alu::Cmp,
+                dst: Operand::R(Reg::Ecx),
+                src: memory(Reg::Ebx, 4),
+            },
+        ),
+        (2, Inst::Jcc(Cond::Ae, distance)),
+    ]
+}
+
 #[test]
 fn bound_is_kept_until_the_index_is_written(rt: HostRuntime) -> Result<(), Fail> {
     let mut image = bare(rt.alloc(), 25)?;
@@ -243,41 +261,17 @@ fn bound_is_kept_until_the_index_is_written(rt: HostRuntime) -> Result<(), Fail>
         scale: 2,
         disp: 8,
     });
-    let zero = (5, load(Reg::Eax, Operand::I(0)));
-    let array = (5, load(Reg::Ebx, Operand::I(0x300000)));
-    let index = (5, load(Reg::Ecx, Operand::I(2)));
-    let compare = (
-        3,
-        Inst::Alu {
-            op: Alu::Cmp,
-            dst: Operand::R(Reg::Ecx),
-            src: memory(Reg::Ebx, 4),
-        },
-    );
     let read = (4, load(Reg::Eax, element));
-    let code = [
-        zero,
-        array,
-        index,
-        compare,
-        (2, Inst::Jcc(Cond::Ae, 4)),
-        read,
-        (1, Inst::Ret),
-    ];
+    let leave = (1, Inst::Ret);
+    let [zero, array, index, compare, branch] = behind_a_comparison(4);
+    let code = [zero, array, index, compare, branch, read, leave];
     assert_eq!(rt; refused(&image, &code), None);
 
     image.end = START + 26;
     image.block = START + 25;
-    let code = [
-        zero,
-        array,
-        index,
-        compare,
-        (2, Inst::Jcc(Cond::Ae, 5)),
-        (1, Inst::Inc(Operand::R(Reg::Ecx))),
-        read,
-        (1, Inst::Ret),
-    ];
+    let raise = (1, Inst::Inc(Operand::R(Reg::Ecx)));
+    let [zero, array, index, compare, branch] = behind_a_comparison(5);
+    let code = [zero, array, index, compare, branch, raise, read, leave];
     assert_eq!(rt; refused(&image, &code), Some((21, 3)));
     Ok(())
 }

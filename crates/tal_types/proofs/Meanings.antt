@@ -20,7 +20,8 @@ get_or-replicate_same (suc n) zero x = refl
 get_or-replicate_same (suc n) (suc k) x = get_or-replicate_same n k x
 
 -- two live contexts that read alike are equal
-pub same_live : (a b : LiveContext) → ((r : Reg) → a.regs r ≡ b.regs r) → a.slots ≡ b.slots → a.kind ≡ b.kind → ((i r : Reg) → a.pairs i r ≡ b.pairs i r) → ((t r : Reg) → a.heads t r ≡ b.heads t r) → a ≡ b
+pub same_live : (a b : LiveContext) → ((r : Reg) → a.regs r ≡ b.regs r) → a.slots ≡ b.slots → a.kind ≡ b.kind → ((i r : Reg) → a.pairs i r ≡ b.pairs i r)
+    → ((t r : Reg) → a.heads t r ≡ b.heads t r) → a ≡ b
 same_live a b f g h k l = λ i. record { regs = λ r. f r i; slots = g i; kind = h i; pairs = λ x y. k x y i; heads = λ x y. l x y i }
 
 -- the eight types of seven registers, with Junk for ESP
@@ -45,7 +46,8 @@ unfolding pair_in
 pair_in-zero r q = grind (arith, nat_tests, bit_at-zero)
 
 -- types alone
-pub context_of-plain : (c : Context) (types slots : List Ty) → c.dead ≡ false → length types ≡ 7 → c.regs ≡ eight types → take c.depth c.slots ≡ slots → c.kind ≡ Lost → c.pairs ≡ 0 → c.heads ≡ 0 → context_of c ≡ plain types slots
+pub context_of-plain : (c : Context) (types slots : List Ty) → c.dead ≡ false → length types ≡ 7 → c.regs ≡ eight types → take c.depth c.slots ≡ slots → c.kind ≡ Lost
+    → c.pairs ≡ 0 → c.heads ≡ 0 → context_of c ≡ plain types slots
 unfolding context_of live_of plain
 context_of-plain c types slots alive seven regs slots_are kind pairs heads =
     ap (λ b. if b then Dead else Live (live_of c)) alive
@@ -57,7 +59,8 @@ context_of-plain c types slots alive seven regs slots_are kind pairs heads =
     (λ t r. ap (λ n. pair_in n t r) heads ∙ pair_in-zero t r))
 
 -- one more slot is filled in
-pub filled-more : (all slots : List Ty) (i : ℕ) → length all ≡ 64 → i < 64 → i < length slots → take i all ≡ take i slots → take (i + 1) (set all i (get_or slots i Num)) ≡ take (i + 1) slots
+pub filled-more : (all slots : List Ty) (i : ℕ) → length all ≡ 64 → i < 64 → i < length slots → take i all ≡ take i slots
+    → take (i + 1) (set all i (get_or slots i Num)) ≡ take (i + 1) slots
 filled-more all slots i long l m same =
     take_more_set all i (get_or slots i Num) (omega arith)
     ∙ ap (λ xs. xs ++ get_or slots i Num ∷ []) same

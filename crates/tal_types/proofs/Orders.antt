@@ -92,7 +92,8 @@ all_sub-apart s (t ∷ ts) (u ∷ us) zero d e l h = rw h refl
 all_sub-apart s (t ∷ ts) (u ∷ us) (suc k) d e l h = let rest = all_sub-apart s ts us k d e (omega arith) h in grind arith
 
 -- lists of one length that are below each other at each place
-pub all_sub-from : (s : ShapesView) (ts us : List Ty) → length ts ≡ length us → ((k : ℕ) (d e : Ty) → k < length ts → sub s (get_or ts k d) (get_or us k e) ≡ true) → true ≡ all_sub s ts us
+pub all_sub-from : (s : ShapesView) (ts us : List Ty) → length ts ≡ length us → ((k : ℕ) (d e : Ty) → k < length ts → sub s (get_or ts k d) (get_or us k e) ≡ true)
+    → true ≡ all_sub s ts us
 unfolding all_sub
 all_sub-from s [] [] l h = refl
 all_sub-from s [] (u ∷ us) l h = absurd (omega arith)
@@ -101,7 +102,8 @@ all_sub-from s (t ∷ ts) (u ∷ us) l h =
     rw (h zero t u (omega arith)) (all_sub-from s ts us (omega arith) (λ k d e i. h (suc k) d e (omega arith)))
 
 -- one more place
-pub all_sub-more : (s : ShapesView) (ts us : List Ty) (i : ℕ) → ((k : ℕ) (d e : Ty) → k < i → sub s (get_or ts k d) (get_or us k e) ≡ true) → i < length ts → i < length us → (x y : Ty) → sub s (get_or ts i x) (get_or us i y) ≡ true → (k : ℕ) (d e : Ty) → k < i + 1 → sub s (get_or ts k d) (get_or us k e) ≡ true
+pub all_sub-more : (s : ShapesView) (ts us : List Ty) (i : ℕ) → ((k : ℕ) (d e : Ty) → k < i → sub s (get_or ts k d) (get_or us k e) ≡ true) → i < length ts
+    → i < length us → (x y : Ty) → sub s (get_or ts i x) (get_or us i y) ≡ true → (k : ℕ) (d e : Ty) → k < i + 1 → sub s (get_or ts k d) (get_or us k e) ≡ true
 all_sub-more s ts us i before l m x y here k d e h = ⊎_elim
     (λ (low : k < i). before k d e low)
     (λ (high : i ≤ k).

@@ -37,7 +37,8 @@ same_tests : (a b : Bool) → (a ≡ true → b ≡ true) → (b ≡ true → a 
 same_tests a b f g = grind arith
 
 -- a place below 8 is that of a register
-at_place : (s : ShapesView) (a b : List Ty) → length a ≡ 8 → length b ≡ 8 → every (λ r. sub s (get_or a (number r) Junk) (get_or b (number r) Junk)) ≡ true → (k : ℕ) (d e : Ty) → k < length a → sub s (get_or a k d) (get_or b k e) ≡ true
+at_place : (s : ShapesView) (a b : List Ty) → length a ≡ 8 → length b ≡ 8 → every (λ r. sub s (get_or a (number r) Junk) (get_or b (number r) Junk)) ≡ true
+    → (k : ℕ) (d e : Ty) → k < length a → sub s (get_or a k d) (get_or b k e) ≡ true
 at_place s a b l m h k d e i =
     let here = every-all (λ r. sub s (get_or a (number r) Junk) (get_or b (number r) Junk)) (reg k) h in
     let n = number-reg k (omega arith) in
