@@ -1,233 +1,170 @@
 -- What the header of an image file stands for.
-use Rattle.std.proofs.Common.{◌≡◌, ℕ, ◌<◌, ◌^◌, Bool, true, List, [], ◌∷◌, ◌++◌, refl, sym, ap, lit<}
+use Rattle.std.proofs.Common.{◌≡◌, ℕ, ◌<◌, ◌^◌, Bool, true, List, [], ◌∷◌, ◌++◌, refl, ap, subst, ◌∙◌, arith, lit<}
 use Rattle.std.specs.Prelude.{◌==◌}
 use Rattle.std.proofs.lemmas.Bool.{eqb-true}
-use Rattle.tal_image.specs.declared.fault.ImageFault.TheVariants.{Magic, Version}
+use Rattle.std.proofs.lemmas.Bool.Decides.{nat_tests}
+use Rattle.tal_image.specs.declared.fault.ImageFault.{ImageFault}
+use Rattle.tal_image.specs.declared.fault.ImageFault.TheVariants.{Magic, Version, Bad}
 use Rattle.tal_image.specs.declared.parts.Header.{Header}
 use Rattle.tal_image.specs.Image.{number_bytes, numbers}
-use Rattle.tal_image.specs.Conditions.{heap_fits, stacks_fit, sigs_fit, functions_fit, classes_fit, kinds_fit, statics_fit, arrays_fit, code_fits, blocks_fit, marks_fit}
-use Rattle.tal_image.specs.Grammar.{Grammar, done, then_with}
-use Rattle.tal_image.specs.Fields.{field, checked, header_fields}
-use Rattle.tal_image.proofs.PartMeanings.{Means, field_means, checked_means, means_as, done_means, then_means}
+use Rattle.tal_image.specs.Conditions.{between, heap_fits, stacks_fit, sigs_fit, functions_fit, classes_fit, kinds_fit, statics_fit, arrays_fit, code_fits, blocks_fit, marks_fit}
+use Rattle.tal_image.specs.Grammar.{Grammar, done, then_with, fields_text}
+use Rattle.tal_image.specs.Fields.{field, header_fields}
+use Rattle.tal_image.proofs.PartMeanings.{Means, Checked, at_end, field_means, put_part, put_last, take_part, take_last}
 
--- a number that meets a test
-abbrev pub Checked : (ℕ → Bool) → ℕ → Type 0
-Checked ok n = (n < 2 ^ 32) × (ok n ≡ true)
+-- ---- numbers, each under a test
 
--- the letters and the version
-abbrev pub is_magic : ℕ → Bool
-is_magic n = n == 0x49565256
+-- the condition of a number, and the fault where it breaks that
+abbrev pub Test : Type 0
+Test = (ℕ → Bool) × (ℕ → ImageFault)
 
-abbrev pub is_version : ℕ → Bool
-is_version n = n == 1
+-- as many numbers as there are tests
+abbrev pub Numbers : List Test → Type 0
+Numbers [] = Unit {0}
+Numbers (t ∷ ts) = ℕ × Numbers ts
 
--- the parts of the header from one on, and their bytes
-abbrev Rest11 : Header → Type 0
-Rest11 h = Unit {0}
+-- a number for each test
+abbrev pub tested : (ts : List Test) → Grammar (Numbers ts)
+tested [] = done tt
+tested (t ∷ ts) = then_with (field t.0 t.1) (λ n. then_with (tested ts) (λ ns. done (n, ns)))
 
-abbrev text11 : Header → List ℕ
-text11 h = []
+-- each number meets its test
+abbrev pub AllMeet : (ts : List Test) → Numbers ts → Type 0
+AllMeet [] ns = Unit {0}
+AllMeet (t ∷ ts) ns = Checked t.0 ns.0 × AllMeet ts ns.1
 
-abbrev Rest10 : Header → Type 0
-Rest10 h = Checked marks_fit h.marks × Rest11 h
+-- the bytes of the numbers
+abbrev numbers_text : (ts : List Test) → Numbers ts → List ℕ
+numbers_text [] ns = []
+numbers_text (t ∷ ts) ns = number_bytes ns.0 ++ numbers_text ts ns.1
 
-abbrev text10 : Header → List ℕ
-text10 h = number_bytes h.marks ++ text11 h
+-- numbers in a file
+tested_means : (ts : List Test) → Means (tested ts) (AllMeet ts) (numbers_text ts)
+tested_means [] = record { whole = λ ns h. ([], refl, refl); back = λ fs ns s. (tt, ap fields_text (at_end tt ns fs s).0) }
+tested_means (t ∷ ts) = record {
+  whole = λ ns h. put_part (field_means t.0 t.1) _ ns.0 ns _ h.0 (put_last (tested_means ts) (λ more. (ns.0, more)) ns.1 h.1);
+  back = λ fs ns s.
+      let n = take_part (field_means t.0 t.1) _ fs ns s in
+      let more = take_last (tested_means ts) (λ (ms : Numbers ts). (let r : Numbers (t ∷ ts) = (n.value, ms) in r)) n.rest ns n.more in
+      subst (λ (z : Numbers (t ∷ ts)). AllMeet (t ∷ ts) z × (fields_text fs ≡ numbers_text (t ∷ ts) z)) more.same ((n.is, more.is), n.bytes _ more.bytes);
+}
 
-abbrev Rest9 : Header → Type 0
-Rest9 h = Checked blocks_fit h.blocks × Rest10 h
+-- ---- the numbers of a header
 
-abbrev text9 : Header → List ℕ
-text9 h = number_bytes h.blocks ++ text10 h
+-- a condition by its number
+abbrev condition : (ℕ → Bool) → ℕ → Test
+condition ok number = (ok, λ at. Bad at number)
 
-abbrev Rest8 : Header → Type 0
-Rest8 h = Checked code_fits h.code × Rest9 h
+-- the letters, the version, and the numbers under conditions 1 to 11
+abbrev pub tests : List Test
+tests =
+    ((λ n. n == 0x49565256), (λ at. Magic)) ∷ ((λ n. n == 1), (λ at. Version))
+    ∷ condition heap_fits 1 ∷ condition stacks_fit 2 ∷ condition sigs_fit 3 ∷ condition functions_fit 4 ∷ condition classes_fit 5
+    ∷ condition kinds_fit 6 ∷ condition statics_fit 7 ∷ condition arrays_fit 8 ∷ condition code_fits 9 ∷ condition blocks_fit 10
+    ∷ condition marks_fit 11 ∷ []
 
-abbrev text8 : Header → List ℕ
-text8 h = number_bytes h.code ++ text9 h
+-- the header of these numbers
+abbrev pub header_of : Numbers tests → Header
+header_of ns =
+    let limits = ns.1.1 in
+    let tables = limits.1.1 in
+    let rows = tables.1.1.1.1 in
+    let code = rows.1.1 in
+    record {
+      heap_words = limits.0;
+      stacks = limits.1.0;
+      sigs = tables.0;
+      functions = tables.1.0;
+      classes = tables.1.1.0;
+      kinds = tables.1.1.1.0;
+      statics = rows.0;
+      arrays = rows.1.0;
+      code = code.0;
+      blocks = code.1.0;
+      marks = code.1.1.0;
+    }
 
-abbrev Rest7 : Header → Type 0
-Rest7 h = Checked arrays_fit h.arrays × Rest8 h
+-- the numbers of a header
+abbrev numbers_of : Header → Numbers tests
+numbers_of h = (0x49565256, (1, (h.heap_words, (h.stacks, (h.sigs, (h.functions, (h.classes, (h.kinds, (h.statics, (h.arrays, (h.code, (h.blocks, (h.marks, tt)))))))))))))
 
-abbrev text7 : Header → List ℕ
-text7 h = number_bytes h.arrays ++ text8 h
+-- conditions 1 to 11
+pub record IsHeader (h : Header) : Type 0 where
+  pub condition_1 : heap_fits h.heap_words ≡ true
+  pub condition_2 : stacks_fit h.stacks ≡ true
+  pub condition_3 : sigs_fit h.sigs ≡ true
+  pub condition_4 : functions_fit h.functions ≡ true
+  pub condition_5 : classes_fit h.classes ≡ true
+  pub condition_6 : kinds_fit h.kinds ≡ true
+  pub condition_7 : statics_fit h.statics ≡ true
+  pub condition_8 : arrays_fit h.arrays ≡ true
+  pub condition_9 : code_fits h.code ≡ true
+  pub condition_10 : blocks_fit h.blocks ≡ true
+  pub condition_11 : marks_fit h.marks ≡ true
 
-abbrev Rest6 : Header → Type 0
-Rest6 h = Checked statics_fit h.statics × Rest7 h
+-- numbers that meet the tests are those of a header
+pub header_is : (ns : Numbers tests) → AllMeet tests ns → IsHeader (header_of ns)
+header_is ns m =
+    let limits = m.1.1 in
+    let tables = limits.1.1 in
+    let rows = tables.1.1.1.1 in
+    let code = rows.1.1 in
+    record {
+      condition_1 = limits.0.1;
+      condition_2 = limits.1.0.1;
+      condition_3 = tables.0.1;
+      condition_4 = tables.1.0.1;
+      condition_5 = tables.1.1.0.1;
+      condition_6 = tables.1.1.1.0.1;
+      condition_7 = rows.0.1;
+      condition_8 = rows.1.0.1;
+      condition_9 = code.0.1;
+      condition_10 = code.1.0.1;
+      condition_11 = code.1.1.0.1;
+    }
 
-abbrev text6 : Header → List ℕ
-text6 h = number_bytes h.statics ++ text7 h
+-- a number within small limits has 32 bits
+limited : (low high n : ℕ) → high < 2 ^ 32 → between low high n ≡ true → Checked (between low high) n
+limited low high n small h = (grind (arith, nat_tests), h)
 
-abbrev Rest5 : Header → Type 0
-Rest5 h = Checked kinds_fit h.kinds × Rest6 h
+-- the words of the heap
+heap_checked : (n : ℕ) → heap_fits n ≡ true → Checked heap_fits n
+heap_checked n h = (grind (arith, nat_tests), h)
 
-abbrev text5 : Header → List ℕ
-text5 h = number_bytes h.kinds ++ text6 h
+-- one and the others
+and_then : {A B : Type 0} → A → B → A × B
+and_then a b = (a, b)
 
-abbrev Rest4 : Header → Type 0
-Rest4 h = Checked classes_fit h.classes × Rest5 h
+-- the numbers of a header meet the tests
+all_meet : (h : Header) → IsHeader h → AllMeet tests (numbers_of h)
+all_meet h is =
+    and_then (lit< tt, refl) (
+    and_then (lit< tt, refl) (
+    and_then (heap_checked h.heap_words is.condition_1) (
+    and_then (limited 2 64 h.stacks (lit< tt) is.condition_2) (
+    and_then (limited 1 4096 h.sigs (lit< tt) is.condition_3) (
+    and_then (limited 1 16384 h.functions (lit< tt) is.condition_4) (
+    and_then (limited 0 1024 h.classes (lit< tt) is.condition_5) (
+    and_then (limited 0 256 h.kinds (lit< tt) is.condition_6) (
+    and_then (limited 0 65536 h.statics (lit< tt) is.condition_7) (
+    and_then (limited 0 65536 h.arrays (lit< tt) is.condition_8) (
+    and_then (limited 1 1048576 h.code (lit< tt) is.condition_9) (
+    and_then (limited 0 65536 h.blocks (lit< tt) is.condition_10) (
+    and_then (limited 0 65536 h.marks (lit< tt) is.condition_11) tt))))))))))))
 
-abbrev text4 : Header → List ℕ
-text4 h = number_bytes h.classes ++ text5 h
-
-abbrev Rest3 : Header → Type 0
-Rest3 h = Checked functions_fit h.functions × Rest4 h
-
-abbrev text3 : Header → List ℕ
-text3 h = number_bytes h.functions ++ text4 h
-
-abbrev Rest2 : Header → Type 0
-Rest2 h = Checked sigs_fit h.sigs × Rest3 h
-
-abbrev text2 : Header → List ℕ
-text2 h = number_bytes h.sigs ++ text3 h
-
-abbrev Rest1 : Header → Type 0
-Rest1 h = Checked stacks_fit h.stacks × Rest2 h
-
-abbrev text1 : Header → List ℕ
-text1 h = number_bytes h.stacks ++ text2 h
-
-abbrev Rest0 : Header → Type 0
-Rest0 h = Checked heap_fits h.heap_words × Rest1 h
-
-abbrev text0 : Header → List ℕ
-text0 h = number_bytes h.heap_words ++ text1 h
-
--- what comes after so many parts
-abbrev after11 : ℕ → ℕ → ℕ → ℕ → ℕ → ℕ → ℕ → ℕ → ℕ → ℕ → ℕ → Grammar Header
-after11 heap_words stacks sigs functions classes kinds statics arrays code blocks marks = done (record { heap_words = heap_words; stacks = stacks; sigs = sigs; functions = functions; classes = classes; kinds = kinds; statics = statics; arrays = arrays; code = code; blocks = blocks; marks = marks })
-
-abbrev after10 : ℕ → ℕ → ℕ → ℕ → ℕ → ℕ → ℕ → ℕ → ℕ → ℕ → Grammar Header
-after10 heap_words stacks sigs functions classes kinds statics arrays code blocks = then_with (checked marks_fit 11) (λ marks. after11 heap_words stacks sigs functions classes kinds statics arrays code blocks marks)
-
-abbrev after9 : ℕ → ℕ → ℕ → ℕ → ℕ → ℕ → ℕ → ℕ → ℕ → Grammar Header
-after9 heap_words stacks sigs functions classes kinds statics arrays code = then_with (checked blocks_fit 10) (λ blocks. after10 heap_words stacks sigs functions classes kinds statics arrays code blocks)
-
-abbrev after8 : ℕ → ℕ → ℕ → ℕ → ℕ → ℕ → ℕ → ℕ → Grammar Header
-after8 heap_words stacks sigs functions classes kinds statics arrays = then_with (checked code_fits 9) (λ code. after9 heap_words stacks sigs functions classes kinds statics arrays code)
-
-abbrev after7 : ℕ → ℕ → ℕ → ℕ → ℕ → ℕ → ℕ → Grammar Header
-after7 heap_words stacks sigs functions classes kinds statics = then_with (checked arrays_fit 8) (λ arrays. after8 heap_words stacks sigs functions classes kinds statics arrays)
-
-abbrev after6 : ℕ → ℕ → ℕ → ℕ → ℕ → ℕ → Grammar Header
-after6 heap_words stacks sigs functions classes kinds = then_with (checked statics_fit 7) (λ statics. after7 heap_words stacks sigs functions classes kinds statics)
-
-abbrev after5 : ℕ → ℕ → ℕ → ℕ → ℕ → Grammar Header
-after5 heap_words stacks sigs functions classes = then_with (checked kinds_fit 6) (λ kinds. after6 heap_words stacks sigs functions classes kinds)
-
-abbrev after4 : ℕ → ℕ → ℕ → ℕ → Grammar Header
-after4 heap_words stacks sigs functions = then_with (checked classes_fit 5) (λ classes. after5 heap_words stacks sigs functions classes)
-
-abbrev after3 : ℕ → ℕ → ℕ → Grammar Header
-after3 heap_words stacks sigs = then_with (checked functions_fit 4) (λ functions. after4 heap_words stacks sigs functions)
-
-abbrev after2 : ℕ → ℕ → Grammar Header
-after2 heap_words stacks = then_with (checked sigs_fit 3) (λ sigs. after3 heap_words stacks sigs)
-
-abbrev after1 : ℕ → Grammar Header
-after1 heap_words = then_with (checked stacks_fit 2) (λ stacks. after2 heap_words stacks)
-
-abbrev after0 : Grammar Header
-after0 = then_with (checked heap_fits 1) (λ heap_words. after1 heap_words)
-
-means10 : (heap_words stacks sigs functions classes kinds statics arrays code blocks : ℕ) → Means (after10 heap_words stacks sigs functions classes kinds statics arrays code blocks) (λ (h : Header). Rest10 h × ((let r : Header = record { heap_words = heap_words; stacks = stacks; sigs = sigs; functions = functions; classes = classes; kinds = kinds; statics = statics; arrays = arrays; code = code; blocks = blocks; marks = h.marks } in r) ≡ h)) text10
-means10 heap_words stacks sigs functions classes kinds statics arrays code blocks =
-    then_means (checked marks_fit 11) (λ marks. after11 heap_words stacks sigs functions classes kinds statics arrays code blocks marks) (Checked marks_fit) number_bytes
-    (λ (h : Header). h.marks) (λ x (h : Header). record { heap_words = heap_words; stacks = stacks; sigs = sigs; functions = functions; classes = classes; kinds = kinds; statics = statics; arrays = arrays; code = code; blocks = blocks; marks = x }) (λ x (h : Header). Rest11 h) text11
-    (λ x h p q e. ap (λ (z : Header). z.marks) (sym e)) (checked_means marks_fit 11)
-    (λ marks. done_means (record { heap_words = heap_words; stacks = stacks; sigs = sigs; functions = functions; classes = classes; kinds = kinds; statics = statics; arrays = arrays; code = code; blocks = blocks; marks = marks }))
-
-means9 : (heap_words stacks sigs functions classes kinds statics arrays code : ℕ) → Means (after9 heap_words stacks sigs functions classes kinds statics arrays code) (λ (h : Header). Rest9 h × ((let r : Header = record { heap_words = heap_words; stacks = stacks; sigs = sigs; functions = functions; classes = classes; kinds = kinds; statics = statics; arrays = arrays; code = code; blocks = h.blocks; marks = h.marks } in r) ≡ h)) text9
-means9 heap_words stacks sigs functions classes kinds statics arrays code =
-    then_means (checked blocks_fit 10) (λ blocks. after10 heap_words stacks sigs functions classes kinds statics arrays code blocks) (Checked blocks_fit) number_bytes
-    (λ (h : Header). h.blocks) (λ x (h : Header). record { heap_words = heap_words; stacks = stacks; sigs = sigs; functions = functions; classes = classes; kinds = kinds; statics = statics; arrays = arrays; code = code; blocks = x; marks = h.marks }) (λ x (h : Header). Rest10 h) text10
-    (λ x h p q e. ap (λ (z : Header). z.blocks) (sym e)) (checked_means blocks_fit 10)
-    (λ blocks. means10 heap_words stacks sigs functions classes kinds statics arrays code blocks)
-
-means8 : (heap_words stacks sigs functions classes kinds statics arrays : ℕ) → Means (after8 heap_words stacks sigs functions classes kinds statics arrays) (λ (h : Header). Rest8 h × ((let r : Header = record { heap_words = heap_words; stacks = stacks; sigs = sigs; functions = functions; classes = classes; kinds = kinds; statics = statics; arrays = arrays; code = h.code; blocks = h.blocks; marks = h.marks } in r) ≡ h)) text8
-means8 heap_words stacks sigs functions classes kinds statics arrays =
-    then_means (checked code_fits 9) (λ code. after9 heap_words stacks sigs functions classes kinds statics arrays code) (Checked code_fits) number_bytes
-    (λ (h : Header). h.code) (λ x (h : Header). record { heap_words = heap_words; stacks = stacks; sigs = sigs; functions = functions; classes = classes; kinds = kinds; statics = statics; arrays = arrays; code = x; blocks = h.blocks; marks = h.marks }) (λ x (h : Header). Rest9 h) text9
-    (λ x h p q e. ap (λ (z : Header). z.code) (sym e)) (checked_means code_fits 9)
-    (λ code. means9 heap_words stacks sigs functions classes kinds statics arrays code)
-
-means7 : (heap_words stacks sigs functions classes kinds statics : ℕ) → Means (after7 heap_words stacks sigs functions classes kinds statics) (λ (h : Header). Rest7 h × ((let r : Header = record { heap_words = heap_words; stacks = stacks; sigs = sigs; functions = functions; classes = classes; kinds = kinds; statics = statics; arrays = h.arrays; code = h.code; blocks = h.blocks; marks = h.marks } in r) ≡ h)) text7
-means7 heap_words stacks sigs functions classes kinds statics =
-    then_means (checked arrays_fit 8) (λ arrays. after8 heap_words stacks sigs functions classes kinds statics arrays) (Checked arrays_fit) number_bytes
-    (λ (h : Header). h.arrays) (λ x (h : Header). record { heap_words = heap_words; stacks = stacks; sigs = sigs; functions = functions; classes = classes; kinds = kinds; statics = statics; arrays = x; code = h.code; blocks = h.blocks; marks = h.marks }) (λ x (h : Header). Rest8 h) text8
-    (λ x h p q e. ap (λ (z : Header). z.arrays) (sym e)) (checked_means arrays_fit 8)
-    (λ arrays. means8 heap_words stacks sigs functions classes kinds statics arrays)
-
-means6 : (heap_words stacks sigs functions classes kinds : ℕ) → Means (after6 heap_words stacks sigs functions classes kinds) (λ (h : Header). Rest6 h × ((let r : Header = record { heap_words = heap_words; stacks = stacks; sigs = sigs; functions = functions; classes = classes; kinds = kinds; statics = h.statics; arrays = h.arrays; code = h.code; blocks = h.blocks; marks = h.marks } in r) ≡ h)) text6
-means6 heap_words stacks sigs functions classes kinds =
-    then_means (checked statics_fit 7) (λ statics. after7 heap_words stacks sigs functions classes kinds statics) (Checked statics_fit) number_bytes
-    (λ (h : Header). h.statics) (λ x (h : Header). record { heap_words = heap_words; stacks = stacks; sigs = sigs; functions = functions; classes = classes; kinds = kinds; statics = x; arrays = h.arrays; code = h.code; blocks = h.blocks; marks = h.marks }) (λ x (h : Header). Rest7 h) text7
-    (λ x h p q e. ap (λ (z : Header). z.statics) (sym e)) (checked_means statics_fit 7)
-    (λ statics. means7 heap_words stacks sigs functions classes kinds statics)
-
-means5 : (heap_words stacks sigs functions classes : ℕ) → Means (after5 heap_words stacks sigs functions classes) (λ (h : Header). Rest5 h × ((let r : Header = record { heap_words = heap_words; stacks = stacks; sigs = sigs; functions = functions; classes = classes; kinds = h.kinds; statics = h.statics; arrays = h.arrays; code = h.code; blocks = h.blocks; marks = h.marks } in r) ≡ h)) text5
-means5 heap_words stacks sigs functions classes =
-    then_means (checked kinds_fit 6) (λ kinds. after6 heap_words stacks sigs functions classes kinds) (Checked kinds_fit) number_bytes
-    (λ (h : Header). h.kinds) (λ x (h : Header). record { heap_words = heap_words; stacks = stacks; sigs = sigs; functions = functions; classes = classes; kinds = x; statics = h.statics; arrays = h.arrays; code = h.code; blocks = h.blocks; marks = h.marks }) (λ x (h : Header). Rest6 h) text6
-    (λ x h p q e. ap (λ (z : Header). z.kinds) (sym e)) (checked_means kinds_fit 6)
-    (λ kinds. means6 heap_words stacks sigs functions classes kinds)
-
-means4 : (heap_words stacks sigs functions : ℕ) → Means (after4 heap_words stacks sigs functions) (λ (h : Header). Rest4 h × ((let r : Header = record { heap_words = heap_words; stacks = stacks; sigs = sigs; functions = functions; classes = h.classes; kinds = h.kinds; statics = h.statics; arrays = h.arrays; code = h.code; blocks = h.blocks; marks = h.marks } in r) ≡ h)) text4
-means4 heap_words stacks sigs functions =
-    then_means (checked classes_fit 5) (λ classes. after5 heap_words stacks sigs functions classes) (Checked classes_fit) number_bytes
-    (λ (h : Header). h.classes) (λ x (h : Header). record { heap_words = heap_words; stacks = stacks; sigs = sigs; functions = functions; classes = x; kinds = h.kinds; statics = h.statics; arrays = h.arrays; code = h.code; blocks = h.blocks; marks = h.marks }) (λ x (h : Header). Rest5 h) text5
-    (λ x h p q e. ap (λ (z : Header). z.classes) (sym e)) (checked_means classes_fit 5)
-    (λ classes. means5 heap_words stacks sigs functions classes)
-
-means3 : (heap_words stacks sigs : ℕ) → Means (after3 heap_words stacks sigs) (λ (h : Header). Rest3 h × ((let r : Header = record { heap_words = heap_words; stacks = stacks; sigs = sigs; functions = h.functions; classes = h.classes; kinds = h.kinds; statics = h.statics; arrays = h.arrays; code = h.code; blocks = h.blocks; marks = h.marks } in r) ≡ h)) text3
-means3 heap_words stacks sigs =
-    then_means (checked functions_fit 4) (λ functions. after4 heap_words stacks sigs functions) (Checked functions_fit) number_bytes
-    (λ (h : Header). h.functions) (λ x (h : Header). record { heap_words = heap_words; stacks = stacks; sigs = sigs; functions = x; classes = h.classes; kinds = h.kinds; statics = h.statics; arrays = h.arrays; code = h.code; blocks = h.blocks; marks = h.marks }) (λ x (h : Header). Rest4 h) text4
-    (λ x h p q e. ap (λ (z : Header). z.functions) (sym e)) (checked_means functions_fit 4)
-    (λ functions. means4 heap_words stacks sigs functions)
-
-means2 : (heap_words stacks : ℕ) → Means (after2 heap_words stacks) (λ (h : Header). Rest2 h × ((let r : Header = record { heap_words = heap_words; stacks = stacks; sigs = h.sigs; functions = h.functions; classes = h.classes; kinds = h.kinds; statics = h.statics; arrays = h.arrays; code = h.code; blocks = h.blocks; marks = h.marks } in r) ≡ h)) text2
-means2 heap_words stacks =
-    then_means (checked sigs_fit 3) (λ sigs. after3 heap_words stacks sigs) (Checked sigs_fit) number_bytes
-    (λ (h : Header). h.sigs) (λ x (h : Header). record { heap_words = heap_words; stacks = stacks; sigs = x; functions = h.functions; classes = h.classes; kinds = h.kinds; statics = h.statics; arrays = h.arrays; code = h.code; blocks = h.blocks; marks = h.marks }) (λ x (h : Header). Rest3 h) text3
-    (λ x h p q e. ap (λ (z : Header). z.sigs) (sym e)) (checked_means sigs_fit 3)
-    (λ sigs. means3 heap_words stacks sigs)
-
-means1 : (heap_words : ℕ) → Means (after1 heap_words) (λ (h : Header). Rest1 h × ((let r : Header = record { heap_words = heap_words; stacks = h.stacks; sigs = h.sigs; functions = h.functions; classes = h.classes; kinds = h.kinds; statics = h.statics; arrays = h.arrays; code = h.code; blocks = h.blocks; marks = h.marks } in r) ≡ h)) text1
-means1 heap_words =
-    then_means (checked stacks_fit 2) (λ stacks. after2 heap_words stacks) (Checked stacks_fit) number_bytes
-    (λ (h : Header). h.stacks) (λ x (h : Header). record { heap_words = heap_words; stacks = x; sigs = h.sigs; functions = h.functions; classes = h.classes; kinds = h.kinds; statics = h.statics; arrays = h.arrays; code = h.code; blocks = h.blocks; marks = h.marks }) (λ x (h : Header). Rest2 h) text2
-    (λ x h p q e. ap (λ (z : Header). z.stacks) (sym e)) (checked_means stacks_fit 2)
-    (λ stacks. means2 heap_words stacks)
-
-means0 : Means (after0) (λ (h : Header). Rest0 h × ((let r : Header = record { heap_words = h.heap_words; stacks = h.stacks; sigs = h.sigs; functions = h.functions; classes = h.classes; kinds = h.kinds; statics = h.statics; arrays = h.arrays; code = h.code; blocks = h.blocks; marks = h.marks } in r) ≡ h)) text0
-means0 =
-    then_means (checked heap_fits 1) (λ heap_words. after1 heap_words) (Checked heap_fits) number_bytes
-    (λ (h : Header). h.heap_words) (λ x (h : Header). record { heap_words = x; stacks = h.stacks; sigs = h.sigs; functions = h.functions; classes = h.classes; kinds = h.kinds; statics = h.statics; arrays = h.arrays; code = h.code; blocks = h.blocks; marks = h.marks }) (λ x (h : Header). Rest1 h) text1
-    (λ x h p q e. ap (λ (z : Header). z.heap_words) (sym e)) (checked_means heap_fits 1)
-    (λ heap_words. means1 heap_words)
-
--- a header, and its bytes
-abbrev pub IsHeader : Header → Type 0
-IsHeader h = Rest0 h
-
+-- the bytes of a header
 abbrev pub header_text : Header → List ℕ
-header_text h = numbers (0x49565256 ∷ 1 ∷ h.heap_words ∷ h.stacks ∷ h.sigs ∷ h.functions ∷ h.classes ∷ h.kinds ∷ h.statics ∷ h.arrays ∷ h.code ∷ h.blocks ∷ h.marks ∷ [])
+header_text h = numbers_text tests (numbers_of h)
 
-version_means : Means (then_with (field is_version (λ at. Version)) (λ version. after0)) (λ (h : Header). (Checked is_version 1 × Rest0 h) × (h ≡ h)) (λ h. number_bytes 1 ++ text0 h)
-version_means =
-    then_means (field is_version (λ at. Version)) (λ version. after0) (Checked is_version) number_bytes
-    (λ (h : Header). 1) (λ x (h : Header). h) (λ x (h : Header). Rest0 h) text0
-    (λ x h p q e. sym (eqb-true x 1 p.1)) (field_means is_version (λ at. Version))
-    (λ version. means0)
-
+-- a header in a file
 pub header_means : Means header_fields IsHeader header_text
 unfolding header_fields
-header_means =
-    means_as _ _ IsHeader _ header_text
-    (λ h r. r.0.1.1) (λ h r. (((lit< tt, refl), ((lit< tt, refl), r)), refl)) (λ h. refl)
-    (then_means (field is_magic (λ at. Magic)) (λ magic. then_with (field is_version (λ at. Version)) (λ version. after0)) (Checked is_magic) number_bytes
-    (λ (h : Header). 0x49565256) (λ x (h : Header). h) (λ x (h : Header). Checked is_version 1 × Rest0 h) (λ h. number_bytes 1 ++ text0 h)
-    (λ x h p q e. sym (eqb-true x 0x49565256 p.1)) (field_means is_magic (λ at. Magic))
-    (λ magic. version_means))
+header_means = record {
+  whole = λ h is. put_last (tested_means tests) header_of (numbers_of h) (all_meet h is);
+  back = λ fs h s.
+      let k = take_last (tested_means tests) header_of fs h s in
+      let ns = k.value in
+      let magic = ap (λ (n : ℕ). numbers_text tests (n, ns.1)) (eqb-true ns.0 0x49565256 k.is.0.1) in
+      let version = ap (λ (n : ℕ). numbers_text tests (0x49565256, (n, ns.1.1))) (eqb-true ns.1.0 1 k.is.1.0.1) in
+      subst (λ (z : Header). IsHeader z × (fields_text fs ≡ header_text z)) k.same (header_is ns k.is, k.bytes ∙ magic ∙ version);
+}

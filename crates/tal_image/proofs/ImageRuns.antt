@@ -18,7 +18,7 @@ use Rattle.tal_image.specs.Image.{ImageParts, ArrayPart, BlockPart}
 use Rattle.object_layout.specs.Areas.{code_start, statics_start}
 use Rattle.tal_image.specs.Conditions.{Tables, Spelled, between, slots_fit, block_fits, begins_at, function_begins, number_at, entry_fits, with_array, mark_fits, mark_word, word_fits, same_number, fun_rows, array_places}
 use Rattle.tal_image.specs.Grammar.{Grammar, done, then_with, many}
-use Rattle.tal_image.specs.Fields.{checked, each, type_field, tables_of, header_fields, sig_fields, function_fields, after_function, class_fields, with_class, kind_fields, field_type_field, array_fields, coded_fields, image_fields, block_fields, mark_fields, bodies, joined, code_bytes, after_block, after_mark, CodedImage}
+use Rattle.tal_image.specs.Fields.{checked, each, type_field, tables_of, header_fields, sig_fields, function_fields, after_function, class_fields, with_class, kind_fields, field_type_field, array_fields, coded_fields, image_fields, block_fields, mark_fields, bodies, joined, code_bytes, after_block, after_mark, sigs_part, functions_part, entries_part, classes_part, kinds_part, statics_part, arrays_part, blocks_part, marks_part, CodedImage, coded}
 use Rattle.tal_image.specs.Reading.{◌>>=◌, run, number_at as number_read, pair_at, checked_at, type_at, types_at, seven_at, header_at, sigs_at, functions_at, entries_at, kinds_at, statics_at, arrays_at}
 use Rattle.tal_image.specs.ClassReading.{class_at, classes_at}
 use Rattle.tal_image.specs.CodeReading.{instruction_starts, function_starts, starts_at, starts_behind, code_at, place_fits, block_at, blocks_at, number_in, offset_fits, word_of, mark_at, marks_at}
@@ -26,7 +26,6 @@ use Rattle.tal_image.specs.ImageReading.{FrontParts, CodeParts, addresses_of, pl
 use Rattle.tal_image.proofs.ReadFields.{AreBytes}
 use Rattle.tal_image.proofs.RowReadings.{run-then_with, same_bind, many_run, checked_step, type_run, seven_run, tables_are_read}
 use Rattle.tal_image.proofs.ClassReadings.{class_run}
-use Rattle.tal_image.proofs.WholeFiles.{after1, after2, after3, after4, after5, after6, after7, after8, after9, after10, after11}
 use Rattle.tal_image.proofs.Rooms.{AllPositive, functions_fit}
 use Rattle.tal_image.proofs.CodeFacts.{bodies_stand, bytes_are, starts_same, number_same, functions_same}
 
@@ -138,30 +137,64 @@ front_parts h sigs functions entries classes kinds statics arrays = record {
   arrays = arrays;
 }
 
+-- the code, the blocks and the marks of an image
+abbrev behind_fields : Header → List Sig → List FunctionPart → List ℕ → List ClassRow → List KindRow → List FieldTy → List ArrayPart → Grammar CodedImage
+behind_fields h sigs functions entries classes kinds statics arrays =
+    then_with (bodies functions) (λ code.
+    then_with (blocks_part h functions (joined code)) (λ blocks.
+    then_with (marks_part h functions arrays (joined code)) (λ marks.
+    done (coded h sigs functions entries classes kinds statics arrays code blocks marks))))
+
+-- the blocks
+blocks_run : (h : Header) (functions : List FunctionPart) (all : List Spelled) (begun : List Bool) (file : List ℕ) (at : ℕ)
+    → AllPositive functions → ((n : ℕ) → is_some (begins_at n all) ≡ starts_at begun n)
+    → run (blocks_part h functions all) file at ≡ blocks_at (tables_of h) begun (function_starts functions) h.blocks file at
+blocks_run h functions all begun file at positive starts =
+    let firsts = function_starts functions in
+    many_run (λ later least. block_fields (tables_of h) functions all least) (λ later least. block_at (tables_of h) begun firsts least) after_block
+    (λ later least f a. block_run (tables_of h) functions all begun firsts least f a (λ n. place_same functions all begun firsts least n (starts n) (functions_same functions positive n)))
+    h.blocks 0 file at
+
+-- the marks
+marks_run : (h : Header) (functions : List FunctionPart) (arrays : List ArrayPart) (all : List Spelled) (bytes : List ℕ) (begun : List Bool) (file : List ℕ) (at : ℕ)
+    → ((n : ℕ) → number_at n all ≡ number_in bytes begun n)
+    → run (marks_part h functions arrays all) file at
+    ≡ marks_at (tables_of h) (addresses functions) (array_places (statics_start + 4 * h.statics) arrays) bytes begun h.marks file at
+marks_run h functions arrays all bytes begun file at same =
+    let places = array_places (statics_start + 4 * h.statics) arrays in
+    many_run (λ later least. mark_fields (tables_of h) functions h.statics arrays all least)
+    (λ later least. mark_at (tables_of h) (addresses functions) places bytes begun least) after_mark
+    (λ later least f a. mark_run (tables_of h) functions h.statics arrays all bytes begun least f a same)
+    h.marks 0 file at
+
+-- the classes
+classes_run : (h : Header) (functions : List FunctionPart) (file : List ℕ) (at : ℕ)
+    → run (classes_part h functions) file at ≡ classes_at (tables_of h) functions h.classes file at
+classes_run h functions file at =
+    many_run (λ later classes. class_fields (tables_of h) functions classes) (λ later classes. class_at (tables_of h) functions classes) with_class
+    (λ later classes f a. class_run (tables_of h) functions classes f a) h.classes [] file at
+
 module _ (law : DecodedLaw) (file : List ℕ) (fits : AreBytes file) (h : Header) (sigs : List Sig) (functions : List FunctionPart) (entries : List ℕ) (classes : List ClassRow) (kinds : List KindRow) (statics : List FieldTy) (arrays : List ArrayPart) where
+  -- the tables of this file
+  abbrev tables : FrontParts
+  tables = front_parts h sigs functions entries classes kinds statics arrays
+
   -- the code, the blocks and the marks
-  behind_run : (at : ℕ) → AllPositive functions → (run (after8 h sigs functions entries classes kinds statics arrays) file at >>= only_image) ≡ (behind_at (front_parts h sigs functions entries classes kinds statics arrays) file at >>= behind_front (front_parts h sigs functions entries classes kinds statics arrays))
+  behind_run : (at : ℕ) → AllPositive functions
+      → (run (behind_fields h sigs functions entries classes kinds statics arrays) file at >>= only_image) ≡ (behind_at tables file at >>= behind_front tables)
   unfolding behind_at
   behind_run at positive =
-      let f = front_parts h sigs functions entries classes kinds statics arrays in
-      let t = tables_of h in
-      let firsts = function_starts functions in
-      let bytes = drop at file in
-      code_step functions (λ code. after9 h sigs functions entries classes kinds statics arrays code) _ (behind_front f) file at (λ code e.
+      code_step functions _ _ (behind_front tables) file at (λ code e.
       let all = joined code.0 in
       let begun = instruction_starts all in
       let stand = bodies_stand law file fits functions at code.0 code.1 e in
-      step (many h.blocks (λ later least. block_fields t functions all least) after_block 0) (λ blocks. after10 h sigs functions entries classes kinds statics arrays code.0 blocks) (blocks_at t begun firsts h.blocks file code.1) _ (behind_front f) file code.1
-      (many_run (λ later least. block_fields t functions all least) (λ later least. block_at t begun firsts least) after_block
-      (λ later least fl a. block_run t functions all begun firsts least fl a (λ n. place_same functions all begun firsts least n (starts_same file at all stand.0 n) (functions_same functions positive n))) h.blocks 0 file code.1)
-      (λ blocks eb.
-      step (many h.marks (λ later least. mark_fields t functions h.statics arrays all least) after_mark 0) (λ marks. after11 h sigs functions entries classes kinds statics arrays code.0 blocks.0 marks) (marks_at t (addresses_of f) (places_of f) bytes begun h.marks file blocks.1) _ (behind_front f) file blocks.1
-      (many_run (λ later least. mark_fields t functions h.statics arrays all least) (λ later least. mark_at t (addresses_of f) (places_of f) bytes begun least) after_mark
-      (λ later least fl a. mark_run t functions h.statics arrays all bytes begun least fl a (λ n. number_same file at all stand.0 n)) h.marks 0 file blocks.1)
-      (λ marks em.
+      step (blocks_part h functions all) _ _ _ (behind_front tables) file code.1
+      (blocks_run h functions all begun file code.1 positive (λ n. starts_same file at all stand.0 n)) (λ blocks eb.
+      step (marks_part h functions arrays all) _ _ _ (behind_front tables) file blocks.1
+      (marks_run h functions arrays all (drop at file) begun file blocks.1 (λ n. number_same file at all stand.0 n)) (λ marks em.
       let count : length (code_bytes all) ≡ code.1 - at = let q = stand.1 in omega arith in
-      ap (λ (z : List ℕ). let r : Result (ImageParts × ℕ) ImageFault = Ok (whole f (record { code = z; blocks = blocks.0; marks = marks.0 }), marks.1) in r)
-      (bytes_are file at all stand.0 ∙ ap (λ (n : ℕ). take n bytes) count))))
+      ap (λ (z : List ℕ). let r : Result (ImageParts × ℕ) ImageFault = Ok (whole tables (record { code = z; blocks = blocks.0; marks = marks.0 }), marks.1) in r)
+      (bytes_are file at all stand.0 ∙ ap (λ (n : ℕ). take n (drop at file)) count))))
 
 module _ (law : DecodedLaw) (file : List ℕ) (fits : AreBytes file) where
   -- what comes of the tables
@@ -173,14 +206,14 @@ module _ (law : DecodedLaw) (file : List ℕ) (fits : AreBytes file) where
   unfolding image_fields coded_fields image_at front_at
   image_run at =
       run-then_with coded_fields (λ coded. done coded.image) file at
-      ∙ step header_fields (λ h. after1 h) (header_at file at) _ behind_tables file at (tables_are_read.header file at) (λ h eh.
+      ∙ step header_fields _ _ _ behind_tables file at (tables_are_read.header file at) (λ h eh.
       let t = tables_of h.0 in
-      step (each h.0.sigs (sig_fields t)) (λ sigs. after2 h.0 sigs) (sigs_at t h.0.sigs file h.1) _ behind_tables file h.1 (tables_are_read.sigs t h.0.sigs file h.1) (λ sigs es.
-      step (many h.0.functions (function_fields t) after_function h.0.code) (λ functions. after3 h.0 sigs.0 functions) (functions_at t h.0.functions h.0.code file sigs.1) _ behind_tables file sigs.1 (tables_are_read.functions t h.0.functions h.0.code file sigs.1) (λ functions ef.
-      step (each h.0.stacks (checked (entry_fits sigs.0 functions.0) 15)) (λ entries. after4 h.0 sigs.0 functions.0 entries) (entries_at sigs.0 functions.0 h.0.stacks file functions.1) _ behind_tables file functions.1 (tables_are_read.entries sigs.0 functions.0 h.0.stacks file functions.1) (λ entries ee.
-      step (many h.0.classes (λ later classes. class_fields t functions.0 classes) with_class []) (λ classes. after5 h.0 sigs.0 functions.0 entries.0 classes) (classes_at t functions.0 h.0.classes file entries.1) _ behind_tables file entries.1
-      (many_run (λ later classes. class_fields t functions.0 classes) (λ later classes. class_at t functions.0 classes) with_class (λ later classes fl a. class_run t functions.0 classes fl a) h.0.classes [] file entries.1) (λ classes ec.
-      step (each h.0.kinds (kind_fields t)) (λ kinds. after6 h.0 sigs.0 functions.0 entries.0 classes.0 kinds) (kinds_at t h.0.kinds file classes.1) _ behind_tables file classes.1 (tables_are_read.kinds t h.0.kinds file classes.1) (λ kinds ek.
-      step (each h.0.statics (field_type_field t)) (λ statics. after7 h.0 sigs.0 functions.0 entries.0 classes.0 kinds.0 statics) (statics_at t h.0.statics file kinds.1) _ behind_tables file kinds.1 (tables_are_read.statics t h.0.statics file kinds.1) (λ statics ex.
-      step (many h.0.arrays (λ later used. array_fields t kinds.0 used) with_array h.0.statics) (λ arrays. after8 h.0 sigs.0 functions.0 entries.0 classes.0 kinds.0 statics.0 arrays) (arrays_at t kinds.0 h.0.arrays h.0.statics file statics.1) _ behind_tables file statics.1 (tables_are_read.arrays t kinds.0 h.0.arrays h.0.statics file statics.1) (λ arrays ea.
-      behind_run law file fits h.0 sigs.0 functions.0 entries.0 classes.0 kinds.0 statics.0 arrays.0 arrays.1 (functions_fit t h.0.functions h.0.code file sigs.1 functions.0 functions.1 ef).0))))))))
+      step (sigs_part h.0) _ _ _ behind_tables file h.1 (tables_are_read.sigs t h.0.sigs file h.1) (λ sigs es.
+      step (functions_part h.0) _ _ _ behind_tables file sigs.1 (tables_are_read.functions t h.0.functions h.0.code file sigs.1) (λ functions ef.
+      step (entries_part h.0 sigs.0 functions.0) _ _ _ behind_tables file functions.1 (tables_are_read.entries sigs.0 functions.0 h.0.stacks file functions.1) (λ entries ee.
+      step (classes_part h.0 functions.0) _ _ _ behind_tables file entries.1 (classes_run h.0 functions.0 file entries.1) (λ classes ec.
+      step (kinds_part h.0) _ _ _ behind_tables file classes.1 (tables_are_read.kinds t h.0.kinds file classes.1) (λ kinds ek.
+      step (statics_part h.0) _ _ _ behind_tables file kinds.1 (tables_are_read.statics t h.0.statics file kinds.1) (λ statics ex.
+      step (arrays_part h.0 kinds.0) _ _ _ behind_tables file statics.1 (tables_are_read.arrays t kinds.0 h.0.arrays h.0.statics file statics.1) (λ arrays ea.
+      let fit = functions_fit t h.0.functions h.0.code file sigs.1 functions.0 functions.1 ef in
+      behind_run law file fits h.0 sigs.0 functions.0 entries.0 classes.0 kinds.0 statics.0 arrays.0 arrays.1 fit.0))))))))

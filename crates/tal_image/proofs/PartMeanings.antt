@@ -1,17 +1,21 @@
 -- What the parts of a file stand for: rows, and lists of rows.
 use Rattle.std.specs.List.{flat_map}
 use Rattle.std.proofs.Common.{◌≡◌, ℕ, zero, suc, ◌<◌, ◌^◌, Bool, true, List, [], ◌∷◌, ◌++◌, length, refl, sym, ap, subst, ◌∙◌, append_assoc, arith}
-use Rattle.std.specs.Int.{w32, to_le_bytes}
 use Rattle.std.proofs.lemmas.List.{append-nil}
 use Rattle.tal_image.specs.declared.fault.ImageFault.{ImageFault}
 use Rattle.tal_image.specs.declared.fault.ImageFault.TheVariants.{Bad}
+use Rattle.tal_image.specs.Image.{number_bytes}
 use Rattle.tal_image.specs.Grammar.{Grammar, done, number, pair, instruction, then_with, many, Field, Number, Pair, Instruction, field_text, fields_text, Meets, Sound}
 use Rattle.tal_image.specs.Fields.{field, checked, each}
 use Rattle.tal_image.specs.Formed.{EachAfter, Each}
 
+-- sound fields that stand for a value, with these bytes
+abbrev pub FieldsOf : {A : Type 0} → Grammar A → A → List ℕ → Type 0
+FieldsOf g x text = (fs : List Field) × Sound g fs (done x) × (fields_text fs ≡ text)
+
 -- The sound fields of a part are those of the values that are as they must be, and their bytes are the value's.
 pub record Means {A : Type 0} (g : Grammar A) (Is : A → Type 0) (text : A → List ℕ) : Type 0 where
-  pub whole : (x : A) → Is x → (fs : List Field) × Sound g fs (done x) × (fields_text fs ≡ text x)
+  pub whole : (x : A) → Is x → FieldsOf g x (text x)
   pub back : (fs : List Field) (x : A) → Sound g fs (done x) → Is x × (fields_text fs ≡ text x)
 
 -- the bytes of two lists of fields
@@ -85,27 +89,118 @@ join (pair ok fault next) f (Instruction text i ∷ fs) gs x after p q = absurd 
 join (instruction room next) f (Number n ∷ fs) gs x after p q = absurd p.1
 join (instruction room next) f (Pair n m ∷ fs) gs x after p q = absurd p.1
 
+-- a number of 32 bits that meets a test
+abbrev pub Checked : (ℕ → Bool) → ℕ → Type 0
+Checked ok n = (n < 2 ^ 32) × (ok n ≡ true)
+
 -- one number under a condition
-pub field_means : (ok : ℕ → Bool) (fault : ℕ → ImageFault) → Means (field ok fault) (λ n. (n < 2 ^ 32) × (ok n ≡ true)) (λ n. to_le_bytes w32 n)
+pub field_means : (ok : ℕ → Bool) (fault : ℕ → ImageFault) → Means (field ok fault) (Checked ok) number_bytes
 field_means ok fault = record { whole = whole; back = back }
   where
-    whole : (n : ℕ) → (n < 2 ^ 32) × (ok n ≡ true) → (fs : List Field) × Sound (field ok fault) fs (done n) × (fields_text fs ≡ to_le_bytes w32 n)
-    whole n h = (Number n ∷ [], (done n, (h.0, h.1, refl), refl), append-nil (to_le_bytes w32 n))
+    whole : (n : ℕ) → Checked ok n → FieldsOf (field ok fault) n (number_bytes n)
+    whole n h = (Number n ∷ [], (done n, (h.0, h.1, refl), refl), append-nil (number_bytes n))
 
-    back : (fs : List Field) (n : ℕ) → Sound (field ok fault) fs (done n) → ((n < 2 ^ 32) × (ok n ≡ true)) × (fields_text fs ≡ to_le_bytes w32 n)
+    back : (fs : List Field) (n : ℕ) → Sound (field ok fault) fs (done n) → Checked ok n × (fields_text fs ≡ number_bytes n)
     back [] n s = absurd cc
     back (Pair a b ∷ fs) n s = absurd s.1
     back (Instruction t i ∷ fs) n s = absurd s.1
     back (Number m ∷ fs) n s =
         let k = at_end m n fs (subst (λ (z : Grammar ℕ). Sound z fs (done n)) s.1.2 s.2) in
-        (subst (λ (z : ℕ). (z < 2 ^ 32) × (ok z ≡ true)) k.1 (s.1.0, s.1.1), ap (λ (t : List Field). fields_text (Number m ∷ t)) k.0 ∙ append-nil (to_le_bytes w32 m) ∙ ap (to_le_bytes w32) k.1)
+        let text = ap (λ (t : List Field). fields_text (Number m ∷ t)) k.0 ∙ append-nil (number_bytes m) in
+        subst (λ (z : ℕ). Checked ok z × (fields_text (Number m ∷ fs) ≡ number_bytes z)) k.1 ((s.1.0, s.1.1), text)
 
-pub checked_means : (ok : ℕ → Bool) (condition : ℕ) → Means (checked ok condition) (λ n. (n < 2 ^ 32) × (ok n ≡ true)) (λ n. to_le_bytes w32 n)
+-- a number under the condition with this number
+pub checked_means : (ok : ℕ → Bool) (condition : ℕ) → Means (checked ok condition) (Checked ok) number_bytes
 checked_means ok condition = field_means ok (λ at. Bad at condition)
+
+-- two numbers of 32 bits that meet a test
+abbrev pub CheckedPair : (ℕ → ℕ → Bool) → ℕ × ℕ → Type 0
+CheckedPair ok p = (p.0 < 2 ^ 32) × (p.1 < 2 ^ 32) × (ok p.0 p.1 ≡ true)
+
+abbrev pub pair_bytes : ℕ × ℕ → List ℕ
+pair_bytes p = number_bytes p.0 ++ number_bytes p.1
+
+-- two numbers as one field
+pub pair_means : (ok : ℕ → ℕ → Bool) (fault : ℕ → ℕ → ℕ → ImageFault) → Means (pair ok fault (λ n m. done (n, m))) (CheckedPair ok) pair_bytes
+pair_means ok fault = record { whole = whole; back = back }
+  where
+    both : Grammar (ℕ × ℕ)
+    both = pair ok fault (λ n m. done (n, m))
+
+    whole : (p : ℕ × ℕ) → CheckedPair ok p → FieldsOf both p (pair_bytes p)
+    whole p h = (Pair p.0 p.1 ∷ [], (done p, (h.0, h.1, h.2, refl), refl), append-nil (pair_bytes p))
+
+    back : (fs : List Field) (p : ℕ × ℕ) → Sound both fs (done p) → CheckedPair ok p × (fields_text fs ≡ pair_bytes p)
+    back [] p s = absurd cc
+    back (Number n ∷ fs) p s = absurd s.1
+    back (Instruction t i ∷ fs) p s = absurd s.1
+    back (Pair n m ∷ fs) p s =
+        let k = at_end (n, m) p fs (subst (λ (z : Grammar (ℕ × ℕ)). Sound z fs (done p)) s.1.3 s.2) in
+        let text = ap (λ (t : List Field). fields_text (Pair n m ∷ t)) k.0 ∙ append-nil (number_bytes n ++ number_bytes m) in
+        subst (λ (z : ℕ × ℕ). CheckedPair ok z × (fields_text (Pair n m ∷ fs) ≡ pair_bytes z)) k.1 ((s.1.0, s.1.1, s.1.2), text)
 
 -- the bytes of one part and of what comes then
 pub texts : (fs gs : List Field) (a b : List ℕ) → fields_text fs ≡ a → fields_text gs ≡ b → fields_text (fs ++ gs) ≡ a ++ b
 texts fs gs a b p q = fields_text-append fs gs ∙ ap (λ (t : List ℕ). t ++ fields_text gs) p ∙ ap (λ (t : List ℕ). a ++ t) q
+
+-- ---- one part, and what comes then
+
+module _ {A B : Type 0} {g : Grammar A} {Is : A → Type 0} {text : A → List ℕ} (means : Means g Is text) where
+  -- the fields of one part, with those of what comes then
+  pub put_part : (f : A → Grammar B) (x : A) (y : B) (more : List ℕ) → Is x → FieldsOf (f x) y more → FieldsOf (then_with g f) y (text x ++ more)
+  put_part f x y more h k =
+      let one = means.whole x h in
+      (one.0 ++ k.0, join g f one.0 k.0 x (done y) one.1 k.1, texts one.0 k.0 (text x) more one.2 k.2)
+
+  -- the fields of the last part
+  pub put_last : (make : A → B) (x : A) → Is x → FieldsOf (then_with g (λ z. done (make z))) (make x) (text x)
+  put_last make x h =
+      let one = means.whole x h in
+      (one.0 ++ [], join g (λ z. done (make z)) one.0 [] x (done (make x)) one.1 refl, ap fields_text (append-nil one.0) ∙ one.2)
+
+-- one part that was taken off fields: its value, and the fields of what comes then
+pub record Part {A B : Type 0} (Is : A → Type 0) (text : A → List ℕ) (f : A → Grammar B) (fs : List Field) (y : B) : Type 0 where
+  pub value : A
+  pub is : Is value
+  pub rest : List Field
+  pub more : Sound (f value) rest (done y)
+  pub bytes : (t : List ℕ) → fields_text rest ≡ t → fields_text fs ≡ text value ++ t
+
+-- the last part that was taken off fields
+pub record Last {A B : Type 0} (Is : A → Type 0) (text : A → List ℕ) (make : A → B) (fs : List Field) (y : B) : Type 0 where
+  pub value : A
+  pub is : Is value
+  pub same : make value ≡ y
+  pub bytes : fields_text fs ≡ text value
+
+module _ {A B : Type 0} {g : Grammar A} {Is : A → Type 0} {text : A → List ℕ} (means : Means g Is text) where
+  -- fields of one part and of what comes then
+  pub take_part : (f : A → Grammar B) (fs : List Field) (y : B) → Sound (then_with g f) fs (done y) → Part Is text f fs y
+  take_part f fs y s =
+      let k = split g f fs y s in
+      let one = means.back k.first k.value k.one in
+      record {
+        value = k.value;
+        is = one.0;
+        rest = k.second;
+        more = k.more;
+        bytes = λ t e. ap fields_text k.parts ∙ texts k.first k.second (text k.value) t one.1 e;
+      }
+
+  -- fields of the last part
+  pub take_last : (make : A → B) (fs : List Field) (y : B) → Sound (then_with g (λ x. done (make x))) fs (done y) → Last Is text make fs y
+  take_last make fs y s =
+      let k = take_part (λ x. done (make x)) fs y s in
+      let e = at_end (make k.value) y k.rest k.more in
+      record { value = k.value; is = k.is; same = e.1; bytes = k.bytes [] (ap fields_text e.0) ∙ append-nil (text k.value) }
+
+-- what follows from something, without what that was made of: a long proof stays small where each step sees no further than the last
+pub given : {A B : Type 0} → A → (A → B) → B
+given x f = f x
+
+-- so many rows, all as they must be
+abbrev pub Counted : {A : Type 0} → ℕ → (List A → Type 0) → List A → Type 0
+Counted n Are xs = (length xs ≡ n) × Are xs
 
 -- a list of rows
 module _ {S A : Type 0} (row : ℕ → S → Grammar A) (step : S → A → S) (Is : ℕ → S → A → Type 0) (text : A → List ℕ) (means : (later : ℕ) (kept : S) → Means (row later kept) (Is later kept) text) where
@@ -150,31 +245,3 @@ means_as g Is Is2 text text2 to from same m = record {
   whole = λ x h. let k = m.whole x (from x h) in (k.0, k.1, k.2 ∙ same x);
   back = λ fs x s. let k = m.back fs x s in (to x k.0, k.1 ∙ same x);
 }
-
--- the end
-pub done_means : {A : Type 0} (x : A) → Means (done x) (λ y. Unit {0} × (x ≡ y)) (λ y. [])
-done_means {A} x = record {
-  whole = λ y h. ([], ap (λ (z : A). done z) h.1, refl);
-  back = λ fs y s. let k = at_end x y fs s in ((tt, k.1), ap fields_text k.0);
-}
-
--- One part and what comes then, where the part can be told from the whole: `part y` is the value of the part in the whole y,
--- and y is `set x y`, the whole with x as that part.
-module _ {A B : Type 0} (g : Grammar A) (f : A → Grammar B) (IsPart : A → Type 0) (part_text : A → List ℕ) (part : B → A) (set : A → B → B) (Rest : A → B → Type 0) (rest_text : B → List ℕ) (det : (x : A) (y : B) → IsPart x → Rest x y → set x y ≡ y → part y ≡ x) (first : Means g IsPart part_text) (then : (x : A) → Means (f x) (λ y. Rest x y × (set x y ≡ y)) rest_text) where
-  then_back : (fs : List Field) (y : B) → Sound (then_with g f) fs (done y) → ((IsPart (part y) × Rest (part y) y) × (set (part y) y ≡ y)) × (fields_text fs ≡ part_text (part y) ++ rest_text y)
-  then_back fs y s =
-      let k = split g f fs y s in
-      let one = first.back k.first k.value k.one in
-      let more = (then k.value).back k.second y k.more in
-      let e = det k.value y one.0 more.0.0 more.0.1 in
-      subst (λ (z : A). ((IsPart z × Rest z y) × (set z y ≡ y)) × (fields_text fs ≡ part_text z ++ rest_text y)) (sym e)
-      (((one.0, more.0.0), more.0.1), ap fields_text k.parts ∙ texts k.first k.second (part_text k.value) (rest_text y) one.1 more.1)
-
-  then_whole : (y : B) → (IsPart (part y) × Rest (part y) y) × (set (part y) y ≡ y) → (fs : List Field) × Sound (then_with g f) fs (done y) × (fields_text fs ≡ part_text (part y) ++ rest_text y)
-  then_whole y h =
-      let one = first.whole (part y) h.0.0 in
-      let more = (then (part y)).whole y (h.0.1, h.1) in
-      (one.0 ++ more.0, join g f one.0 more.0 (part y) (done y) one.1 more.1, texts one.0 more.0 (part_text (part y)) (rest_text y) one.2 more.2)
-
-  pub then_means : Means (then_with g f) (λ y. (IsPart (part y) × Rest (part y) y) × (set (part y) y ≡ y)) (λ y. part_text (part y) ++ rest_text y)
-  then_means = record { whole = then_whole; back = then_back }

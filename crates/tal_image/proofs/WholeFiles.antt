@@ -1,7 +1,6 @@
 -- The file of an image is its fields one after another.
 use Rattle.std.specs.List.{flat_map}
-use Rattle.std.proofs.Common.{◌≡◌, ℕ, ◌<◌, ◌^◌, true, List, [], ◌∷◌, ◌++◌, length, refl, sym, ap, subst, ◌∙◌, arith}
-use Rattle.std.proofs.lemmas.Bool.Decides.{nat_tests}
+use Rattle.std.proofs.Common.{◌≡◌, ℕ, true, List, [], ◌∷◌, ◌++◌, length, refl, sym, ap, subst, ◌∙◌}
 use Rattle.std.proofs.lemmas.List.{append-nil}
 use Rattle.object_layout.specs.declared.rows.FieldTy.{FieldTy}
 use Rattle.object_layout.specs.declared.rows.ClassRow.{ClassRow}
@@ -10,414 +9,289 @@ use Rattle.tal_types.specs.declared.signatures.Sig.{Sig}
 use Rattle.tal_image.specs.declared.parts.Header.{Header}
 use Rattle.tal_image.specs.declared.parts.FunctionPart.{FunctionPart}
 use Rattle.tal_image.specs.declared.parts.MarkPart.{MarkPart}
-use Rattle.tal_image.specs.Image.{ImageParts, ArrayPart, BlockPart, number_bytes, numbers, field_bytes, sig_bytes, function_bytes, class_bytes, kind_bytes, array_bytes, block_bytes, mark_bytes, FileOf}
-use Rattle.tal_image.specs.Conditions.{Tables, heap_fits, stacks_fit, sigs_fit, functions_fit, classes_fit, kinds_fit, statics_fit, code_fits, entry_fits, with_array, Spelled}
-use Rattle.tal_image.specs.Grammar.{Grammar, done, then_with, many, Field, fields_text, StandsFor}
-use Rattle.tal_image.specs.Fields.{checked, each, tables_of, header_fields, sig_fields, function_fields, after_function, class_fields, with_class, kind_fields, field_type_field, array_fields, bodies, joined, code_bytes, block_fields, after_block, mark_fields, after_mark, image_of, CodedImage, coded_fields, image_fields}
+use Rattle.tal_image.specs.Image.{ImageParts, ArrayPart, BlockPart, number_bytes, numbers, header, field_bytes, sig_bytes, function_bytes, class_bytes, kind_bytes, array_bytes, block_bytes, mark_bytes, FileOf}
+use Rattle.tal_image.specs.Conditions.{Tables, functions_fit, entry_fits, with_array, Spelled}
+use Rattle.tal_image.specs.Grammar.{Grammar, done, Field, fields_text, Sound, StandsFor}
+use Rattle.tal_image.specs.Fields.{checked, tables_of, sigs_part, functions_part, entries_part, classes_part, kinds_part, statics_part, arrays_part, blocks_part, marks_part, after_function, with_class, after_block, after_mark, joined, code_bytes, CodedImage, coded, coded_fields, image_fields}
 use Rattle.tal_image.specs.Formed.{EachAfter, Each, IsSig, IsFunction, IsEntry, IsClass, IsFieldType, IsArray, AreBodies, IsBlock, IsMark, Formed, ImageOf}
-use Rattle.tal_image.proofs.PartMeanings.{Means, at_end, split, join, checked_means, many_means, each_means, means_as, done_means, then_means}
+use Rattle.tal_image.proofs.PartMeanings.{Means, FieldsOf, Checked, Counted, at_end, split, join, checked_means, many_means, each_means, means_as, put_part, put_last, take_part, take_last, given}
 use Rattle.tal_image.proofs.TypeFields.{field_type_means}
 use Rattle.tal_image.proofs.Rows.{sig_means, function_means, kind_means, array_means, mark_means, block_means, class_means}
 use Rattle.tal_image.proofs.HeaderFields.{IsHeader, header_text, header_means}
 use Rattle.tal_image.proofs.Bodies.{SomeText, bodies_means, code_length}
 
--- the image of these parts, with the instructions of its functions
-abbrev pub coded : Header → List Sig → List FunctionPart → List ℕ → List ClassRow → List KindRow → List FieldTy → List ArrayPart → List (List Spelled) → List BlockPart → List MarkPart → CodedImage
-coded h sigs functions entries classes kinds statics arrays code blocks marks = record { image = image_of h sigs functions entries classes kinds statics arrays code blocks marks; bodies = code }
+-- ---- the lists of a file
 
--- the header of an image's file
-abbrev header_of : CodedImage → Header
-header_of y = record {
-  heap_words = y.image.heap_words;
-  stacks = y.image.stacks;
-  sigs = length y.image.sigs;
-  functions = length y.image.functions;
-  classes = length y.image.classes;
-  kinds = length y.image.kinds;
-  statics = length y.image.statics;
-  arrays = length y.image.arrays;
-  code = length y.image.code;
-  blocks = length y.image.blocks;
-  marks = length y.image.marks;
-}
+-- the rows of each list, each of them as it must be after those before it
+abbrev AreSigs : Tables → List Sig → Type 0
+AreSigs t xs = Each (IsSig t) xs
 
--- the function at which a stack begins
+abbrev AreFunctions : Header → List FunctionPart → Type 0
+AreFunctions h xs = EachAfter after_function (λ later left f. IsFunction (tables_of h) later left f) h.code xs
+
+abbrev AreEntries : List Sig → List FunctionPart → List ℕ → Type 0
+AreEntries sigs functions xs = Each (IsEntry sigs functions) xs
+
+abbrev AreClasses : Tables → List FunctionPart → List ClassRow → Type 0
+AreClasses t functions xs = EachAfter with_class (λ later classes c. IsClass t functions classes c) [] xs
+
+abbrev AreKinds : Tables → List KindRow → Type 0
+AreKinds t xs = Each (λ (k : KindRow). IsFieldType t k.element) xs
+
+abbrev AreStatics : Tables → List FieldTy → Type 0
+AreStatics t xs = Each (IsFieldType t) xs
+
+abbrev AreArrays : Header → List KindRow → List ArrayPart → Type 0
+AreArrays h kinds xs = EachAfter with_array (λ later used a. IsArray (tables_of h) kinds used a) h.statics xs
+
+abbrev AreBlocks : Tables → List FunctionPart → List Spelled → List BlockPart → Type 0
+AreBlocks t functions code xs = EachAfter after_block (λ later least b. IsBlock t functions code least b) 0 xs
+
+abbrev AreMarks : Header → List FunctionPart → List ArrayPart → List Spelled → List MarkPart → Type 0
+AreMarks h functions arrays code xs =
+    EachAfter after_mark (λ later least m. IsMark (tables_of h) functions h.statics arrays code least m) 0 xs
+
+-- each list in a file
+sigs_means : (h : Header) → Means (sigs_part h) (Counted h.sigs (AreSigs (tables_of h))) (λ xs. flat_map sig_bytes xs)
+sigs_means h = each_means _ _ _ (sig_means (tables_of h)) h.sigs
+
+functions_means : (h : Header) → Means (functions_part h) (Counted h.functions (AreFunctions h)) (λ xs. flat_map function_bytes xs)
+functions_means h = many_means _ _ _ _ (function_means (tables_of h)) h.functions h.code
+
 entry_means : (sigs : List Sig) (functions : List FunctionPart) → Means (checked (entry_fits sigs functions) 15) (IsEntry sigs functions) number_bytes
 entry_means sigs functions =
-    means_as (checked (entry_fits sigs functions) 15) (λ n. (n < 2 ^ 32) × (entry_fits sigs functions n ≡ true)) (IsEntry sigs functions) number_bytes number_bytes
+    means_as _ (Checked (entry_fits sigs functions)) _ number_bytes number_bytes
     (λ f h. record { word = h.0; condition_15 = h.1 }) (λ f h. (h.word, h.condition_15)) (λ f. refl) (checked_means (entry_fits sigs functions) 15)
 
--- ---- the parts of a file, each after those before it
+entries_means : (h : Header) (sigs : List Sig) (functions : List FunctionPart)
+    → Means (entries_part h sigs functions) (Counted h.stacks (AreEntries sigs functions)) numbers
+entries_means h sigs functions = each_means _ _ _ (entry_means sigs functions) h.stacks
 
-abbrev Is_sigs : Header → List Sig → Type 0
-Is_sigs h x = (length x ≡ h.sigs) × Each (IsSig (tables_of h)) x
+classes_means : (h : Header) (functions : List FunctionPart)
+    → Means (classes_part h functions) (Counted h.classes (AreClasses (tables_of h) functions)) (λ xs. flat_map class_bytes xs)
+classes_means h functions = many_means _ _ _ _ (λ later classes. class_means (tables_of h) functions classes) h.classes []
 
-abbrev Is_functions : Header → List Sig → List FunctionPart → Type 0
-Is_functions h sigs x = (length x ≡ h.functions) × EachAfter after_function (λ later left f. IsFunction (tables_of h) later left f) h.code x
+kinds_means : (h : Header) → Means (kinds_part h) (Counted h.kinds (AreKinds (tables_of h))) (λ xs. flat_map kind_bytes xs)
+kinds_means h = each_means _ _ _ (kind_means (tables_of h)) h.kinds
 
-abbrev Is_entries : Header → List Sig → List FunctionPart → List ℕ → Type 0
-Is_entries h sigs functions x = (length x ≡ h.stacks) × Each (IsEntry sigs functions) x
+statics_means : (h : Header) → Means (statics_part h) (Counted h.statics (AreStatics (tables_of h))) (λ xs. flat_map field_bytes xs)
+statics_means h = each_means _ _ _ (field_type_means (tables_of h)) h.statics
 
-abbrev Is_classes : Header → List Sig → List FunctionPart → List ℕ → List ClassRow → Type 0
-Is_classes h sigs functions entries x = (length x ≡ h.classes) × EachAfter with_class (λ later classes c. IsClass (tables_of h) functions classes c) [] x
+arrays_means : (h : Header) (kinds : List KindRow)
+    → Means (arrays_part h kinds) (Counted h.arrays (AreArrays h kinds)) (λ xs. flat_map array_bytes xs)
+arrays_means h kinds = many_means _ _ _ _ (λ later used. array_means (tables_of h) kinds used) h.arrays h.statics
 
-abbrev Is_kinds : Header → List Sig → List FunctionPart → List ℕ → List ClassRow → List KindRow → Type 0
-Is_kinds h sigs functions entries classes x = (length x ≡ h.kinds) × Each (λ (k : KindRow). IsFieldType (tables_of h) k.element) x
+blocks_means : (h : Header) (functions : List FunctionPart) (code : List Spelled)
+    → Means (blocks_part h functions code) (Counted h.blocks (AreBlocks (tables_of h) functions code)) (λ xs. flat_map block_bytes xs)
+blocks_means h functions code = many_means _ _ _ _ (λ later least. block_means (tables_of h) functions code least) h.blocks 0
 
-abbrev Is_statics : Header → List Sig → List FunctionPart → List ℕ → List ClassRow → List KindRow → List FieldTy → Type 0
-Is_statics h sigs functions entries classes kinds x = (length x ≡ h.statics) × Each (IsFieldType (tables_of h)) x
+marks_means : (h : Header) (functions : List FunctionPart) (arrays : List ArrayPart) (code : List Spelled)
+    → Means (marks_part h functions arrays code) (Counted h.marks (AreMarks h functions arrays code)) (λ xs. flat_map mark_bytes xs)
+marks_means h functions arrays code =
+    many_means _ _ _ _ (λ later least. mark_means (tables_of h) functions h.statics arrays code least) h.marks 0
 
-abbrev Is_arrays : Header → List Sig → List FunctionPart → List ℕ → List ClassRow → List KindRow → List FieldTy → List ArrayPart → Type 0
-Is_arrays h sigs functions entries classes kinds statics x = (length x ≡ h.arrays) × EachAfter with_array (λ later used a. IsArray (tables_of h) kinds used a) h.statics x
+-- ---- an image under a header
 
-abbrev Is_code : Header → List Sig → List FunctionPart → List ℕ → List ClassRow → List KindRow → List FieldTy → List ArrayPart → List (List Spelled) → Type 0
-Is_code h sigs functions entries classes kinds statics arrays x = AreBodies functions x
+-- the parts of an image are as they must be under this header
+record Under (h : Header) (y : CodedImage) : Type 0 where
+  header : IsHeader h
+  sigs : Counted h.sigs (AreSigs (tables_of h)) y.image.sigs
+  functions : Counted h.functions (AreFunctions h) y.image.functions
+  entries : Counted h.stacks (AreEntries y.image.sigs y.image.functions) y.image.entries
+  classes : Counted h.classes (AreClasses (tables_of h) y.image.functions) y.image.classes
+  kinds : Counted h.kinds (AreKinds (tables_of h)) y.image.kinds
+  statics : Counted h.statics (AreStatics (tables_of h)) y.image.statics
+  arrays : Counted h.arrays (AreArrays h y.image.kinds) y.image.arrays
+  bodies : AreBodies y.image.functions y.bodies
+  blocks : Counted h.blocks (AreBlocks (tables_of h) y.image.functions (joined y.bodies)) y.image.blocks
+  marks : Counted h.marks (AreMarks h y.image.functions y.image.arrays (joined y.bodies)) y.image.marks
 
-abbrev Is_blocks : Header → List Sig → List FunctionPart → List ℕ → List ClassRow → List KindRow → List FieldTy → List ArrayPart → List (List Spelled) → List BlockPart → Type 0
-Is_blocks h sigs functions entries classes kinds statics arrays code x = (length x ≡ h.blocks) × EachAfter after_block (λ later least b. IsBlock (tables_of h) functions (joined code) least b) 0 x
-
-abbrev Is_marks : Header → List Sig → List FunctionPart → List ℕ → List ClassRow → List KindRow → List FieldTy → List ArrayPart → List (List Spelled) → List BlockPart → List MarkPart → Type 0
-Is_marks h sigs functions entries classes kinds statics arrays code blocks x = (length x ≡ h.marks) × EachAfter after_mark (λ later least m. IsMark (tables_of h) functions h.statics arrays (joined code) least m) 0 x
-
--- what the parts from one on must be, and their bytes
-abbrev Rest11 : Header → List Sig → List FunctionPart → List ℕ → List ClassRow → List KindRow → List FieldTy → List ArrayPart → List (List Spelled) → List BlockPart → List MarkPart → CodedImage → Type 0
-Rest11 h sigs functions entries classes kinds statics arrays code blocks marks y = Unit {0}
-
-abbrev text11 : CodedImage → List ℕ
-text11 y = []
-
-abbrev Rest10 : Header → List Sig → List FunctionPart → List ℕ → List ClassRow → List KindRow → List FieldTy → List ArrayPart → List (List Spelled) → List BlockPart → CodedImage → Type 0
-Rest10 h sigs functions entries classes kinds statics arrays code blocks y = Is_marks h sigs functions entries classes kinds statics arrays code blocks y.image.marks × Rest11 h sigs functions entries classes kinds statics arrays code blocks y.image.marks y
-
-abbrev text10 : CodedImage → List ℕ
-text10 y = (λ (x : List MarkPart). flat_map mark_bytes x) y.image.marks ++ text11 y
-
-abbrev Rest9 : Header → List Sig → List FunctionPart → List ℕ → List ClassRow → List KindRow → List FieldTy → List ArrayPart → List (List Spelled) → CodedImage → Type 0
-Rest9 h sigs functions entries classes kinds statics arrays code y = Is_blocks h sigs functions entries classes kinds statics arrays code y.image.blocks × Rest10 h sigs functions entries classes kinds statics arrays code y.image.blocks y
-
-abbrev text9 : CodedImage → List ℕ
-text9 y = (λ (x : List BlockPart). flat_map block_bytes x) y.image.blocks ++ text10 y
-
-abbrev Rest8 : Header → List Sig → List FunctionPart → List ℕ → List ClassRow → List KindRow → List FieldTy → List ArrayPart → CodedImage → Type 0
-Rest8 h sigs functions entries classes kinds statics arrays y = Is_code h sigs functions entries classes kinds statics arrays y.bodies × Rest9 h sigs functions entries classes kinds statics arrays y.bodies y
-
-abbrev text8 : CodedImage → List ℕ
-text8 y = (λ (x : List (List Spelled)). code_bytes (joined x)) y.bodies ++ text9 y
-
-abbrev Rest7 : Header → List Sig → List FunctionPart → List ℕ → List ClassRow → List KindRow → List FieldTy → CodedImage → Type 0
-Rest7 h sigs functions entries classes kinds statics y = Is_arrays h sigs functions entries classes kinds statics y.image.arrays × Rest8 h sigs functions entries classes kinds statics y.image.arrays y
-
-abbrev text7 : CodedImage → List ℕ
-text7 y = (λ (x : List ArrayPart). flat_map array_bytes x) y.image.arrays ++ text8 y
-
-abbrev Rest6 : Header → List Sig → List FunctionPart → List ℕ → List ClassRow → List KindRow → CodedImage → Type 0
-Rest6 h sigs functions entries classes kinds y = Is_statics h sigs functions entries classes kinds y.image.statics × Rest7 h sigs functions entries classes kinds y.image.statics y
-
-abbrev text6 : CodedImage → List ℕ
-text6 y = (λ (x : List FieldTy). flat_map field_bytes x) y.image.statics ++ text7 y
-
-abbrev Rest5 : Header → List Sig → List FunctionPart → List ℕ → List ClassRow → CodedImage → Type 0
-Rest5 h sigs functions entries classes y = Is_kinds h sigs functions entries classes y.image.kinds × Rest6 h sigs functions entries classes y.image.kinds y
-
-abbrev text5 : CodedImage → List ℕ
-text5 y = (λ (x : List KindRow). flat_map kind_bytes x) y.image.kinds ++ text6 y
-
-abbrev Rest4 : Header → List Sig → List FunctionPart → List ℕ → CodedImage → Type 0
-Rest4 h sigs functions entries y = Is_classes h sigs functions entries y.image.classes × Rest5 h sigs functions entries y.image.classes y
-
-abbrev text4 : CodedImage → List ℕ
-text4 y = (λ (x : List ClassRow). flat_map class_bytes x) y.image.classes ++ text5 y
-
-abbrev Rest3 : Header → List Sig → List FunctionPart → CodedImage → Type 0
-Rest3 h sigs functions y = Is_entries h sigs functions y.image.entries × Rest4 h sigs functions y.image.entries y
-
-abbrev text3 : CodedImage → List ℕ
-text3 y = numbers y.image.entries ++ text4 y
-
-abbrev Rest2 : Header → List Sig → CodedImage → Type 0
-Rest2 h sigs y = Is_functions h sigs y.image.functions × Rest3 h sigs y.image.functions y
-
-abbrev text2 : CodedImage → List ℕ
-text2 y = (λ (x : List FunctionPart). flat_map function_bytes x) y.image.functions ++ text3 y
-
-abbrev Rest1 : Header → CodedImage → Type 0
-Rest1 h y = Is_sigs h y.image.sigs × Rest2 h y.image.sigs y
-
-abbrev text1 : CodedImage → List ℕ
-text1 y = (λ (x : List Sig). flat_map sig_bytes x) y.image.sigs ++ text2 y
-
--- what comes after so many parts
-abbrev pub after11 : Header → List Sig → List FunctionPart → List ℕ → List ClassRow → List KindRow → List FieldTy → List ArrayPart → List (List Spelled) → List BlockPart → List MarkPart → Grammar CodedImage
-after11 h sigs functions entries classes kinds statics arrays code blocks marks = done (coded h sigs functions entries classes kinds statics arrays code blocks marks)
-
-abbrev pub after10 : Header → List Sig → List FunctionPart → List ℕ → List ClassRow → List KindRow → List FieldTy → List ArrayPart → List (List Spelled) → List BlockPart → Grammar CodedImage
-after10 h sigs functions entries classes kinds statics arrays code blocks = then_with (many h.marks (λ later least. mark_fields (tables_of h) functions h.statics arrays (joined code) least) after_mark 0) (λ marks. after11 h sigs functions entries classes kinds statics arrays code blocks marks)
-
-abbrev pub after9 : Header → List Sig → List FunctionPart → List ℕ → List ClassRow → List KindRow → List FieldTy → List ArrayPart → List (List Spelled) → Grammar CodedImage
-after9 h sigs functions entries classes kinds statics arrays code = then_with (many h.blocks (λ later least. block_fields (tables_of h) functions (joined code) least) after_block 0) (λ blocks. after10 h sigs functions entries classes kinds statics arrays code blocks)
-
-abbrev pub after8 : Header → List Sig → List FunctionPart → List ℕ → List ClassRow → List KindRow → List FieldTy → List ArrayPart → Grammar CodedImage
-after8 h sigs functions entries classes kinds statics arrays = then_with (bodies functions) (λ code. after9 h sigs functions entries classes kinds statics arrays code)
-
-abbrev pub after7 : Header → List Sig → List FunctionPart → List ℕ → List ClassRow → List KindRow → List FieldTy → Grammar CodedImage
-after7 h sigs functions entries classes kinds statics = then_with (many h.arrays (λ later used. array_fields (tables_of h) kinds used) with_array h.statics) (λ arrays. after8 h sigs functions entries classes kinds statics arrays)
-
-abbrev pub after6 : Header → List Sig → List FunctionPart → List ℕ → List ClassRow → List KindRow → Grammar CodedImage
-after6 h sigs functions entries classes kinds = then_with (each h.statics (field_type_field (tables_of h))) (λ statics. after7 h sigs functions entries classes kinds statics)
-
-abbrev pub after5 : Header → List Sig → List FunctionPart → List ℕ → List ClassRow → Grammar CodedImage
-after5 h sigs functions entries classes = then_with (each h.kinds (kind_fields (tables_of h))) (λ kinds. after6 h sigs functions entries classes kinds)
-
-abbrev pub after4 : Header → List Sig → List FunctionPart → List ℕ → Grammar CodedImage
-after4 h sigs functions entries = then_with (many h.classes (λ later classes. class_fields (tables_of h) functions classes) with_class []) (λ classes. after5 h sigs functions entries classes)
-
-abbrev pub after3 : Header → List Sig → List FunctionPart → Grammar CodedImage
-after3 h sigs functions = then_with (each h.stacks (checked (entry_fits sigs functions) 15)) (λ entries. after4 h sigs functions entries)
-
-abbrev pub after2 : Header → List Sig → Grammar CodedImage
-after2 h sigs = then_with (many h.functions (function_fields (tables_of h)) after_function h.code) (λ functions. after3 h sigs functions)
-
-abbrev pub after1 : Header → Grammar CodedImage
-after1 h = then_with (each h.sigs (sig_fields (tables_of h))) (λ sigs. after2 h sigs)
-
-module _ (some : SomeText) where
-  means10 : (h : Header) → (sigs : List Sig) → (functions : List FunctionPart) → (entries : List ℕ) → (classes : List ClassRow) → (kinds : List KindRow) → (statics : List FieldTy) → (arrays : List ArrayPart) → (code : List (List Spelled)) → (blocks : List BlockPart) → Means (after10 h sigs functions entries classes kinds statics arrays code blocks) (λ (y : CodedImage). Rest10 h sigs functions entries classes kinds statics arrays code blocks y × (coded h sigs functions entries classes kinds statics arrays code blocks y.image.marks ≡ y)) text10
-  means10 h sigs functions entries classes kinds statics arrays code blocks =
-      then_means (many h.marks (λ later least. mark_fields (tables_of h) functions h.statics arrays (joined code) least) after_mark 0) (λ marks. after11 h sigs functions entries classes kinds statics arrays code blocks marks) (Is_marks h sigs functions entries classes kinds statics arrays code blocks) (λ (x : List MarkPart). flat_map mark_bytes x)
-      (λ (y : CodedImage). y.image.marks) (λ x (y : CodedImage). coded h sigs functions entries classes kinds statics arrays code blocks x) (λ x (y : CodedImage). Rest11 h sigs functions entries classes kinds statics arrays code blocks x y) text11
-      (λ x y p q e. ap (λ (z : CodedImage). z.image.marks) (sym e)) (many_means (λ later least. mark_fields (tables_of h) functions h.statics arrays (joined code) least) after_mark (λ later least m. IsMark (tables_of h) functions h.statics arrays (joined code) least m) mark_bytes (λ later least. mark_means (tables_of h) functions h.statics arrays (joined code) least) h.marks 0)
-      (λ marks. done_means (coded h sigs functions entries classes kinds statics arrays code blocks marks))
-
-  means9 : (h : Header) → (sigs : List Sig) → (functions : List FunctionPart) → (entries : List ℕ) → (classes : List ClassRow) → (kinds : List KindRow) → (statics : List FieldTy) → (arrays : List ArrayPart) → (code : List (List Spelled)) → Means (after9 h sigs functions entries classes kinds statics arrays code) (λ (y : CodedImage). Rest9 h sigs functions entries classes kinds statics arrays code y × (coded h sigs functions entries classes kinds statics arrays code y.image.blocks y.image.marks ≡ y)) text9
-  means9 h sigs functions entries classes kinds statics arrays code =
-      then_means (many h.blocks (λ later least. block_fields (tables_of h) functions (joined code) least) after_block 0) (λ blocks. after10 h sigs functions entries classes kinds statics arrays code blocks) (Is_blocks h sigs functions entries classes kinds statics arrays code) (λ (x : List BlockPart). flat_map block_bytes x)
-      (λ (y : CodedImage). y.image.blocks) (λ x (y : CodedImage). coded h sigs functions entries classes kinds statics arrays code x y.image.marks) (λ x (y : CodedImage). Rest10 h sigs functions entries classes kinds statics arrays code x y) text10
-      (λ x y p q e. ap (λ (z : CodedImage). z.image.blocks) (sym e)) (many_means (λ later least. block_fields (tables_of h) functions (joined code) least) after_block (λ later least b. IsBlock (tables_of h) functions (joined code) least b) block_bytes (λ later least. block_means (tables_of h) functions (joined code) least) h.blocks 0)
-      (λ blocks. means10 h sigs functions entries classes kinds statics arrays code blocks)
-
-  means8 : (h : Header) → (sigs : List Sig) → (functions : List FunctionPart) → (entries : List ℕ) → (classes : List ClassRow) → (kinds : List KindRow) → (statics : List FieldTy) → (arrays : List ArrayPart) → Means (after8 h sigs functions entries classes kinds statics arrays) (λ (y : CodedImage). Rest8 h sigs functions entries classes kinds statics arrays y × (coded h sigs functions entries classes kinds statics arrays y.bodies y.image.blocks y.image.marks ≡ y)) text8
-  means8 h sigs functions entries classes kinds statics arrays =
-      then_means (bodies functions) (λ code. after9 h sigs functions entries classes kinds statics arrays code) (Is_code h sigs functions entries classes kinds statics arrays) (λ (x : List (List Spelled)). code_bytes (joined x))
-      (λ (y : CodedImage). y.bodies) (λ x (y : CodedImage). coded h sigs functions entries classes kinds statics arrays x y.image.blocks y.image.marks) (λ x (y : CodedImage). Rest9 h sigs functions entries classes kinds statics arrays x y) text9
-      (λ x y p q e. ap (λ (z : CodedImage). z.bodies) (sym e)) (bodies_means some functions)
-      (λ code. means9 h sigs functions entries classes kinds statics arrays code)
-
-  means7 : (h : Header) → (sigs : List Sig) → (functions : List FunctionPart) → (entries : List ℕ) → (classes : List ClassRow) → (kinds : List KindRow) → (statics : List FieldTy) → Means (after7 h sigs functions entries classes kinds statics) (λ (y : CodedImage). Rest7 h sigs functions entries classes kinds statics y × (coded h sigs functions entries classes kinds statics y.image.arrays y.bodies y.image.blocks y.image.marks ≡ y)) text7
-  means7 h sigs functions entries classes kinds statics =
-      then_means (many h.arrays (λ later used. array_fields (tables_of h) kinds used) with_array h.statics) (λ arrays. after8 h sigs functions entries classes kinds statics arrays) (Is_arrays h sigs functions entries classes kinds statics) (λ (x : List ArrayPart). flat_map array_bytes x)
-      (λ (y : CodedImage). y.image.arrays) (λ x (y : CodedImage). coded h sigs functions entries classes kinds statics x y.bodies y.image.blocks y.image.marks) (λ x (y : CodedImage). Rest8 h sigs functions entries classes kinds statics x y) text8
-      (λ x y p q e. ap (λ (z : CodedImage). z.image.arrays) (sym e)) (many_means (λ later used. array_fields (tables_of h) kinds used) with_array (λ later used a. IsArray (tables_of h) kinds used a) array_bytes (λ later used. array_means (tables_of h) kinds used) h.arrays h.statics)
-      (λ arrays. means8 h sigs functions entries classes kinds statics arrays)
-
-  means6 : (h : Header) → (sigs : List Sig) → (functions : List FunctionPart) → (entries : List ℕ) → (classes : List ClassRow) → (kinds : List KindRow) → Means (after6 h sigs functions entries classes kinds) (λ (y : CodedImage). Rest6 h sigs functions entries classes kinds y × (coded h sigs functions entries classes kinds y.image.statics y.image.arrays y.bodies y.image.blocks y.image.marks ≡ y)) text6
-  means6 h sigs functions entries classes kinds =
-      then_means (each h.statics (field_type_field (tables_of h))) (λ statics. after7 h sigs functions entries classes kinds statics) (Is_statics h sigs functions entries classes kinds) (λ (x : List FieldTy). flat_map field_bytes x)
-      (λ (y : CodedImage). y.image.statics) (λ x (y : CodedImage). coded h sigs functions entries classes kinds x y.image.arrays y.bodies y.image.blocks y.image.marks) (λ x (y : CodedImage). Rest7 h sigs functions entries classes kinds x y) text7
-      (λ x y p q e. ap (λ (z : CodedImage). z.image.statics) (sym e)) (each_means (field_type_field (tables_of h)) (IsFieldType (tables_of h)) field_bytes (field_type_means (tables_of h)) h.statics)
-      (λ statics. means7 h sigs functions entries classes kinds statics)
-
-  means5 : (h : Header) → (sigs : List Sig) → (functions : List FunctionPart) → (entries : List ℕ) → (classes : List ClassRow) → Means (after5 h sigs functions entries classes) (λ (y : CodedImage). Rest5 h sigs functions entries classes y × (coded h sigs functions entries classes y.image.kinds y.image.statics y.image.arrays y.bodies y.image.blocks y.image.marks ≡ y)) text5
-  means5 h sigs functions entries classes =
-      then_means (each h.kinds (kind_fields (tables_of h))) (λ kinds. after6 h sigs functions entries classes kinds) (Is_kinds h sigs functions entries classes) (λ (x : List KindRow). flat_map kind_bytes x)
-      (λ (y : CodedImage). y.image.kinds) (λ x (y : CodedImage). coded h sigs functions entries classes x y.image.statics y.image.arrays y.bodies y.image.blocks y.image.marks) (λ x (y : CodedImage). Rest6 h sigs functions entries classes x y) text6
-      (λ x y p q e. ap (λ (z : CodedImage). z.image.kinds) (sym e)) (each_means (kind_fields (tables_of h)) (λ (k : KindRow). IsFieldType (tables_of h) k.element) kind_bytes (kind_means (tables_of h)) h.kinds)
-      (λ kinds. means6 h sigs functions entries classes kinds)
-
-  means4 : (h : Header) → (sigs : List Sig) → (functions : List FunctionPart) → (entries : List ℕ) → Means (after4 h sigs functions entries) (λ (y : CodedImage). Rest4 h sigs functions entries y × (coded h sigs functions entries y.image.classes y.image.kinds y.image.statics y.image.arrays y.bodies y.image.blocks y.image.marks ≡ y)) text4
-  means4 h sigs functions entries =
-      then_means (many h.classes (λ later classes. class_fields (tables_of h) functions classes) with_class []) (λ classes. after5 h sigs functions entries classes) (Is_classes h sigs functions entries) (λ (x : List ClassRow). flat_map class_bytes x)
-      (λ (y : CodedImage). y.image.classes) (λ x (y : CodedImage). coded h sigs functions entries x y.image.kinds y.image.statics y.image.arrays y.bodies y.image.blocks y.image.marks) (λ x (y : CodedImage). Rest5 h sigs functions entries x y) text5
-      (λ x y p q e. ap (λ (z : CodedImage). z.image.classes) (sym e)) (many_means (λ later classes. class_fields (tables_of h) functions classes) with_class (λ later classes c. IsClass (tables_of h) functions classes c) class_bytes (λ later classes. class_means (tables_of h) functions classes) h.classes [])
-      (λ classes. means5 h sigs functions entries classes)
-
-  means3 : (h : Header) → (sigs : List Sig) → (functions : List FunctionPart) → Means (after3 h sigs functions) (λ (y : CodedImage). Rest3 h sigs functions y × (coded h sigs functions y.image.entries y.image.classes y.image.kinds y.image.statics y.image.arrays y.bodies y.image.blocks y.image.marks ≡ y)) text3
-  means3 h sigs functions =
-      then_means (each h.stacks (checked (entry_fits sigs functions) 15)) (λ entries. after4 h sigs functions entries) (Is_entries h sigs functions) numbers
-      (λ (y : CodedImage). y.image.entries) (λ x (y : CodedImage). coded h sigs functions x y.image.classes y.image.kinds y.image.statics y.image.arrays y.bodies y.image.blocks y.image.marks) (λ x (y : CodedImage). Rest4 h sigs functions x y) text4
-      (λ x y p q e. ap (λ (z : CodedImage). z.image.entries) (sym e)) (each_means (checked (entry_fits sigs functions) 15) (IsEntry sigs functions) number_bytes (entry_means sigs functions) h.stacks)
-      (λ entries. means4 h sigs functions entries)
-
-  means2 : (h : Header) → (sigs : List Sig) → Means (after2 h sigs) (λ (y : CodedImage). Rest2 h sigs y × (coded h sigs y.image.functions y.image.entries y.image.classes y.image.kinds y.image.statics y.image.arrays y.bodies y.image.blocks y.image.marks ≡ y)) text2
-  means2 h sigs =
-      then_means (many h.functions (function_fields (tables_of h)) after_function h.code) (λ functions. after3 h sigs functions) (Is_functions h sigs) (λ (x : List FunctionPart). flat_map function_bytes x)
-      (λ (y : CodedImage). y.image.functions) (λ x (y : CodedImage). coded h sigs x y.image.entries y.image.classes y.image.kinds y.image.statics y.image.arrays y.bodies y.image.blocks y.image.marks) (λ x (y : CodedImage). Rest3 h sigs x y) text3
-      (λ x y p q e. ap (λ (z : CodedImage). z.image.functions) (sym e)) (many_means (function_fields (tables_of h)) after_function (λ later left f. IsFunction (tables_of h) later left f) function_bytes (function_means (tables_of h)) h.functions h.code)
-      (λ functions. means3 h sigs functions)
-
-  means1 : (h : Header) → Means (after1 h) (λ (y : CodedImage). Rest1 h y × (coded h y.image.sigs y.image.functions y.image.entries y.image.classes y.image.kinds y.image.statics y.image.arrays y.bodies y.image.blocks y.image.marks ≡ y)) text1
-  means1 h =
-      then_means (each h.sigs (sig_fields (tables_of h))) (λ sigs. after2 h sigs) (Is_sigs h) (λ (x : List Sig). flat_map sig_bytes x)
-      (λ (y : CodedImage). y.image.sigs) (λ x (y : CodedImage). coded h x y.image.functions y.image.entries y.image.classes y.image.kinds y.image.statics y.image.arrays y.bodies y.image.blocks y.image.marks) (λ x (y : CodedImage). Rest2 h x y) text2
-      (λ x y p q e. ap (λ (z : CodedImage). z.image.sigs) (sym e)) (each_means (sig_fields (tables_of h)) (IsSig (tables_of h)) sig_bytes (sig_means (tables_of h)) h.sigs)
-      (λ sigs. means2 h sigs)
-
--- a header by its numbers
-header_same : (a b : Header) → a.heap_words ≡ b.heap_words → a.stacks ≡ b.stacks → a.sigs ≡ b.sigs → a.functions ≡ b.functions → a.classes ≡ b.classes → a.kinds ≡ b.kinds → a.statics ≡ b.statics → a.arrays ≡ b.arrays → a.code ≡ b.code → a.blocks ≡ b.blocks → a.marks ≡ b.marks → a ≡ b
-header_same a b e0 e1 e2 e3 e4 e5 e6 e7 e8 e9 e10 = λ j. record { heap_words = e0 j; stacks = e1 j; sigs = e2 j; functions = e3 j; classes = e4 j; kinds = e5 j; statics = e6 j; arrays = e7 j; code = e8 j; blocks = e9 j; marks = e10 j }
+-- the header of an image's file
+abbrev header_of : ImageParts → Header
+header_of i = record {
+  heap_words = i.heap_words;
+  stacks = i.stacks;
+  sigs = length i.sigs;
+  functions = length i.functions;
+  classes = length i.classes;
+  kinds = length i.kinds;
+  statics = length i.statics;
+  arrays = length i.arrays;
+  code = length i.code;
+  blocks = length i.blocks;
+  marks = length i.marks;
+}
 
 -- there is a function, and the instructions fill the code
-filled : (t : Tables) (left n : ℕ) (functions : List FunctionPart) (xs : List (List Spelled)) → functions_fit n ≡ true → length functions ≡ n → EachAfter after_function (λ later room f. IsFunction t later room f) left functions → AreBodies functions xs → length (code_bytes (joined xs)) ≡ left
+filled : (t : Tables) (left n : ℕ) (functions : List FunctionPart) (xs : List (List Spelled)) → functions_fit n ≡ true → length functions ≡ n
+    → EachAfter after_function (λ later room f. IsFunction t later room f) left functions → AreBodies functions xs → length (code_bytes (joined xs)) ≡ left
 filled t left n [] xs fits long h b =
     let none : functions_fit 0 ≡ true = subst (λ (z : ℕ). functions_fit z ≡ true) (sym long) fits in
     let no : ⊥ = cc in
     absurd no
 filled t left n (f ∷ functions) xs fits long h b = code_length t left f functions xs h b
 
--- the header that was read is that of the image
-the_header : (x : Header) (y : CodedImage) → IsHeader x → Rest1 x y → coded x y.image.sigs y.image.functions y.image.entries y.image.classes y.image.kinds y.image.statics y.image.arrays y.bodies y.image.blocks y.image.marks ≡ y → header_of y ≡ x
-the_header x y p q e =
-    let code : length y.image.code ≡ x.code = ap (λ (z : CodedImage). length z.image.code) (sym e) ∙ filled (tables_of x) x.code x.functions y.image.functions y.bodies p.1.1.1.0.1 q.1.0.0 q.1.0.1 q.1.1.1.1.1.1.1.0 in
-    header_same (header_of y) x (ap (λ (z : CodedImage). z.image.heap_words) (sym e)) (ap (λ (z : CodedImage). z.image.stacks) (sym e))
-    q.0.0 q.1.0.0 q.1.1.1.0.0 q.1.1.1.1.0.0 q.1.1.1.1.1.0.0 q.1.1.1.1.1.1.0.0 code q.1.1.1.1.1.1.1.1.0.0 q.1.1.1.1.1.1.1.1.1.0.0
-
--- an image with the instructions of its functions, and the bytes of its file
-abbrev IsCoded : CodedImage → Type 0
-IsCoded y = (IsHeader (header_of y) × Rest1 (header_of y) y) × (coded (header_of y) y.image.sigs y.image.functions y.image.entries y.image.classes y.image.kinds y.image.statics y.image.arrays y.bodies y.image.blocks y.image.marks ≡ y)
-
-abbrev coded_text : CodedImage → List ℕ
-coded_text y = header_text (header_of y) ++ text1 y
-
-coded_means : SomeText → Means coded_fields IsCoded coded_text
-unfolding coded_fields
-coded_means some =
-    then_means header_fields (λ h. after1 h) IsHeader header_text
-    (λ (y : CodedImage). header_of y) (λ x (y : CodedImage). coded x y.image.sigs y.image.functions y.image.entries y.image.classes y.image.kinds y.image.statics y.image.arrays y.bodies y.image.blocks y.image.marks) (λ x (y : CodedImage). Rest1 x y) text1
-    the_header header_means (λ h. means1 some h)
-
--- ---- what is formed, and what the fields say
-
--- the numbers of a header are words
-heap_word : (n : ℕ) → heap_fits n ≡ true → n < 2 ^ 32
-heap_word n h = grind (arith, nat_tests)
-
-stacks_word : (n : ℕ) → stacks_fit n ≡ true → n < 2 ^ 32
-stacks_word n h = grind (arith, nat_tests)
-
-sigs_word : (n : ℕ) → sigs_fit n ≡ true → n < 2 ^ 32
-sigs_word n h = grind (arith, nat_tests)
-
-functions_word : (n : ℕ) → functions_fit n ≡ true → n < 2 ^ 32
-functions_word n h = grind (arith, nat_tests)
-
-classes_word : (n : ℕ) → classes_fit n ≡ true → n < 2 ^ 32
-classes_word n h = grind (arith, nat_tests)
-
-kinds_word : (n : ℕ) → kinds_fit n ≡ true → n < 2 ^ 32
-kinds_word n h = grind (arith, nat_tests)
-
-statics_word : (n : ℕ) → statics_fit n ≡ true → n < 2 ^ 32
-statics_word n h = grind (arith, nat_tests)
-
-code_word : (n : ℕ) → code_fits n ≡ true → n < 2 ^ 32
-code_word n h = grind (arith, nat_tests)
-
--- what the fields say is formed
-formed_of : (y : CodedImage) → IsCoded y → Formed y.image
-formed_of y h =
-    let n = h.0.0 in
-    let r = h.0.1 in
-    record {
-      condition_1 = n.0.1;
-      condition_2 = n.1.0.1;
-      condition_3 = n.1.1.0.1;
-      condition_4 = n.1.1.1.0.1;
-      condition_5 = n.1.1.1.1.0.1;
-      condition_6 = n.1.1.1.1.1.0.1;
-      condition_7 = n.1.1.1.1.1.1.0.1;
-      condition_8 = n.1.1.1.1.1.1.1.0.1;
-      condition_9 = n.1.1.1.1.1.1.1.1.0.1;
-      condition_10 = n.1.1.1.1.1.1.1.1.1.0.1;
-      condition_11 = n.1.1.1.1.1.1.1.1.1.1.0.1;
-      sigs = r.0.1;
-      functions = r.1.0.1;
-      stacks = r.1.1.0.0;
-      entries = r.1.1.0.1;
-      classes = r.1.1.1.0.1;
-      kinds = r.1.1.1.1.0.1;
-      statics = r.1.1.1.1.1.0.1;
-      arrays = r.1.1.1.1.1.1.0.1;
-      bodies = y.bodies;
-      condition_23 = r.1.1.1.1.1.1.1.0;
-      code = ap (λ (z : CodedImage). z.image.code) (sym h.1);
-      blocks = r.1.1.1.1.1.1.1.1.0.1;
-      marks = r.1.1.1.1.1.1.1.1.1.0.1;
+-- the header of an image that was read under one, and whose code is its instructions, is that one
+same_header : (h : Header) (y : CodedImage) → Under h y → y.image.heap_words ≡ h.heap_words → y.image.stacks ≡ h.stacks → y.image.code ≡ code_bytes (joined y.bodies)
+    → header_of y.image ≡ h
+same_header h y u heap stacks e =
+    let code : length y.image.code ≡ h.code =
+    ap (λ (z : List ℕ). length z) e ∙ filled (tables_of h) h.code h.functions y.image.functions y.bodies u.header.condition_4 u.functions.0 u.functions.1 u.bodies in
+    λ j. record {
+      heap_words = heap j;
+      stacks = stacks j;
+      sigs = u.sigs.0 j;
+      functions = u.functions.0 j;
+      classes = u.classes.0 j;
+      kinds = u.kinds.0 j;
+      statics = u.statics.0 j;
+      arrays = u.arrays.0 j;
+      code = code j;
+      blocks = u.blocks.0 j;
+      marks = u.marks.0 j;
     }
 
--- an image that is formed, with its instructions
-abbrev with_bodies : (i : ImageParts) → List (List Spelled) → CodedImage
-with_bodies i b = record { image = i; bodies = b }
-
--- the same image with this code
-abbrev with_code : ImageParts → List ℕ → ImageParts
-with_code i code = record {
-  heap_words = i.heap_words;
-  stacks = i.stacks;
-  sigs = i.sigs;
-  functions = i.functions;
-  entries = i.entries;
-  classes = i.classes;
-  kinds = i.kinds;
-  statics = i.statics;
-  arrays = i.arrays;
-  code = code;
-  blocks = i.blocks;
-  marks = i.marks;
+-- an image under its own header is formed
+formed_of : (y : CodedImage) → Under (header_of y.image) y → y.image.code ≡ code_bytes (joined y.bodies) → Formed y.image
+formed_of y u e = record {
+  condition_1 = u.header.condition_1;
+  condition_2 = u.header.condition_2;
+  condition_3 = u.header.condition_3;
+  condition_4 = u.header.condition_4;
+  condition_5 = u.header.condition_5;
+  condition_6 = u.header.condition_6;
+  condition_7 = u.header.condition_7;
+  condition_8 = u.header.condition_8;
+  condition_9 = u.header.condition_9;
+  condition_10 = u.header.condition_10;
+  condition_11 = u.header.condition_11;
+  sigs = u.sigs.1;
+  functions = u.functions.1;
+  stacks = u.entries.0;
+  entries = u.entries.1;
+  classes = u.classes.1;
+  kinds = u.kinds.1;
+  statics = u.statics.1;
+  arrays = u.arrays.1;
+  bodies = y.bodies;
+  condition_23 = u.bodies;
+  code = e;
+  blocks = u.blocks.1;
+  marks = u.marks.1;
 }
 
-coded_of : (i : ImageParts) (h : Formed i) → IsCoded (with_bodies i h.bodies)
-coded_of i h = (
-  (
-    (
-      (heap_word i.heap_words h.condition_1, h.condition_1),
-      (
-        (stacks_word i.stacks h.condition_2, h.condition_2),
-        (
-          (sigs_word (length i.sigs) h.condition_3, h.condition_3),
-          (
-            (functions_word (length i.functions) h.condition_4, h.condition_4),
-            (
-              (classes_word (length i.classes) h.condition_5, h.condition_5),
-              (
-                (kinds_word (length i.kinds) h.condition_6, h.condition_6),
-                (
-                  (statics_word (length i.statics) h.condition_7, h.condition_7),
-                  (
-                    (statics_word (length i.arrays) h.condition_8, h.condition_8),
-                    (
-                      (code_word (length i.code) h.condition_9, h.condition_9),
-                      ((statics_word (length i.blocks) h.condition_10, h.condition_10), ((statics_word (length i.marks) h.condition_11, h.condition_11), tt)),
-                    ),
-                  ),
-                ),
-              ),
-            ),
-          ),
-        ),
-      ),
-    ),
-    ((refl, h.sigs), ((refl, h.functions), ((h.stacks, h.entries), ((refl, h.classes), ((refl, h.kinds), ((refl, h.statics), ((refl, h.arrays), (h.condition_23, ((refl, h.blocks), ((refl, h.marks), tt)))))))))),
-  ),
-  ap (λ (z : List ℕ). with_bodies (with_code i z) h.bodies) (sym h.code),
-)
+-- the header of an image that is formed
+formed_header : (i : ImageParts) → Formed i → IsHeader (header_of i)
+formed_header i f = record {
+  condition_1 = f.condition_1;
+  condition_2 = f.condition_2;
+  condition_3 = f.condition_3;
+  condition_4 = f.condition_4;
+  condition_5 = f.condition_5;
+  condition_6 = f.condition_6;
+  condition_7 = f.condition_7;
+  condition_8 = f.condition_8;
+  condition_9 = f.condition_9;
+  condition_10 = f.condition_10;
+  condition_11 = f.condition_11;
+}
 
--- the bytes of the fields are the image's file
-coded_file : (y : CodedImage) → y.image.code ≡ code_bytes (joined y.bodies) → coded_text y ≡ FileOf y.image
+-- ---- the bytes
+
+-- the bytes behind the header of an image's file, with this code in place of its own
+abbrev file_behind : ImageParts → List ℕ → List ℕ
+file_behind i code =
+    flat_map sig_bytes i.sigs
+    ++ (flat_map function_bytes i.functions
+    ++ (numbers i.entries
+    ++ (flat_map class_bytes i.classes
+    ++ (flat_map kind_bytes i.kinds
+    ++ (flat_map field_bytes i.statics
+    ++ (flat_map array_bytes i.arrays
+    ++ (code
+    ++ (flat_map block_bytes i.blocks
+    ++ flat_map mark_bytes i.marks))))))))
+
+-- the image with this code, and its instructions
+abbrev with_code : ImageParts → List (List Spelled) → List ℕ → CodedImage
+with_code i bodies code =
+    let image : ImageParts = record i { code = code } in
+    record { image = image; bodies = bodies }
+
+-- bytes of an image that was read under a header
+image_is : (h : Header) (y : CodedImage) (bytes : List ℕ) → Under h y → y.image.heap_words ≡ h.heap_words → y.image.stacks ≡ h.stacks → y.image.code ≡ code_bytes (joined y.bodies)
+    → bytes ≡ header_text h ++ file_behind y.image y.image.code → ImageOf bytes y.image
 unfolding FileOf
-coded_file y e =
-    let i = y.image in
-    let whole : List ℕ → List ℕ → List ℕ = λ code marks. header_text (header_of y) ++ (flat_map sig_bytes i.sigs ++ (flat_map function_bytes i.functions ++ (numbers i.entries ++ (flat_map class_bytes i.classes ++ (flat_map kind_bytes i.kinds ++ (flat_map field_bytes i.statics ++ (flat_map array_bytes i.arrays ++ (code ++ (flat_map block_bytes i.blocks ++ marks))))))))) in
-    ap (λ (z : List ℕ). whole z (flat_map mark_bytes i.marks ++ [])) (sym e) ∙ ap (λ (z : List ℕ). whole i.code z) (append-nil (flat_map mark_bytes i.marks))
+image_is h y bytes u heap stacks code text =
+    let own = same_header h y u heap stacks code in
+    record {
+      formed = formed_of y (subst (λ (z : Header). Under z y) (sym own) u) code;
+      file = text ∙ ap (λ (z : Header). header_text z ++ file_behind y.image y.image.code) (sym own);
+    }
 
 module _ (some : SomeText) where
+  -- the fields of an image that is formed
+  fields_of : (i : ImageParts) (f : Formed i) → FieldsOf coded_fields (with_code i f.bodies i.code) (FileOf i)
+  unfolding coded_fields FileOf
+  fields_of i f =
+      let h = header_of i in
+      let all = joined f.bodies in
+      let make = λ (ms : List MarkPart). coded h i.sigs i.functions i.entries i.classes i.kinds i.statics i.arrays f.bodies i.blocks ms in
+      let y = make i.marks in
+      let marks = put_last (marks_means h i.functions i.arrays all) make i.marks (refl, f.marks) in
+      let blocks = put_part (blocks_means h i.functions all) _ i.blocks y _ (refl, f.blocks) marks in
+      let code = put_part (bodies_means some i.functions) _ f.bodies y _ f.condition_23 blocks in
+      let arrays = put_part (arrays_means h i.kinds) _ i.arrays y _ (refl, f.arrays) code in
+      let statics = put_part (statics_means h) _ i.statics y _ (refl, f.statics) arrays in
+      let kinds = put_part (kinds_means h) _ i.kinds y _ (refl, f.kinds) statics in
+      let classes = put_part (classes_means h i.functions) _ i.classes y _ (refl, f.classes) kinds in
+      let entries = put_part (entries_means h i.sigs i.functions) _ i.entries y _ (f.stacks, f.entries) classes in
+      let functions = put_part (functions_means h) _ i.functions y _ (refl, f.functions) entries in
+      let sigs = put_part (sigs_means h) _ i.sigs y _ (refl, f.sigs) functions in
+      subst (λ (z : List ℕ). FieldsOf coded_fields (with_code i f.bodies z) (header_text (header_of i) ++ file_behind i z)) (sym f.code)
+      (put_part header_means _ h y _ (formed_header i f) sigs)
+
+  -- sound fields of an image are its file, and it is formed
+  image_back : (fs : List Field) (y : CodedImage) → Sound coded_fields fs (done y) → ImageOf (fields_text fs) y.image
+  unfolding coded_fields
+  image_back fs y s =
+      given (take_part header_means _ fs y s) (λ h.
+      given (take_part (sigs_means h.value) _ h.rest y h.more) (λ sigs.
+      given (take_part (functions_means h.value) _ sigs.rest y sigs.more) (λ functions.
+      given (take_part (entries_means h.value sigs.value functions.value) _ functions.rest y functions.more) (λ entries.
+      given (take_part (classes_means h.value functions.value) _ entries.rest y entries.more) (λ classes.
+      given (take_part (kinds_means h.value) _ classes.rest y classes.more) (λ kinds.
+      given (take_part (statics_means h.value) _ kinds.rest y kinds.more) (λ statics.
+      given (take_part (arrays_means h.value kinds.value) _ statics.rest y statics.more) (λ arrays.
+      given (take_part (bodies_means some functions.value) _ arrays.rest y arrays.more) (λ code.
+      given (take_part (blocks_means h.value functions.value (joined code.value)) _ code.rest y code.more) (λ blocks.
+      given (take_last (marks_means h.value functions.value arrays.value (joined code.value)) _ blocks.rest y blocks.more) (λ marks.
+      let under : Under h.value (coded h.value sigs.value functions.value entries.value classes.value kinds.value statics.value arrays.value code.value blocks.value marks.value) = record {
+        header = h.is;
+        sigs = sigs.is;
+        functions = functions.is;
+        entries = entries.is;
+        classes = classes.is;
+        kinds = kinds.is;
+        statics = statics.is;
+        arrays = arrays.is;
+        bodies = code.is;
+        blocks = blocks.is;
+        marks = marks.is;
+      } in
+      let tables = entries.bytes _ (classes.bytes _ (kinds.bytes _ (statics.bytes _ (arrays.bytes _ (code.bytes _ (blocks.bytes _ marks.bytes)))))) in
+      subst (λ (z : CodedImage). ImageOf (fields_text fs) z.image) marks.same
+      (image_is h.value _ (fields_text fs) under refl refl refl (h.bytes _ (sigs.bytes _ (functions.bytes _ tables)))))))))))))))
+
   -- bytes that stand for an image are sound fields
   pub stands : (bytes : List ℕ) (i : ImageParts) → ImageOf bytes i → StandsFor image_fields bytes i
   unfolding image_fields
   stands bytes i h =
-      let y = with_bodies i h.formed.bodies in
-      let k = (coded_means some).whole y (coded_of i h.formed) in
+      let k = fields_of i h.formed in
+      let y = with_code i h.formed.bodies i.code in
       record {
         fields = k.0 ++ [];
-        parts = h.file ∙ sym (coded_file y h.formed.code) ∙ sym k.2 ∙ ap fields_text (sym (append-nil k.0));
+        parts = h.file ∙ sym k.2 ∙ ap fields_text (sym (append-nil k.0));
         sound = join coded_fields (λ (c : CodedImage). done c.image) k.0 [] y (done i) k.1 refl;
       }
 
@@ -425,9 +299,7 @@ module _ (some : SomeText) where
   pub read : (bytes : List ℕ) (i : ImageParts) → StandsFor image_fields bytes i → ImageOf bytes i
   unfolding image_fields
   read bytes i s =
-      let a = split coded_fields (λ (c : CodedImage). done c.image) s.fields i s.sound in
+      let a = split coded_fields (λ c. done c.image) s.fields i s.sound in
       let k = at_end a.value.image i a.second a.more in
-      let m = (coded_means some).back a.first a.value a.one in
-      let formed = formed_of a.value m.0 in
-      let all : bytes ≡ FileOf a.value.image = s.parts ∙ ap fields_text (a.parts ∙ ap (λ (t : List Field). a.first ++ t) k.0 ∙ append-nil a.first) ∙ m.1 ∙ coded_file a.value (ap (λ (z : CodedImage). z.image.code) (sym m.0.1)) in
-      subst (λ (z : ImageParts). ImageOf bytes z) k.1 (record { formed = formed; file = all })
+      let parts : bytes ≡ fields_text a.first = s.parts ∙ ap fields_text (a.parts ∙ ap (λ (t : List Field). a.first ++ t) k.0 ∙ append-nil a.first) in
+      subst (λ (z : ImageParts). ImageOf bytes z) k.1 (subst (λ (z : List ℕ). ImageOf z a.value.image) (sym parts) (image_back a.first a.value a.one))

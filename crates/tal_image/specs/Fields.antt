@@ -212,21 +212,55 @@ pub record CodedImage : Type 0 where
   pub image : ImageParts
   pub bodies : List (List Spelled)
 
+-- the lists of a file, each after what it looks at: the rows of the tables, then the blocks and the marks
+abbrev pub sigs_part : Header → Grammar (List Sig)
+sigs_part h = each h.sigs (sig_fields (tables_of h))
+
+abbrev pub functions_part : Header → Grammar (List FunctionPart)
+functions_part h = many h.functions (function_fields (tables_of h)) after_function h.code
+
+abbrev pub entries_part : Header → List Sig → List FunctionPart → Grammar (List ℕ)
+entries_part h sigs functions = each h.stacks (checked (entry_fits sigs functions) 15)
+
+abbrev pub classes_part : Header → List FunctionPart → Grammar (List ClassRow)
+classes_part h functions = many h.classes (λ later classes. class_fields (tables_of h) functions classes) with_class []
+
+abbrev pub kinds_part : Header → Grammar (List KindRow)
+kinds_part h = each h.kinds (kind_fields (tables_of h))
+
+abbrev pub statics_part : Header → Grammar (List FieldTy)
+statics_part h = each h.statics (field_type_field (tables_of h))
+
+abbrev pub arrays_part : Header → List KindRow → Grammar (List ArrayPart)
+arrays_part h kinds = many h.arrays (λ later used. array_fields (tables_of h) kinds used) with_array h.statics
+
+abbrev pub blocks_part : Header → List FunctionPart → List Spelled → Grammar (List BlockPart)
+blocks_part h functions code = many h.blocks (λ later least. block_fields (tables_of h) functions code least) after_block 0
+
+abbrev pub marks_part : Header → List FunctionPart → List ArrayPart → List Spelled → Grammar (List MarkPart)
+marks_part h functions arrays code =
+    many h.marks (λ later least. mark_fields (tables_of h) functions h.statics arrays code least) after_mark 0
+
+-- the image of these parts, with the instructions of its functions
+abbrev pub coded : Header → List Sig → List FunctionPart → List ℕ → List ClassRow → List KindRow → List FieldTy → List ArrayPart → List (List Spelled) → List BlockPart → List MarkPart → CodedImage
+coded h sigs functions entries classes kinds statics arrays code blocks marks =
+    record { image = image_of h sigs functions entries classes kinds statics arrays code blocks marks; bodies = code }
+
 -- the fields of an image file, with what is kept of the instructions
 unfoldable pub coded_fields : Grammar CodedImage
 coded_fields =
     then_with header_fields (λ h.
-    then_with (each h.sigs (sig_fields (tables_of h))) (λ sigs.
-    then_with (many h.functions (function_fields (tables_of h)) after_function h.code) (λ functions.
-    then_with (each h.stacks (checked (entry_fits sigs functions) 15)) (λ entries.
-    then_with (many h.classes (λ later classes. class_fields (tables_of h) functions classes) with_class []) (λ classes.
-    then_with (each h.kinds (kind_fields (tables_of h))) (λ kinds.
-    then_with (each h.statics (field_type_field (tables_of h))) (λ statics.
-    then_with (many h.arrays (λ later used. array_fields (tables_of h) kinds used) with_array h.statics) (λ arrays.
+    then_with (sigs_part h) (λ sigs.
+    then_with (functions_part h) (λ functions.
+    then_with (entries_part h sigs functions) (λ entries.
+    then_with (classes_part h functions) (λ classes.
+    then_with (kinds_part h) (λ kinds.
+    then_with (statics_part h) (λ statics.
+    then_with (arrays_part h kinds) (λ arrays.
     then_with (bodies functions) (λ code.
-    then_with (many h.blocks (λ later least. block_fields (tables_of h) functions (joined code) least) after_block 0) (λ blocks.
-    then_with (many h.marks (λ later least. mark_fields (tables_of h) functions h.statics arrays (joined code) least) after_mark 0) (λ marks.
-    done (record { image = image_of h sigs functions entries classes kinds statics arrays code blocks marks; bodies = code }))))))))))))
+    then_with (blocks_part h functions (joined code)) (λ blocks.
+    then_with (marks_part h functions arrays (joined code)) (λ marks.
+    done (coded h sigs functions entries classes kinds statics arrays code blocks marks))))))))))))
 
 -- the fields of an image file
 unfoldable pub image_fields : Grammar ImageParts
