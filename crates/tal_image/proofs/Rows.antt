@@ -28,7 +28,7 @@ abbrev signature : List Ty → Ty → Sig
 signature params result = record { params = params; result = result }
 
 -- what comes after the seven types of a signature
-abbrev after_params : Tables → List Ty → Grammar Sig
+abbrev pub after_params : Tables → List Ty → Grammar Sig
 after_params t params = then_with (type_field t) (λ result. done (signature params result))
 
 -- a signature
@@ -144,7 +144,7 @@ module _ (t : Tables) (functions : List FunctionPart) (statics : ℕ) (arrays : 
 abbrev after_count : Tables → ℕ → List Ty → ℕ → Grammar BlockPart
 after_count t offset types n = then_with (each n (type_field t)) (λ slots. done (record { offset = offset; types = types; slots = slots }))
 
-abbrev after_types : Tables → ℕ → List Ty → Grammar BlockPart
+abbrev pub after_types : Tables → ℕ → List Ty → Grammar BlockPart
 after_types t offset types = then_with (checked slots_fit 25) (after_count t offset types)
 
 -- a block

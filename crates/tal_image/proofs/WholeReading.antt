@@ -20,7 +20,7 @@ use Rattle.tal_image.proofs.Bodies.{SomeText}
 use Rattle.tal_image.proofs.WholeFiles.{read}
 use Rattle.tal_image.proofs.EachFile.{none_left, some_left, to_end, at_field}
 use Rattle.tal_image.proofs.ImageRuns.{image_run}
-use Rattle.tal_image.proofs.FileEnds.{EndsBy, FewBytes, image_ends}
+use Rattle.tal_image.proofs.FileEnds.{FewBytes, short_file}
 
 -- a longer list is not empty
 longer : (bytes more : List ℕ) → bytes ≢ [] → bytes ++ more ≢ []
@@ -117,7 +117,8 @@ module _ (prefix : PrefixLaw) (law : DecodedLaw) (some : SomeText) (few : FewByt
         parts = is.parts ∙ ap (λ (z : List ℕ). z ++ is.rest) t.parts ∙ append_assoc (fields_text t.fields) t.bytes is.rest;
         sound = t.sound;
         fails = ⊎_elim
-            (λ (k : EndsInside t.after t.bytes × (f ≡ Short (length front))). absurd (too_long (subst (λ (r : Result (ImageParts × ℕ) ImageFault). EndsBy 67108864 r) (e ∙ ap (λ (z : ImageFault). let r : Result (ImageParts × ℕ) ImageFault = Err z in r) k.1) (image_ends law few front front_fits)) long))
+            (λ (k : EndsInside t.after t.bytes × (f ≡ Short (length front))).
+            absurd (too_long (subst (λ (z : List ℕ). length z ≤ 67108864) (sym t.parts) (short_file few t.fields t.after t.bytes t.sound k.0)) long))
             (λ (k : Breaks t.after (0 + length (fields_text t.fields)) t.bytes f). inr (breaks_more t.after (length (fields_text t.fields)) t.bytes is.rest f (subst (λ (z : ℕ). Breaks t.after z t.bytes f) (omega arith) k)))
             t.fails;
       })
