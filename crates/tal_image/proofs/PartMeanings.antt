@@ -21,9 +21,10 @@ pub record Means {A : Type 0} (g : Grammar A) (Is : A → Type 0) (text : A → 
 -- the bytes of two lists of fields
 pub fields_text-append : (fs gs : List Field) → fields_text (fs ++ gs) ≡ fields_text fs ++ fields_text gs
 fields_text-append [] gs = refl
-fields_text-append (f ∷ fs) gs = ap (λ (t : List ℕ). field_text f ++ t) (fields_text-append fs gs) ∙ sym (append_assoc (field_text f) (fields_text fs) (fields_text gs))
+fields_text-append (f ∷ fs) gs =
+    ap (λ (t : List ℕ). field_text f ++ t) (fields_text-append fs gs) ∙ sym (append_assoc (field_text f) (fields_text fs) (fields_text gs))
 
--- nothing is sound after the end
+-- the end stands for one thing, and nothing is sound after it
 pub done_is : {A : Type 0} (x y : A) → done x ≡ done y → x ≡ y
 done_is x y e = cc
 
@@ -41,7 +42,8 @@ pub record Split {A B : Type 0} (g : Grammar A) (f : A → Grammar B) (fs : List
   pub more : Sound (f value) second (done y)
 
 -- one field more in front
-cons_split : {A B : Type 0} (g : Grammar A) (f : A → Grammar B) (h : Field) (mid : Grammar A) (fs : List Field) (y : B) → Meets g h mid → Split mid f fs y → Split g f (h ∷ fs) y
+cons_split : {A B : Type 0} (g : Grammar A) (f : A → Grammar B) (h : Field) (mid : Grammar A) (fs : List Field) (y : B)
+    → Meets g h mid → Split mid f fs y → Split g f (h ∷ fs) y
 cons_split g f h mid fs y m k = record {
   value = k.value;
   first = h ∷ k.first;
@@ -51,17 +53,21 @@ cons_split g f h mid fs y m k = record {
   more = k.more;
 }
 
+-- fields of one part and of what comes then can be taken apart
 pub split : {A B : Type 0} (g : Grammar A) (f : A → Grammar B) (fs : List Field) (y : B) → Sound (then_with g f) fs (done y) → Split g f fs y
 split (done x) f fs y s = record { value = x; first = []; second = fs; parts = refl; one = refl; more = s }
 split (number ok fault next) f [] y s = absurd cc
 split (pair ok fault next) f [] y s = absurd cc
 split (instruction room next) f [] y s = absurd cc
 split {A} {B} (number ok fault next) f (Number n ∷ fs) y s =
-    cons_split (number ok fault next) f (Number n) (next n) fs y (s.1.0, s.1.1, refl) (split (next n) f fs y (subst (λ (z : Grammar B). Sound z fs (done y)) s.1.2 s.2))
+    let rest = subst (λ (z : Grammar B). Sound z fs (done y)) s.1.2 s.2 in
+    cons_split (number ok fault next) f (Number n) (next n) fs y (s.1.0, s.1.1, refl) (split (next n) f fs y rest)
 split {A} {B} (pair ok fault next) f (Pair n m ∷ fs) y s =
-    cons_split (pair ok fault next) f (Pair n m) (next n m) fs y (s.1.0, s.1.1, s.1.2, refl) (split (next n m) f fs y (subst (λ (z : Grammar B). Sound z fs (done y)) s.1.3 s.2))
+    let rest = subst (λ (z : Grammar B). Sound z fs (done y)) s.1.3 s.2 in
+    cons_split (pair ok fault next) f (Pair n m) (next n m) fs y (s.1.0, s.1.1, s.1.2, refl) (split (next n m) f fs y rest)
 split {A} {B} (instruction room next) f (Instruction text i ∷ fs) y s =
-    cons_split (instruction room next) f (Instruction text i) (next text i) fs y (s.1.0, s.1.1, refl) (split (next text i) f fs y (subst (λ (z : Grammar B). Sound z fs (done y)) s.1.2 s.2))
+    let rest = subst (λ (z : Grammar B). Sound z fs (done y)) s.1.2 s.2 in
+    cons_split (instruction room next) f (Instruction text i) (next text i) fs y (s.1.0, s.1.1, refl) (split (next text i) f fs y rest)
 split (number ok fault next) f (Pair n m ∷ fs) y s = absurd s.1
 split (number ok fault next) f (Instruction text i ∷ fs) y s = absurd s.1
 split (pair ok fault next) f (Number n ∷ fs) y s = absurd s.1
@@ -69,8 +75,9 @@ split (pair ok fault next) f (Instruction text i ∷ fs) y s = absurd s.1
 split (instruction room next) f (Number n ∷ fs) y s = absurd s.1
 split (instruction room next) f (Pair n m ∷ fs) y s = absurd s.1
 
--- put together
-pub join : {A B : Type 0} (g : Grammar A) (f : A → Grammar B) (fs gs : List Field) (x : A) (after : Grammar B) → Sound g fs (done x) → Sound (f x) gs after → Sound (then_with g f) (fs ++ gs) after
+-- fields of one part and of what comes then, put together
+pub join : {A B : Type 0} (g : Grammar A) (f : A → Grammar B) (fs gs : List Field) (x : A) (after : Grammar B)
+    → Sound g fs (done x) → Sound (f x) gs after → Sound (then_with g f) (fs ++ gs) after
 join {A} {B} (done z) f [] gs x after p q = subst (λ (v : A). Sound (f v) gs after) (sym (done_is z x p)) q
 join (number ok fault next) f [] gs x after p q = absurd cc
 join (pair ok fault next) f [] gs x after p q = absurd cc
@@ -117,6 +124,7 @@ checked_means ok condition = field_means ok (λ at. Bad at condition)
 abbrev pub CheckedPair : (ℕ → ℕ → Bool) → ℕ × ℕ → Type 0
 CheckedPair ok p = (p.0 < 2 ^ 32) × (p.1 < 2 ^ 32) × (ok p.0 p.1 ≡ true)
 
+-- their bytes
 abbrev pub pair_bytes : ℕ × ℕ → List ℕ
 pair_bytes p = number_bytes p.0 ++ number_bytes p.1
 
@@ -202,46 +210,50 @@ given x f = f x
 abbrev pub Counted : {A : Type 0} → ℕ → (List A → Type 0) → List A → Type 0
 Counted n Are xs = (length xs ≡ n) × Are xs
 
+-- so many rows, each as it must be after those before it
+abbrev pub AreRows : {S A : Type 0} → (S → A → S) → (ℕ → S → A → Type 0) → ℕ → S → List A → Type 0
+AreRows step Is n kept xs = Counted n (EachAfter step Is kept) xs
+
 -- a list of rows
-module _ {S A : Type 0} (row : ℕ → S → Grammar A) (step : S → A → S) (Is : ℕ → S → A → Type 0) (text : A → List ℕ) (means : (later : ℕ) (kept : S) → Means (row later kept) (Is later kept) text) where
-  many_whole : (kept : S) (xs : List A) → EachAfter step Is kept xs → (fs : List Field) × Sound (many (length xs) row step kept) fs (done xs) × (fields_text fs ≡ flat_map text xs)
-  many_whole kept [] h = ([], refl, refl)
-  many_whole kept (x ∷ xs) h =
-      let one = (means (length xs) kept).whole x h.0 in
-      let more = many_whole (step kept x) xs h.1 in
-      let rest = join (many (length xs) row step (step kept x)) (λ ys. done (x ∷ ys)) more.0 [] xs (done (x ∷ xs)) more.1 refl in
-      let all = join (row (length xs) kept) (λ z. then_with (many (length xs) row step (step kept z)) (λ ys. done (z ∷ ys))) one.0 (more.0 ++ []) x (done (x ∷ xs)) one.1 rest in
-      (one.0 ++ (more.0 ++ []), all, texts one.0 (more.0 ++ []) (text x) (flat_map text xs) one.2 (ap fields_text (append-nil more.0) ∙ more.2))
+module _ {S A : Type 0} {row : ℕ → S → Grammar A} (step : S → A → S) {Is : ℕ → S → A → Type 0} {text : A → List ℕ} (means : (later : ℕ) (kept : S) → Means (row later kept) (Is later kept) text) where
+  -- one row more
+  one_more : (n : ℕ) (kept : S) → ((next : S) → Means (many n row step next) (AreRows step Is n next) (λ xs. flat_map text xs))
+      → Means (many (suc n) row step kept) (AreRows step Is (suc n) kept) (λ xs. flat_map text xs)
+  one_more n kept others = record { whole = whole; back = back }
+    where
+      whole : (xs : List A) → AreRows step Is (suc n) kept xs → FieldsOf (many (suc n) row step kept) xs (flat_map text xs)
+      whole [] h = let e = h.0 in absurd (omega arith)
+      whole (x ∷ xs) h =
+          let long : length xs ≡ n = let e = h.0 in omega arith in
+          let one = subst (λ (z : ℕ). Is z kept x) long h.1.0 in
+          put_part (means n kept) _ x (x ∷ xs) _ one (put_last (others (step kept x)) (λ ys. x ∷ ys) xs (long, h.1.1))
 
-  many_back : (n : ℕ) (kept : S) (fs : List Field) (xs : List A) → Sound (many n row step kept) fs (done xs) → ((length xs ≡ n) × EachAfter step Is kept xs) × (fields_text fs ≡ flat_map text xs)
-  many_back zero kept fs xs s =
-      let k = at_end [] xs fs s in
-      subst (λ (z : List A). ((length z ≡ 0) × EachAfter step Is kept z) × (fields_text fs ≡ flat_map text z)) k.1 ((refl, tt), ap fields_text k.0)
-  many_back (suc n) kept fs xs s =
-      let a = split (row n kept) (λ z. then_with (many n row step (step kept z)) (λ ys. done (z ∷ ys))) fs xs s in
-      let b = split (many n row step (step kept a.value)) (λ ys. done (a.value ∷ ys)) a.second xs a.more in
-      let k = at_end (a.value ∷ b.value) xs b.second b.more in
-      let one = (means n kept).back a.first a.value a.one in
-      let more = many_back n (step kept a.value) b.first b.value b.one in
-      let here = subst (λ (z : ℕ). Is z kept a.value) (sym more.0.0) one.0 in
-      let long : length (a.value ∷ b.value) ≡ suc n = let e = more.0.0 in omega arith in
-      let second : fields_text a.second ≡ flat_map text b.value = ap fields_text (b.parts ∙ ap (λ (t : List Field). b.first ++ t) k.0 ∙ append-nil b.first) ∙ more.1 in
-      let all : fields_text fs ≡ flat_map text (a.value ∷ b.value) = ap fields_text a.parts ∙ texts a.first a.second (text a.value) (flat_map text b.value) one.1 second in
-      subst (λ (z : List A). ((length z ≡ suc n) × EachAfter step Is kept z) × (fields_text fs ≡ flat_map text z)) k.1 ((long, (here, more.0.1)), all)
+      back : (fs : List Field) (xs : List A) → Sound (many (suc n) row step kept) fs (done xs) → AreRows step Is (suc n) kept xs × (fields_text fs ≡ flat_map text xs)
+      back fs xs s =
+          given (take_part (means n kept) _ fs xs s) (λ x.
+          given (take_last (others (step kept x.value)) (λ ys. x.value ∷ ys) x.rest xs x.more) (λ more.
+          let long : length (x.value ∷ more.value) ≡ suc n = let e = more.is.0 in omega arith in
+          let one = subst (λ (z : ℕ). Is z kept x.value) (sym more.is.0) x.is in
+          subst (λ (z : List A). AreRows step Is (suc n) kept z × (fields_text fs ≡ flat_map text z)) more.same
+          ((long, (one, more.is.1)), x.bytes _ more.bytes)))
 
-  pub many_means : (n : ℕ) (kept : S) → Means (many n row step kept) (λ xs. (length xs ≡ n) × EachAfter step Is kept xs) (λ xs. flat_map text xs)
-  many_means n kept = record {
-    whole = λ xs h. subst (λ (z : ℕ). (fs : List Field) × Sound (many z row step kept) fs (done xs) × (fields_text fs ≡ flat_map text xs)) h.0 (many_whole kept xs h.1);
-    back = many_back n kept;
-  }
+  pub many_means : (n : ℕ) (kept : S) → Means (many n row step kept) (AreRows step Is n kept) (λ xs. flat_map text xs)
+  many_means zero kept = record { whole = none; back = none_back }
+    where
+      none : (xs : List A) → AreRows step Is 0 kept xs → FieldsOf (many 0 row step kept) xs (flat_map text xs)
+      none [] h = ([], refl, refl)
+      none (x ∷ xs) h = let e = h.0 in absurd (omega arith)
 
--- a list of rows that look at nothing but themselves
-pub each_means : {A : Type 0} (row : Grammar A) (Is : A → Type 0) (text : A → List ℕ) → Means row Is text → (n : ℕ) → Means (each n row) (λ xs. (length xs ≡ n) × Each Is xs) (λ xs. flat_map text xs)
-each_means row Is text means n = many_means (λ later kept. row) (λ kept x. kept) (λ later kept x. Is x) text (λ later kept. means) n 0
+      none_back : (fs : List Field) (xs : List A) → Sound (many 0 row step kept) fs (done xs) → AreRows step Is 0 kept xs × (fields_text fs ≡ flat_map text xs)
+      none_back fs xs s =
+          let k = at_end [] xs fs s in
+          subst (λ (z : List A). AreRows step Is 0 kept z × (fields_text fs ≡ flat_map text z)) k.1 ((refl, tt), ap fields_text k.0)
+  many_means (suc n) kept = one_more n kept (many_means n)
+
+-- rows that look at nothing but themselves
+pub each_means : {A : Type 0} {row : Grammar A} {Is : A → Type 0} {text : A → List ℕ} → Means row Is text → (n : ℕ) → Means (each n row) (Counted n (Each Is)) (λ xs. flat_map text xs)
+each_means means n = many_means (λ (kept : ℕ) x. kept) (λ later kept. means) n 0
 
 -- the same, said otherwise
-pub means_as : {A : Type 0} (g : Grammar A) (Is Is2 : A → Type 0) (text text2 : A → List ℕ) → ((x : A) → Is x → Is2 x) → ((x : A) → Is2 x → Is x) → ((x : A) → text x ≡ text2 x) → Means g Is text → Means g Is2 text2
-means_as g Is Is2 text text2 to from same m = record {
-  whole = λ x h. let k = m.whole x (from x h) in (k.0, k.1, k.2 ∙ same x);
-  back = λ fs x s. let k = m.back fs x s in (to x k.0, k.1 ∙ same x);
-}
+pub means_as : {A : Type 0} {g : Grammar A} {Is So : A → Type 0} {text : A → List ℕ} → ((x : A) → Is x → So x) → ((x : A) → So x → Is x) → Means g Is text → Means g So text
+means_as to from m = record { whole = λ x h. m.whole x (from x h); back = λ fs x s. let k = m.back fs x s in (to x k.0, k.1) }

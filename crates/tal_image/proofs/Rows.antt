@@ -21,7 +21,7 @@ use Rattle.tal_image.proofs.TypeFields.{type_means, field_type_means}
 
 -- so many types
 types_means : (t : Tables) (n : ℕ) → Means (each n (type_field t)) (Counted n (Each (IsType t))) types_bytes
-types_means t n = each_means (type_field t) (IsType t) type_bytes (type_means t) n
+types_means t n = each_means (type_means t) n
 
 -- the signature of these types
 abbrev signature : List Ty → Ty → Sig
@@ -75,11 +75,11 @@ kind_means t = record {
 
 -- a number without a condition is a word
 word_means : Means (checked (λ n. true) 22) IsWord number_bytes
-word_means = means_as _ (Checked (λ n. true)) IsWord number_bytes number_bytes (λ n h. h.0) (λ n h. (h, refl)) (λ n. refl) (checked_means (λ n. true) 22)
+word_means = means_as (λ n h. h.0) (λ n h. (h, refl)) (checked_means (λ n. true) 22)
 
 -- so many words
 words_means : (n : ℕ) → Means (each n (checked (λ m. true) 22)) (Counted n (Each IsWord)) numbers
-words_means n = each_means (checked (λ m. true) 22) IsWord number_bytes word_means n
+words_means n = each_means word_means n
 
 -- a data array
 pub array_means : (t : Tables) (kinds : List KindRow) (used : ℕ) → Means (array_fields t kinds used) (IsArray t kinds used) array_bytes
@@ -206,17 +206,15 @@ module _ (t : Tables) (functions : List FunctionPart) (classes : List ClassRow) 
 
   -- the function of a method
   method_means : (slots : List ℕ) → Means (checked (method_fits functions slots) 20) (IsMethod functions slots) number_bytes
-  method_means slots =
-      means_as _ (Checked (method_fits functions slots)) (IsMethod functions slots) number_bytes number_bytes
-      (λ f h. record { word = h.0; condition_20 = h.1 }) (λ f h. (h.word, h.condition_20)) (λ f. refl) (checked_means (method_fits functions slots) 20)
+  method_means slots = means_as (λ f h. record { word = h.0; condition_20 = h.1 }) (λ f h. (h.word, h.condition_20)) (checked_means (method_fits functions slots) 20)
 
   -- the methods of a class
   methods_means : (m n : ℕ) → Means (method_list functions n (inherited_methods (class_view functions classes) m)) (Counted n (AreMethods m)) numbers
-  methods_means m n = many_means _ _ _ _ (λ later slots. method_means slots) n (inherited_methods (class_view functions classes) m)
+  methods_means m n = many_means (λ (slots : List ℕ) f. drop 1 slots) (λ later slots. method_means slots) n (inherited_methods (class_view functions classes) m)
 
   -- the own fields of a class
   fields_means : (n : ℕ) → Means (each n (field_type_field t)) (Counted n (Each (IsFieldType t))) (λ xs. flat_map field_bytes xs)
-  fields_means n = each_means _ _ _ (field_type_means t) n
+  fields_means n = each_means (field_type_means t) n
 
   -- a class with its bytes, under the numbers that stand in the file
   record ClassUnder (m own count : ℕ) (c : ClassRow) (bytes : List ℕ) : Type 0 where

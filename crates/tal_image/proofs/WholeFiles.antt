@@ -53,42 +53,41 @@ AreMarks h functions arrays code xs =
 
 -- each list in a file
 sigs_means : (h : Header) → Means (sigs_part h) (Counted h.sigs (AreSigs (tables_of h))) (λ xs. flat_map sig_bytes xs)
-sigs_means h = each_means _ _ _ (sig_means (tables_of h)) h.sigs
+sigs_means h = each_means (sig_means (tables_of h)) h.sigs
 
 functions_means : (h : Header) → Means (functions_part h) (Counted h.functions (AreFunctions h)) (λ xs. flat_map function_bytes xs)
-functions_means h = many_means _ _ _ _ (function_means (tables_of h)) h.functions h.code
+functions_means h = many_means after_function (function_means (tables_of h)) h.functions h.code
 
 entry_means : (sigs : List Sig) (functions : List FunctionPart) → Means (checked (entry_fits sigs functions) 15) (IsEntry sigs functions) number_bytes
 entry_means sigs functions =
-    means_as _ (Checked (entry_fits sigs functions)) _ number_bytes number_bytes
-    (λ f h. record { word = h.0; condition_15 = h.1 }) (λ f h. (h.word, h.condition_15)) (λ f. refl) (checked_means (entry_fits sigs functions) 15)
+    means_as (λ f h. record { word = h.0; condition_15 = h.1 }) (λ f h. (h.word, h.condition_15)) (checked_means (entry_fits sigs functions) 15)
 
 entries_means : (h : Header) (sigs : List Sig) (functions : List FunctionPart)
     → Means (entries_part h sigs functions) (Counted h.stacks (AreEntries sigs functions)) numbers
-entries_means h sigs functions = each_means _ _ _ (entry_means sigs functions) h.stacks
+entries_means h sigs functions = each_means (entry_means sigs functions) h.stacks
 
 classes_means : (h : Header) (functions : List FunctionPart)
     → Means (classes_part h functions) (Counted h.classes (AreClasses (tables_of h) functions)) (λ xs. flat_map class_bytes xs)
-classes_means h functions = many_means _ _ _ _ (λ later classes. class_means (tables_of h) functions classes) h.classes []
+classes_means h functions = many_means with_class (λ later classes. class_means (tables_of h) functions classes) h.classes []
 
 kinds_means : (h : Header) → Means (kinds_part h) (Counted h.kinds (AreKinds (tables_of h))) (λ xs. flat_map kind_bytes xs)
-kinds_means h = each_means _ _ _ (kind_means (tables_of h)) h.kinds
+kinds_means h = each_means (kind_means (tables_of h)) h.kinds
 
 statics_means : (h : Header) → Means (statics_part h) (Counted h.statics (AreStatics (tables_of h))) (λ xs. flat_map field_bytes xs)
-statics_means h = each_means _ _ _ (field_type_means (tables_of h)) h.statics
+statics_means h = each_means (field_type_means (tables_of h)) h.statics
 
 arrays_means : (h : Header) (kinds : List KindRow)
     → Means (arrays_part h kinds) (Counted h.arrays (AreArrays h kinds)) (λ xs. flat_map array_bytes xs)
-arrays_means h kinds = many_means _ _ _ _ (λ later used. array_means (tables_of h) kinds used) h.arrays h.statics
+arrays_means h kinds = many_means with_array (λ later used. array_means (tables_of h) kinds used) h.arrays h.statics
 
 blocks_means : (h : Header) (functions : List FunctionPart) (code : List Spelled)
     → Means (blocks_part h functions code) (Counted h.blocks (AreBlocks (tables_of h) functions code)) (λ xs. flat_map block_bytes xs)
-blocks_means h functions code = many_means _ _ _ _ (λ later least. block_means (tables_of h) functions code least) h.blocks 0
+blocks_means h functions code = many_means after_block (λ later least. block_means (tables_of h) functions code least) h.blocks 0
 
 marks_means : (h : Header) (functions : List FunctionPart) (arrays : List ArrayPart) (code : List Spelled)
     → Means (marks_part h functions arrays code) (Counted h.marks (AreMarks h functions arrays code)) (λ xs. flat_map mark_bytes xs)
 marks_means h functions arrays code =
-    many_means _ _ _ _ (λ later least. mark_means (tables_of h) functions h.statics arrays code least) h.marks 0
+    many_means after_mark (λ later least. mark_means (tables_of h) functions h.statics arrays code least) h.marks 0
 
 -- ---- an image under a header
 
