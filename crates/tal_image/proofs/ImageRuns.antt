@@ -19,75 +19,93 @@ use Rattle.object_layout.specs.Areas.{code_start, statics_start}
 use Rattle.tal_image.specs.Conditions.{Tables, Spelled, between, slots_fit, block_fits, begins_at, function_begins, number_at, entry_fits, with_array, mark_fits, mark_word, word_fits, same_number, fun_rows, array_places}
 use Rattle.tal_image.specs.Grammar.{Grammar, done, then_with, many}
 use Rattle.tal_image.specs.Fields.{checked, each, type_field, tables_of, header_fields, sig_fields, function_fields, after_function, class_fields, with_class, kind_fields, field_type_field, array_fields, coded_fields, image_fields, block_fields, mark_fields, bodies, joined, code_bytes, after_block, after_mark, sigs_part, functions_part, entries_part, classes_part, kinds_part, statics_part, arrays_part, blocks_part, marks_part, CodedImage, coded}
-use Rattle.tal_image.specs.Reading.{◌>>=◌, run, number_at as number_read, pair_at, checked_at, type_at, types_at, seven_at, header_at, sigs_at, functions_at, entries_at, kinds_at, statics_at, arrays_at}
+use Rattle.tal_image.specs.Reading.{◌>>=◌, Read, run, number_at as number_read, pair_at, checked_at, type_at, types_at, seven_at, header_at, sigs_at, functions_at, entries_at, kinds_at, statics_at, arrays_at}
 use Rattle.tal_image.specs.ClassReading.{class_at, classes_at}
 use Rattle.tal_image.specs.CodeReading.{instruction_starts, function_starts, starts_at, starts_behind, code_at, place_fits, block_at, blocks_at, number_in, offset_fits, word_of, mark_at, marks_at}
 use Rattle.tal_image.specs.ImageReading.{FrontParts, CodeParts, addresses_of, places_of, whole, front_at, behind_at, image_at}
 use Rattle.tal_image.proofs.ReadFields.{AreBytes}
 use Rattle.tal_image.proofs.RowReadings.{run-then_with, same_bind, many_run, checked_step, type_run, seven_run, tables_are_read}
+use Rattle.tal_image.proofs.Rows.{after_types}
 use Rattle.tal_image.proofs.ClassReadings.{class_run}
 use Rattle.tal_image.proofs.Rooms.{AllPositive, functions_fit}
 use Rattle.tal_image.proofs.CodeFacts.{bodies_stand, bytes_are, starts_same, number_same, functions_same}
 
 -- tests that are one give one answer
 same_checked : (ok test : ℕ → Bool) (condition : ℕ) (file : List ℕ) (at : ℕ) → ((n : ℕ) → ok n ≡ test n) → checked_at ok condition file at ≡ checked_at test condition file at
-same_checked ok test condition file at same = same_bind (number_read file at) _ _ (λ n. ap (λ (b : Bool). let r : Result (ℕ × ℕ) ImageFault = cond b (Ok n) (Err (Bad at condition)) in r) (same n.0))
+same_checked ok test condition file at same =
+    same_bind (number_read file at) _ _ (λ n. ap (λ (b : Bool). let r : Result (ℕ × ℕ) ImageFault = cond b (Ok n) (Err (Bad at condition)) in r) (same n.0))
 
 -- ---- blocks
 
+-- so many types
 types_run : (t : Tables) (n : ℕ) (file : List ℕ) (at : ℕ) → run (each n (type_field t)) file at ≡ types_at t n file at
-types_run t n file at = many_run (λ later (kept : ℕ). type_field t) (λ later (kept : ℕ). type_at t) (λ (kept : ℕ) x. kept) (λ later kept f a. type_run t f a) n 0 file at
+types_run t n file at =
+    many_run (λ later (kept : ℕ). type_field t) (λ later (kept : ℕ). type_at t) (λ (kept : ℕ) x. kept) (λ later kept f a. type_run t f a) n 0 file at
 
--- the slots of a block
-abbrev after_count : Tables → ℕ → List Ty → ℕ → Grammar BlockPart
-after_count t offset types n = then_with (each n (type_field t)) (λ slots. done (record { offset = offset; types = types; slots = slots }))
+-- what is read of a block behind its offset
+abbrev behind_offset : Tables → ℕ × ℕ → Read BlockPart
+behind_offset t offset file at =
+    seven_at t file at >>= λ types. checked_at (between 0 64) 25 file types.1 >>= λ count. types_at t count.0 file count.1
+    >>= λ slots. Ok (record { offset = offset.0; types = types.0; slots = slots.0 }, slots.1)
 
-abbrev after_types : Tables → ℕ → List Ty → Grammar BlockPart
-after_types t offset types = then_with (checked slots_fit 25) (λ n. after_count t offset types n)
-
-block_run : (t : Tables) (functions : List FunctionPart) (code : List Spelled) (begun firsts : List Bool) (least : ℕ) (file : List ℕ) (at : ℕ) → ((n : ℕ) → block_fits functions code least n ≡ place_fits begun firsts least n)
+-- a block, where one test of its offset is the other
+block_run : (t : Tables) (functions : List FunctionPart) (code : List Spelled) (begun firsts : List Bool) (least : ℕ) (file : List ℕ) (at : ℕ)
+    → ((n : ℕ) → block_fits functions code least n ≡ place_fits begun firsts least n)
     → run (block_fields t functions code least) file at ≡ block_at t begun firsts least file at
 unfolding block_fields block_at
 block_run t functions code begun firsts least file at same =
     checked_step (block_fits functions code least) 24 file at _ _ (λ offset.
-    run-then_with (each 7 (type_field t)) (λ types. after_types t offset.0 types) file offset.1
+    run-then_with (each 7 (type_field t)) (after_types t offset.0) file offset.1
     ∙ rw (seven_run t file offset.1) (same_bind (seven_at t file offset.1) _ _ (λ types.
     checked_step slots_fit 25 file types.1 _ _ (λ n.
     run-then_with (each n.0 (type_field t)) (λ slots. done (record { offset = offset.0; types = types.0; slots = slots })) file n.1
     ∙ rw (types_run t n.0 file n.1) refl))))
-    ∙ ap (λ r. r >>= λ offset. seven_at t file offset.1 >>= λ types. checked_at (between 0 64) 25 file types.1 >>= λ count. types_at t count.0 file count.1 >>= λ slots. Ok (record { offset = offset.0; types = types.0; slots = slots.0 }, slots.1)) (same_checked (block_fits functions code least) (place_fits begun firsts least) 24 file at same)
+    ∙ ap (λ r. r >>= λ offset. behind_offset t offset file offset.1) (same_checked (block_fits functions code least) (place_fits begun firsts least) 24 file at same)
 
--- a block begins where the marks let it
-place_same : (functions : List FunctionPart) (code : List Spelled) (begun firsts : List Bool) (least n : ℕ) → is_some (begins_at n code) ≡ starts_at begun n → function_begins n functions ≡ starts_at firsts n → block_fits functions code least n ≡ place_fits begun firsts least n
+-- a block may stand where an instruction begins that is not the first of a function
+place_same : (functions : List FunctionPart) (code : List Spelled) (begun firsts : List Bool) (least n : ℕ)
+    → is_some (begins_at n code) ≡ starts_at begun n → function_begins n functions ≡ starts_at firsts n → block_fits functions code least n ≡ place_fits begun firsts least n
 unfolding block_fits place_fits
 place_same functions code begun firsts least n e f = rw (e, f) refl
 
 -- ---- marks
 
--- an address of a list of functions
-address_at : (rows : List FunRow) (i : ℕ) → option_map (λ (row : FunRow). row.address) (slice_get rows i) ≡ slice_get (map (λ (row : FunRow). row.address) rows) i
+-- the address of one function of a list
+address_at : (rows : List FunRow) (i : ℕ)
+    → option_map (λ (row : FunRow). row.address) (slice_get rows i) ≡ slice_get (map (λ (row : FunRow). row.address) rows) i
 address_at [] i = refl
 address_at (x ∷ rows) zero = refl
 address_at (x ∷ rows) (suc i) = address_at rows i
 
--- the addresses of functions
+-- the addresses of functions, and of data arrays behind so many statics
 abbrev addresses : List FunctionPart → List ℕ
 addresses functions = map (λ (row : FunRow). row.address) (fun_rows code_start functions)
 
+abbrev places : ℕ → List ArrayPart → List ℕ
+places statics arrays = array_places (statics_start + 4 * statics) arrays
+
+-- the word of a mark is looked up in these lists
 word_same : (t : Tables) (functions : List FunctionPart) (statics : ℕ) (arrays : List ArrayPart) (tag index : ℕ)
-    → mark_word t functions statics arrays tag index ≡ word_of t (map (λ (row : FunRow). row.address) (fun_rows code_start functions)) (array_places (statics_start + 4 * statics) arrays) tag index
+    → mark_word t functions statics arrays tag index ≡ word_of t (addresses functions) (places statics arrays) tag index
 unfolding mark_word word_of
 word_same t functions statics arrays tag index = rw (sym (address_at (fun_rows code_start functions) index)) refl
 
-mark_run : (t : Tables) (functions : List FunctionPart) (statics : ℕ) (arrays : List ArrayPart) (code : List Spelled) (bytes : List ℕ) (begun : List Bool) (least : ℕ) (file : List ℕ) (at : ℕ) → ((n : ℕ) → number_at n code ≡ number_in bytes begun n)
-    → run (mark_fields t functions statics arrays code least) file at ≡ mark_at t (map (λ (row : FunRow). row.address) (fun_rows code_start functions)) (array_places (statics_start + 4 * statics) arrays) bytes begun least file at
+-- a mark whose tag and index are these, if its number is their word
+abbrev mark_if : ℕ × ℕ → (ℕ × ℕ) × ℕ → Bool → Result (MarkPart × ℕ) ImageFault
+mark_if offset p b = if b then Ok (record { offset = offset.0; tag = p.0.0; index = p.0.1 }, p.1) else Err (Bad offset.1 27)
+
+-- a mark, where the numbers of instructions are found among the bytes
+mark_run : (t : Tables) (functions : List FunctionPart) (statics : ℕ) (arrays : List ArrayPart) (code : List Spelled) (bytes : List ℕ) (begun : List Bool) (least : ℕ) (file : List ℕ) (at : ℕ)
+    → ((n : ℕ) → number_at n code ≡ number_in bytes begun n)
+    → run (mark_fields t functions statics arrays code least) file at ≡ mark_at t (addresses functions) (places statics arrays) bytes begun least file at
 unfolding mark_fields mark_at mark_fits offset_fits word_fits
 mark_run t functions statics arrays code bytes begun least file at same =
+    let word : (ℕ × ℕ) × ℕ → Option ℕ = λ p. word_of t (addresses functions) (places statics arrays) p.0.0 p.0.1 in
     checked_step (mark_fits code least) 26 file at _ _ (λ offset.
-    same_bind (pair_at file offset.1) _ _ (λ p. ap (λ (b : Bool). let r : Result (MarkPart × ℕ) ImageFault = cond b (Ok (record { offset = offset.0; tag = p.0.0; index = p.0.1 }, p.1)) (Err (Bad offset.1 27)) in r)
+    same_bind (pair_at file offset.1) _ _ (λ p. ap (mark_if offset p)
     (ap (λ (o : Option ℕ). same_number o (number_at offset.0 code)) (word_same t functions statics arrays p.0.0 p.0.1)
-    ∙ ap (same_number (word_of t (addresses functions) (array_places (statics_start + 4 * statics) arrays) p.0.0 p.0.1)) (same offset.0))))
-    ∙ ap (λ r. r >>= λ offset. pair_at file offset.1 >>= λ p. if same_number (word_of t (addresses functions) (array_places (statics_start + 4 * statics) arrays) p.0.0 p.0.1) (number_in bytes begun offset.0) then Ok (record { offset = offset.0; tag = p.0.0; index = p.0.1 }, p.1) else Err (Bad offset.1 27))
+    ∙ ap (same_number (word p)) (same offset.0))))
+    ∙ ap (λ r. r >>= λ offset. pair_at file offset.1 >>= λ p. mark_if offset p (same_number (word p) (number_in bytes begun offset.0)))
     (same_checked (mark_fits code least) (offset_fits bytes begun least) 26 file at (λ n. ap (λ (o : Option ℕ). nat_le least n && is_some o) (same n)))
 
 -- ---- one part, then what comes
@@ -96,12 +114,19 @@ mark_run t functions statics arrays code bytes begun least file at same =
 abbrev only_image : CodedImage × ℕ → Result (ImageParts × ℕ) ImageFault
 only_image c = Ok (c.0.image, c.1)
 
+-- the image that comes of a part that was read, by the grammar and by the reader
+abbrev AreOne : {A D E : Type 0} → (A → Grammar CodedImage) → List ℕ → (A × ℕ → E × ℕ) → (E × ℕ → Result (D × ℕ) ImageFault) → (D × ℕ → Result (ImageParts × ℕ) ImageFault) → A × ℕ → Type 0
+AreOne f file kept front behind x = (run (f x.0) file x.1 >>= only_image) ≡ (front (kept x) >>= behind)
+
 -- one part is read, and what comes then is the rest
-step : {A D : Type 0} (g : Grammar A) (f : A → Grammar CodedImage) (r : Result (A × ℕ) ImageFault) (front : A × ℕ → Result (D × ℕ) ImageFault) (behind : D × ℕ → Result (ImageParts × ℕ) ImageFault) (file : List ℕ) (at : ℕ) → run g file at ≡ r
-    → ((x : A × ℕ) → r ≡ Ok x → (run (f x.0) file x.1 >>= only_image) ≡ (front x >>= behind)) → (run (then_with g f) file at >>= only_image) ≡ ((r >>= front) >>= behind)
-step {A} {D} g f r front behind file at e more = ap (λ z. z >>= only_image) (run-then_with g f file at ∙ ap (λ z. z >>= λ x. run (f x.0) file x.1) e) ∙ go r more
+step : {A D : Type 0} (g : Grammar A) (f : A → Grammar CodedImage) (r : Result (A × ℕ) ImageFault) (front : A × ℕ → Result (D × ℕ) ImageFault)
+    (behind : D × ℕ → Result (ImageParts × ℕ) ImageFault) (file : List ℕ) (at : ℕ) → run g file at ≡ r
+    → ((x : A × ℕ) → r ≡ Ok x → AreOne f file (λ z. z) front behind x) → (run (then_with g f) file at >>= only_image) ≡ ((r >>= front) >>= behind)
+step {A} {D} g f r front behind file at e more =
+    ap (λ z. z >>= only_image) (run-then_with g f file at ∙ ap (λ z. z >>= λ x. run (f x.0) file x.1) e) ∙ go r more
   where
-    go : (z : Result (A × ℕ) ImageFault) → ((x : A × ℕ) → z ≡ Ok x → (run (f x.0) file x.1 >>= only_image) ≡ (front x >>= behind)) → ((z >>= λ x. run (f x.0) file x.1) >>= only_image) ≡ ((z >>= front) >>= behind)
+    go : (z : Result (A × ℕ) ImageFault) → ((x : A × ℕ) → z ≡ Ok x → AreOne f file (λ y. y) front behind x)
+        → ((z >>= λ x. run (f x.0) file x.1) >>= only_image) ≡ ((z >>= front) >>= behind)
     go (Ok x) h = h x refl
     go (Err h) k = refl
 
@@ -109,13 +134,19 @@ step {A} {D} g f r front behind file at e more = ap (λ z. z >>= only_image) (ru
 abbrev one_list : Result (List (List Spelled) × ℕ) ImageFault → Result (List Spelled × ℕ) ImageFault
 one_list z = z >>= λ x. Ok (joined x.0, x.1)
 
+-- where they begin
+abbrev starts_of : List (List Spelled) × ℕ → List Bool × ℕ
+starts_of x = (instruction_starts (joined x.0), x.1)
+
 -- the code, of which it is kept where instructions begin
-code_step : {D : Type 0} (functions : List FunctionPart) (f : List (List Spelled) → Grammar CodedImage) (front : List Bool × ℕ → Result (D × ℕ) ImageFault) (behind : D × ℕ → Result (ImageParts × ℕ) ImageFault) (file : List ℕ) (at : ℕ)
-    → ((x : List (List Spelled) × ℕ) → run (bodies functions) file at ≡ Ok x → (run (f x.0) file x.1 >>= only_image) ≡ (front (instruction_starts (joined x.0), x.1) >>= behind))
+code_step : {D : Type 0} (functions : List FunctionPart) (f : List (List Spelled) → Grammar CodedImage) (front : List Bool × ℕ → Result (D × ℕ) ImageFault)
+    (behind : D × ℕ → Result (ImageParts × ℕ) ImageFault) (file : List ℕ) (at : ℕ)
+    → ((x : List (List Spelled) × ℕ) → run (bodies functions) file at ≡ Ok x → AreOne f file starts_of front behind x)
     → (run (then_with (bodies functions) f) file at >>= only_image) ≡ ((code_at functions file at >>= front) >>= behind)
-code_step {D} functions f front behind file at more = ap (λ z. z >>= only_image) (run-then_with (bodies functions) f file at) ∙ go (run (bodies functions) file at) more
+code_step {D} functions f front behind file at more =
+    ap (λ z. z >>= only_image) (run-then_with (bodies functions) f file at) ∙ go (run (bodies functions) file at) more
   where
-    go : (z : Result (List (List Spelled) × ℕ) ImageFault) → ((x : List (List Spelled) × ℕ) → z ≡ Ok x → (run (f x.0) file x.1 >>= only_image) ≡ (front (instruction_starts (joined x.0), x.1) >>= behind))
+    go : (z : Result (List (List Spelled) × ℕ) ImageFault) → ((x : List (List Spelled) × ℕ) → z ≡ Ok x → AreOne f file starts_of front behind x)
         → ((z >>= λ x. run (f x.0) file x.1) >>= only_image) ≡ ((starts_behind [] (one_list z) >>= front) >>= behind)
     go (Ok x) h = h x refl
     go (Err h) k = refl
@@ -159,11 +190,10 @@ blocks_run h functions all begun file at positive starts =
 marks_run : (h : Header) (functions : List FunctionPart) (arrays : List ArrayPart) (all : List Spelled) (bytes : List ℕ) (begun : List Bool) (file : List ℕ) (at : ℕ)
     → ((n : ℕ) → number_at n all ≡ number_in bytes begun n)
     → run (marks_part h functions arrays all) file at
-    ≡ marks_at (tables_of h) (addresses functions) (array_places (statics_start + 4 * h.statics) arrays) bytes begun h.marks file at
+    ≡ marks_at (tables_of h) (addresses functions) (places h.statics arrays) bytes begun h.marks file at
 marks_run h functions arrays all bytes begun file at same =
-    let places = array_places (statics_start + 4 * h.statics) arrays in
     many_run (λ later least. mark_fields (tables_of h) functions h.statics arrays all least)
-    (λ later least. mark_at (tables_of h) (addresses functions) places bytes begun least) after_mark
+    (λ later least. mark_at (tables_of h) (addresses functions) (places h.statics arrays) bytes begun least) after_mark
     (λ later least f a. mark_run (tables_of h) functions h.statics arrays all bytes begun least f a same)
     h.marks 0 file at
 
