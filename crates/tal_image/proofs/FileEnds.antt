@@ -3,7 +3,7 @@ use Rattle.std.proofs.Common.{◌≡◌, ℕ, zero, suc, ◌+◌, ◌-◌, ◌*�
 use Rattle.std.specs.Prelude.{◌==◌, slice_get, if◌then◌else◌}
 use Rattle.std.specs.Option.{option_map_or}
 use Rattle.std.specs.Int.{w32, to_le_bytes}
-use Rattle.std.proofs.Math.Nat.{zero-mul, suc-mul}
+use Rattle.std.proofs.Math.Nat.{suc-mul}
 use Rattle.std.proofs.lemmas.Bool.Decides.{nat_tests}
 use Rattle.std.proofs.lemmas.List.{length-append}
 use Rattle.ia32_code.specs.declared.instruction.Inst.{Inst}
@@ -11,7 +11,6 @@ use Rattle.ia32_code.specs.Spells.{Spells}
 use Rattle.object_layout.specs.declared.rows.ClassRow.{ClassRow}
 use Rattle.object_layout.specs.declared.rows.KindRow.{KindRow}
 use Rattle.tal_types.specs.Types.{of_field}
-use Rattle.tal_image.specs.declared.parts.Header.{Header}
 use Rattle.tal_image.specs.declared.parts.FunctionPart.{FunctionPart}
 use Rattle.tal_image.specs.Image.{ImageParts, ArrayPart, tag_of}
 use Rattle.tal_image.specs.Conditions.{Tables, Spelled, class_view, inherited_methods, numbers_given, with_array, between}
@@ -88,7 +87,8 @@ most_then Is Then (instruction room next) f n m limit le h more = λ text i fit.
     (omega arith, most_then Is Then (next text i) f (n - length text) m (limit - length text) (omega arith) one.1 more)
 
 -- the same, whatever they stand for
-most_next : {A B : Type 0} (g : Grammar A) (f : A → Grammar B) (n m limit : ℕ) → n + m ≤ limit → MostAny g n → ((x : A) → MostAny (f x) m) → MostAny (then_with g f) limit
+most_next : {A B : Type 0} (g : Grammar A) (f : A → Grammar B) (n m limit : ℕ) → n + m ≤ limit
+    → MostAny g n → ((x : A) → MostAny (f x) m) → MostAny (then_with g f) limit
 most_next {A} {B} g f n m limit le h more = most_then (λ (x : A). Unit {0}) (λ (y : B). Unit {0}) g f n m limit le h (λ x i. more x)
 
 -- the last part
@@ -104,6 +104,7 @@ most_many row step size one (suc n) kept =
     most_next (row n kept) _ size (n * size) (suc n * size) (omega arith) (one n kept) (λ x.
     most_last (many n row step (step kept x)) (λ xs. x ∷ xs) (n * size) (most_many row step size one n (step kept x)))
 
+-- the same, where rows look at nothing but themselves
 most_each : {A : Type 0} (row : Grammar A) (size : ℕ) → MostAny row size → (n : ℕ) → MostAny (each n row) (n * size)
 most_each row size one n = most_many (λ later kept. row) (λ kept x. kept) size (λ later kept. one) n 0
 
@@ -112,7 +113,12 @@ most_each row size one n = most_many (λ later kept. row) (λ kept x. kept) size
 -- numbers under tests
 most_tested : (ts : List Test) (n : ℕ) → length ts * 4 ≤ n → Most (AllMeet ts) (tested ts) n
 most_tested [] n le = tt
-most_tested (t ∷ ts) n le = (omega arith, λ k c. most_then (AllMeet ts) (AllMeet (t ∷ ts)) (tested ts) (λ ns. done (k, ns)) (n - 4) 0 (n - 4) (omega arith) (most_tested ts (n - 4) (omega arith)) (λ ns all. (c, all)))
+most_tested (t ∷ ts) n le = (
+  omega arith,
+  λ k c.
+      let rest = most_tested ts (n - 4) (omega arith) in
+      most_then (AllMeet ts) (AllMeet (t ∷ ts)) (tested ts) (λ ns. done (k, ns)) (n - 4) 0 (n - 4) (omega arith) rest (λ ns all. (c, all)),
+)
 
 -- a header, and its limits
 header_most : Most IsHeader header_fields 52
@@ -121,7 +127,7 @@ header_most = most_then (AllMeet tests) IsHeader (tested tests) (λ ns. done (he
 
 -- ---- rows
 
--- so many types, and so many types of fields or statics
+-- so many types, and so many types of fields or of statics
 types_most : (t : Tables) (n : ℕ) → MostAny (each n (type_field t)) (n * 8)
 types_most t n = most_each (type_field t) 8 (omega arith, λ tag index c. tt) n
 
@@ -138,16 +144,22 @@ unfolding sig_fields
 sig_most t = most_next (each 7 (type_field t)) (after_params t) 56 8 64 (omega arith) (types_most t 7) (λ params. (omega arith, λ tag index c. tt))
 
 -- functions, which have no more bytes than the code
-functions_most : (t : Tables) (n left limit : ℕ) → n * 8 ≤ limit → Most (λ (fs : List FunctionPart). code_length fs ≤ left) (many n (function_fields t) after_function left) limit
+functions_most : (t : Tables) (n left limit : ℕ) → n * 8 ≤ limit
+    → Most (λ (fs : List FunctionPart). code_length fs ≤ left) (many n (function_fields t) after_function left) limit
 unfolding function_fields code_length
 functions_most t zero left limit le = omega arith
 functions_most t (suc n) left limit le =
-    let m = suc-mul n 8 in
-    (omega arith, λ len c. (omega arith, λ sig c2.
-    let test = c.1 in
-    let fits : len ≤ left = grind (arith, nat_tests) in
-    most_then (λ (fs : List FunctionPart). code_length fs ≤ left - len) _ (many n (function_fields t) after_function (left - len)) _ (n * 8) 0 (limit - 4 - 4) (omega arith)
-    (functions_most t n (left - len) (n * 8) (omega arith)) (λ fs few. omega arith)))
+    let m = suc-mul n 8 in (
+      omega arith,
+      λ len c. (
+        omega arith,
+        λ sig c2.
+            let test = c.1 in
+            let fits : len ≤ left = grind (arith, nat_tests) in
+            most_then (λ (fs : List FunctionPart). code_length fs ≤ left - len) _ (many n (function_fields t) after_function (left - len)) _ (n * 8) 0 (limit - 4 - 4) (omega arith)
+            (functions_most t n (left - len) (n * 8) (omega arith)) (λ fs few. omega arith),
+      ),
+    )
 
 -- an array kind
 kind_most : (t : Tables) → MostAny (kind_fields t) 8
@@ -157,14 +169,23 @@ kind_most t = (omega arith, λ tag index c. tt)
 -- a class: 256 fields at most, and 53 methods
 class_most : (t : Tables) (functions : List FunctionPart) (classes : List ClassRow) → MostAny (class_fields t functions classes) 2272
 unfolding class_fields
-class_most t functions classes = (omega arith, λ m cm. (omega arith, λ own co.
-    let test = co.1 in
-    let few : own ≤ 256 = grind (arith, nat_tests) in
-    most_next (each own (field_type_field t)) _ (own * 8) 216 2264 (omega arith) (field_types_most t own) (λ fields. (omega arith, λ n cn.
-    let test2 = cn.1 in
-    let few2 : n ≤ 53 = grind (arith, nat_tests) in
-    let slots = inherited_methods (class_view functions classes) m in
-    most_next (method_list functions n slots) _ (n * 4) 0 212 (omega arith) (most_many _ _ 4 (λ later kept. (omega arith, λ f c. tt)) n slots) (λ methods. tt)))))
+class_most t functions classes = (
+  omega arith,
+  λ m cm. (
+    omega arith,
+    λ own co.
+        let test = co.1 in
+        let few : own ≤ 256 = grind (arith, nat_tests) in
+        most_next (each own (field_type_field t)) _ (own * 8) 216 2264 (omega arith) (field_types_most t own) (λ fields. (
+          omega arith,
+          λ n cn.
+              let test2 = cn.1 in
+              let few2 : n ≤ 53 = grind (arith, nat_tests) in
+              let slots = inherited_methods (class_view functions classes) m in
+              most_next (method_list functions n slots) _ (n * 4) 0 212 (omega arith) (most_many _ _ 4 (λ later kept. (omega arith, λ f c. tt)) n slots) (λ methods. tt),
+        )),
+  ),
+)
 
 -- the numbers of a data array are not more than its elements
 given_few : (kinds : List KindRow) (kind n : ℕ) → numbers_given kinds kind n ≤ n
@@ -176,32 +197,48 @@ given_few kinds kind n = go (option_map_or (λ (row : KindRow). tag_of (of_field
     go false = omega arith
 
 -- data arrays, which have 65536 words at most in all
-arrays_most : (t : Tables) (kinds : List KindRow) (n used limit : ℕ) → n * 8 + (65536 - used) * 4 ≤ limit → MostAny (many n (λ later kept. array_fields t kinds kept) with_array used) limit
+arrays_most : (t : Tables) (kinds : List KindRow) (n used limit : ℕ) → n * 8 + (65536 - used) * 4 ≤ limit
+    → MostAny (many n (λ later kept. array_fields t kinds kept) with_array used) limit
 unfolding array_fields
 arrays_most t kinds zero used limit le = tt
 arrays_most t kinds (suc n) used limit le =
-    let m = suc-mul n 8 in
-    (omega arith, λ kind ck. (omega arith, λ size cs.
-    let test = cs.1 in
-    let room : used + 2 + size ≤ 65536 = grind (arith, nat_tests) in
-    let count = numbers_given kinds kind size in
-    let few = given_few kinds kind size in
-    let rest = n * 8 + (65536 - (used + 2 + size)) * 4 in
-    most_then (λ (a : ArrayPart). a.size ≡ size) _ (then_with (each count (checked (λ n. true) 22)) (λ ns. done (record { kind = kind; size = size; numbers = ns }))) _ (size * 4) rest (limit - 4 - 4) (omega arith)
-    (most_then _ _ (each count (checked (λ n. true) 22)) _ (count * 4) 0 (size * 4) (omega arith) (numbers_most (λ n. true) 22 count) (λ ns i. refl)) (λ a e.
-    most_last (many n (λ later kept. array_fields t kinds kept) with_array (used + 2 + a.size)) (λ more. a ∷ more) rest (arrays_most t kinds n (used + 2 + a.size) rest (omega arith)))))
+    let m = suc-mul n 8 in (
+      omega arith,
+      λ kind ck. (
+        omega arith,
+        λ size cs.
+            let test = cs.1 in
+            let room : used + 2 + size ≤ 65536 = grind (arith, nat_tests) in
+            let count = numbers_given kinds kind size in
+            let few = given_few kinds kind size in
+            let rest = n * 8 + (65536 - (used + 2 + size)) * 4 in
+            let given = each count (checked (λ n. true) 22) in
+            let array = λ (ns : List ℕ). (let a : ArrayPart = record { kind = kind; size = size; numbers = ns } in a) in
+            most_then (λ (a : ArrayPart). a.size ≡ size) _ (then_with given (λ ns. done (array ns))) _ (size * 4) rest (limit - 4 - 4) (omega arith)
+            (most_then _ _ given _ (count * 4) 0 (size * 4) (omega arith) (numbers_most (λ n. true) 22 count) (λ ns i. refl)) (λ a e.
+            most_last (many n (λ later kept. array_fields t kinds kept) with_array (used + 2 + a.size)) (λ more. a ∷ more) rest
+            (arrays_most t kinds n (used + 2 + a.size) rest (omega arith))),
+      ),
+    )
 
 -- a block: 64 slots at most
 block_most : (t : Tables) (functions : List FunctionPart) (code : List Spelled) (least : ℕ) → MostAny (block_fields t functions code least) 576
 unfolding block_fields
-block_most t functions code least = (omega arith, λ offset co.
-    most_next (each 7 (type_field t)) (after_types t offset) 56 516 572 (omega arith) (types_most t 7) (λ types. (omega arith, λ n c.
-    let test = c.1 in
-    let few : n ≤ 64 = grind (arith, nat_tests) in
-    most_next (each n (type_field t)) _ (n * 8) 0 512 (omega arith) (types_most t n) (λ slots. tt))))
+block_most t functions code least = (
+  omega arith,
+  λ offset co.
+      most_next (each 7 (type_field t)) (after_types t offset) 56 516 572 (omega arith) (types_most t 7) (λ types. (
+        omega arith,
+        λ n c.
+            let test = c.1 in
+            let few : n ≤ 64 = grind (arith, nat_tests) in
+            most_next (each n (type_field t)) _ (n * 8) 0 512 (omega arith) (types_most t n) (λ slots. tt),
+      )),
+)
 
 -- a mark
-mark_most : (t : Tables) (functions : List FunctionPart) (statics : ℕ) (arrays : List ArrayPart) (code : List Spelled) (least : ℕ) → MostAny (mark_fields t functions statics arrays code least) 12
+mark_most : (t : Tables) (functions : List FunctionPart) (statics : ℕ) (arrays : List ArrayPart) (code : List Spelled) (least : ℕ)
+    → MostAny (mark_fields t functions statics arrays code least) 12
 unfolding mark_fields
 mark_most t functions statics arrays code least = (omega arith, λ offset co. (omega arith, λ tag index c. tt))
 
@@ -212,7 +249,9 @@ instructions_most : (n room : ℕ) → MostAny (instructions n room) room
 unfolding instructions
 instructions_most zero room = tt
 instructions_most (suc n) zero = tt
-instructions_most (suc n) (suc r) = λ text i fit. (fit, most_last (instructions n (suc r - length text)) (λ more. record { text = text; means = i } ∷ more) (suc r - length text) (instructions_most n (suc r - length text)))
+instructions_most (suc n) (suc r) = λ text i fit.
+    let left = suc r - length text in
+    (fit, most_last (instructions n left) (λ more. record { text = text; means = i } ∷ more) left (instructions_most n left))
 
 -- those of all functions
 bodies_most : (functions : List FunctionPart) → MostAny (bodies functions) (code_length functions)
@@ -248,7 +287,8 @@ coded_most =
     most_then (λ (fs : List FunctionPart). code_length fs ≤ h.code) _ (functions_part h) _ (h.functions * 8) 58000000 59000000 (omega arith)
     (functions_most t h.functions h.code (h.functions * 8) (omega arith)) (λ functions few.
     most_next (entries_part h sigs functions) _ (h.stacks * 4) 57000000 58000000 (omega arith) (numbers_most _ 15 h.stacks) (λ entries.
-    most_next (classes_part h functions) _ (h.classes * 2272) 54000000 57000000 (omega arith) (most_many _ _ 2272 (λ later classes. class_most t functions classes) h.classes []) (λ classes.
+    most_next (classes_part h functions) _ (h.classes * 2272) 54000000 57000000 (omega arith)
+    (most_many _ _ 2272 (λ later classes. class_most t functions classes) h.classes []) (λ classes.
     most_next (kinds_part h) _ (h.kinds * 8) 53000000 54000000 (omega arith) (most_each (kind_fields t) 8 (kind_most t) h.kinds) (λ kinds.
     most_next (statics_part h) _ (h.statics * 8) 52000000 53000000 (omega arith) (field_types_most t h.statics) (λ statics.
     most_next (arrays_part h kinds) _ 786432 51000000 52000000 (omega arith) (arrays_most t kinds h.arrays h.statics 786432 (omega arith)) (λ arrays.
@@ -270,7 +310,8 @@ ends_few few (pair ok fault next) bytes h = omega arith
 ends_few few (instruction room next) bytes h = let l = length-append bytes h.1 in let m = few (bytes ++ h.1) h.0 h.3 in omega arith
 
 -- a file that ends inside a field of an image has 64 MiB at most
-pub short_file : (few : FewBytes) (fs : List Field) (after : Grammar ImageParts) (bytes : List ℕ) → Sound image_fields fs after → EndsInside after bytes → length (fields_text fs ++ bytes) ≤ 67108864
+pub short_file : (few : FewBytes) (fs : List Field) (after : Grammar ImageParts) (bytes : List ℕ)
+    → Sound image_fields fs after → EndsInside after bytes → length (fields_text fs ++ bytes) ≤ 67108864
 unfolding image_fields
 short_file few fs after bytes s h =
     let most = most_last coded_fields (λ coded. coded.image) 67108853 coded_most in

@@ -6,7 +6,7 @@ use Rattle.std.proofs.lemmas.Bool.Decides.{nat_tests}
 use Rattle.tal_image.specs.declared.fault.ImageFault.{ImageFault}
 use Rattle.tal_image.specs.declared.fault.ImageFault.TheVariants.{Magic, Version, Bad}
 use Rattle.tal_image.specs.declared.parts.Header.{Header}
-use Rattle.tal_image.specs.Image.{number_bytes, numbers}
+use Rattle.tal_image.specs.Image.{number_bytes}
 use Rattle.tal_image.specs.Conditions.{between, heap_fits, stacks_fit, sigs_fit, functions_fit, classes_fit, kinds_fit, statics_fit, arrays_fit, code_fits, blocks_fit, marks_fit}
 use Rattle.tal_image.specs.Grammar.{Grammar, done, then_with, fields_text}
 use Rattle.tal_image.specs.Fields.{field, header_fields}

@@ -7,7 +7,6 @@ use Rattle.object_layout.specs.declared.rows.FunRow.{FunRow}
 use Rattle.object_layout.specs.declared.rows.FieldTy.{FieldTy}
 use Rattle.object_layout.specs.declared.rows.ClassRow.{ClassRow}
 use Rattle.object_layout.specs.declared.rows.KindRow.{KindRow}
-use Rattle.tal_types.specs.declared.types.Ty.{Ty}
 use Rattle.tal_types.specs.declared.signatures.Sig.{Sig}
 use Rattle.tal_image.specs.declared.fault.ImageFault.{ImageFault}
 use Rattle.tal_image.specs.declared.fault.ImageFault.TheVariants.{Bad}
@@ -16,13 +15,13 @@ use Rattle.tal_image.specs.declared.parts.FunctionPart.{FunctionPart}
 use Rattle.tal_image.specs.declared.parts.MarkPart.{MarkPart}
 use Rattle.tal_image.specs.Image.{ImageParts, ArrayPart, BlockPart}
 use Rattle.object_layout.specs.Areas.{code_start, statics_start}
-use Rattle.tal_image.specs.Conditions.{Tables, Spelled, between, slots_fit, block_fits, begins_at, function_begins, number_at, entry_fits, with_array, mark_fits, mark_word, word_fits, same_number, fun_rows, array_places}
-use Rattle.tal_image.specs.Grammar.{Grammar, done, then_with, many}
-use Rattle.tal_image.specs.Fields.{checked, each, type_field, tables_of, header_fields, sig_fields, function_fields, after_function, class_fields, with_class, kind_fields, field_type_field, array_fields, coded_fields, image_fields, block_fields, mark_fields, bodies, joined, code_bytes, after_block, after_mark, sigs_part, functions_part, entries_part, classes_part, kinds_part, statics_part, arrays_part, blocks_part, marks_part, CodedImage, coded}
-use Rattle.tal_image.specs.Reading.{◌>>=◌, Read, run, number_at as number_read, pair_at, checked_at, type_at, types_at, seven_at, header_at, sigs_at, functions_at, entries_at, kinds_at, statics_at, arrays_at}
+use Rattle.tal_image.specs.Conditions.{Tables, Spelled, between, slots_fit, block_fits, begins_at, function_begins, number_at, mark_fits, mark_word, word_fits, same_number, fun_rows, array_places}
+use Rattle.tal_image.specs.Grammar.{Grammar, done, then_with}
+use Rattle.tal_image.specs.Fields.{each, type_field, tables_of, header_fields, class_fields, with_class, coded_fields, image_fields, block_fields, mark_fields, bodies, joined, code_bytes, after_block, after_mark, sigs_part, functions_part, entries_part, classes_part, kinds_part, statics_part, arrays_part, blocks_part, marks_part, CodedImage, coded}
+use Rattle.tal_image.specs.Reading.{◌>>=◌, Read, run, number_at as number_read, pair_at, checked_at, type_at, types_at, seven_at}
 use Rattle.tal_image.specs.ClassReading.{class_at, classes_at}
 use Rattle.tal_image.specs.CodeReading.{instruction_starts, function_starts, starts_at, starts_behind, code_at, place_fits, block_at, blocks_at, number_in, offset_fits, word_of, mark_at, marks_at}
-use Rattle.tal_image.specs.ImageReading.{FrontParts, CodeParts, addresses_of, places_of, whole, front_at, behind_at, image_at}
+use Rattle.tal_image.specs.ImageReading.{FrontParts, CodeParts, whole, front_at, behind_at, image_at}
 use Rattle.tal_image.proofs.ReadFields.{AreBytes}
 use Rattle.tal_image.proofs.RowReadings.{run-then_with, same_bind, many_run, checked_step, type_run, seven_run, tables_are_read}
 use Rattle.tal_image.proofs.Rows.{after_types}
@@ -31,7 +30,8 @@ use Rattle.tal_image.proofs.Rooms.{AllPositive, functions_fit}
 use Rattle.tal_image.proofs.CodeFacts.{bodies_stand, bytes_are, starts_same, number_same, functions_same}
 
 -- tests that are one give one answer
-same_checked : (ok test : ℕ → Bool) (condition : ℕ) (file : List ℕ) (at : ℕ) → ((n : ℕ) → ok n ≡ test n) → checked_at ok condition file at ≡ checked_at test condition file at
+same_checked : (ok test : ℕ → Bool) (condition : ℕ) (file : List ℕ) (at : ℕ)
+    → ((n : ℕ) → ok n ≡ test n) → checked_at ok condition file at ≡ checked_at test condition file at
 same_checked ok test condition file at same =
     same_bind (number_read file at) _ _ (λ n. ap (λ (b : Bool). let r : Result (ℕ × ℕ) ImageFault = cond b (Ok n) (Err (Bad at condition)) in r) (same n.0))
 
@@ -64,7 +64,8 @@ block_run t functions code begun firsts least file at same =
 
 -- a block may stand where an instruction begins that is not the first of a function
 place_same : (functions : List FunctionPart) (code : List Spelled) (begun firsts : List Bool) (least n : ℕ)
-    → is_some (begins_at n code) ≡ starts_at begun n → function_begins n functions ≡ starts_at firsts n → block_fits functions code least n ≡ place_fits begun firsts least n
+    → is_some (begins_at n code) ≡ starts_at begun n → function_begins n functions ≡ starts_at firsts n
+    → block_fits functions code least n ≡ place_fits begun firsts least n
 unfolding block_fits place_fits
 place_same functions code begun firsts least n e f = rw (e, f) refl
 
@@ -95,8 +96,8 @@ abbrev mark_if : ℕ × ℕ → (ℕ × ℕ) × ℕ → Bool → Result (MarkPar
 mark_if offset p b = if b then Ok (record { offset = offset.0; tag = p.0.0; index = p.0.1 }, p.1) else Err (Bad offset.1 27)
 
 -- a mark, where the numbers of instructions are found among the bytes
-mark_run : (t : Tables) (functions : List FunctionPart) (statics : ℕ) (arrays : List ArrayPart) (code : List Spelled) (bytes : List ℕ) (begun : List Bool) (least : ℕ) (file : List ℕ) (at : ℕ)
-    → ((n : ℕ) → number_at n code ≡ number_in bytes begun n)
+mark_run : (t : Tables) (functions : List FunctionPart) (statics : ℕ) (arrays : List ArrayPart) (code : List Spelled)
+    (bytes : List ℕ) (begun : List Bool) (least : ℕ) (file : List ℕ) (at : ℕ) → ((n : ℕ) → number_at n code ≡ number_in bytes begun n)
     → run (mark_fields t functions statics arrays code least) file at ≡ mark_at t (addresses functions) (places statics arrays) bytes begun least file at
 unfolding mark_fields mark_at mark_fits offset_fits word_fits
 mark_run t functions statics arrays code bytes begun least file at same =
@@ -115,7 +116,8 @@ abbrev only_image : CodedImage × ℕ → Result (ImageParts × ℕ) ImageFault
 only_image c = Ok (c.0.image, c.1)
 
 -- the image that comes of a part that was read, by the grammar and by the reader
-abbrev AreOne : {A D E : Type 0} → (A → Grammar CodedImage) → List ℕ → (A × ℕ → E × ℕ) → (E × ℕ → Result (D × ℕ) ImageFault) → (D × ℕ → Result (ImageParts × ℕ) ImageFault) → A × ℕ → Type 0
+abbrev AreOne : {A D E : Type 0} → (A → Grammar CodedImage) → List ℕ → (A × ℕ → E × ℕ) → (E × ℕ → Result (D × ℕ) ImageFault)
+    → (D × ℕ → Result (ImageParts × ℕ) ImageFault) → A × ℕ → Type 0
 AreOne f file kept front behind x = (run (f x.0) file x.1 >>= only_image) ≡ (front (kept x) >>= behind)
 
 -- one part is read, and what comes then is the rest
@@ -183,7 +185,8 @@ blocks_run : (h : Header) (functions : List FunctionPart) (all : List Spelled) (
 blocks_run h functions all begun file at positive starts =
     let firsts = function_starts functions in
     many_run (λ later least. block_fields (tables_of h) functions all least) (λ later least. block_at (tables_of h) begun firsts least) after_block
-    (λ later least f a. block_run (tables_of h) functions all begun firsts least f a (λ n. place_same functions all begun firsts least n (starts n) (functions_same functions positive n)))
+    (λ later least f a. block_run (tables_of h) functions all begun firsts least f a
+    (λ n. place_same functions all begun firsts least n (starts n) (functions_same functions positive n)))
     h.blocks 0 file at
 
 -- the marks
@@ -204,7 +207,8 @@ classes_run h functions file at =
     many_run (λ later classes. class_fields (tables_of h) functions classes) (λ later classes. class_at (tables_of h) functions classes) with_class
     (λ later classes f a. class_run (tables_of h) functions classes f a) h.classes [] file at
 
-module _ (law : DecodedLaw) (file : List ℕ) (fits : AreBytes file) (h : Header) (sigs : List Sig) (functions : List FunctionPart) (entries : List ℕ) (classes : List ClassRow) (kinds : List KindRow) (statics : List FieldTy) (arrays : List ArrayPart) where
+module _ (law : DecodedLaw) (file : List ℕ) (fits : AreBytes file) (h : Header) (sigs : List Sig) (functions : List FunctionPart)
+    (entries : List ℕ) (classes : List ClassRow) (kinds : List KindRow) (statics : List FieldTy) (arrays : List ArrayPart) where
   -- the tables of this file
   abbrev tables : FrontParts
   tables = front_parts h sigs functions entries classes kinds statics arrays

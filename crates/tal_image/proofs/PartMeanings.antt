@@ -215,7 +215,8 @@ abbrev pub AreRows : {S A : Type 0} → (S → A → S) → (ℕ → S → A →
 AreRows step Is n kept xs = Counted n (EachAfter step Is kept) xs
 
 -- a list of rows
-module _ {S A : Type 0} {row : ℕ → S → Grammar A} (step : S → A → S) {Is : ℕ → S → A → Type 0} {text : A → List ℕ} (means : (later : ℕ) (kept : S) → Means (row later kept) (Is later kept) text) where
+module _ {S A : Type 0} {row : ℕ → S → Grammar A} (step : S → A → S) {Is : ℕ → S → A → Type 0} {text : A → List ℕ}
+    (means : (later : ℕ) (kept : S) → Means (row later kept) (Is later kept) text) where
   -- one row more
   one_more : (n : ℕ) (kept : S) → ((next : S) → Means (many n row step next) (AreRows step Is n next) (λ xs. flat_map text xs))
       → Means (many (suc n) row step kept) (AreRows step Is (suc n) kept) (λ xs. flat_map text xs)
@@ -237,6 +238,7 @@ module _ {S A : Type 0} {row : ℕ → S → Grammar A} (step : S → A → S) {
           subst (λ (z : List A). AreRows step Is (suc n) kept z × (fields_text fs ≡ flat_map text z)) more.same
           ((long, (one, more.is.1)), x.bytes _ more.bytes)))
 
+  -- so many rows
   pub many_means : (n : ℕ) (kept : S) → Means (many n row step kept) (AreRows step Is n kept) (λ xs. flat_map text xs)
   many_means zero kept = record { whole = none; back = none_back }
     where
@@ -251,9 +253,11 @@ module _ {S A : Type 0} {row : ℕ → S → Grammar A} (step : S → A → S) {
   many_means (suc n) kept = one_more n kept (many_means n)
 
 -- rows that look at nothing but themselves
-pub each_means : {A : Type 0} {row : Grammar A} {Is : A → Type 0} {text : A → List ℕ} → Means row Is text → (n : ℕ) → Means (each n row) (Counted n (Each Is)) (λ xs. flat_map text xs)
+pub each_means : {A : Type 0} {row : Grammar A} {Is : A → Type 0} {text : A → List ℕ}
+    → Means row Is text → (n : ℕ) → Means (each n row) (Counted n (Each Is)) (λ xs. flat_map text xs)
 each_means means n = many_means (λ (kept : ℕ) x. kept) (λ later kept. means) n 0
 
 -- the same, said otherwise
-pub means_as : {A : Type 0} {g : Grammar A} {Is So : A → Type 0} {text : A → List ℕ} → ((x : A) → Is x → So x) → ((x : A) → So x → Is x) → Means g Is text → Means g So text
+pub means_as : {A : Type 0} {g : Grammar A} {Is So : A → Type 0} {text : A → List ℕ}
+    → ((x : A) → Is x → So x) → ((x : A) → So x → Is x) → Means g Is text → Means g So text
 means_as to from m = record { whole = λ x h. m.whole x (from x h); back = λ fs x s. let k = m.back fs x s in (to x k.0, k.1) }

@@ -1,4 +1,4 @@
--- What the functions and the data arrays of a file have room for.
+-- What was read has room in memory: the functions within the code, the data arrays within the words behind the statics.
 use Rattle.std.proofs.Common.{◌≡◌, ℕ, zero, suc, ◌+◌, ◌-◌, ◌<◌, ◌≤◌, Bool, true, false, cond, List, [], ◌∷◌, Result, Ok, Err, refl, ap, subst, ◌∙◌, arith}
 use Rattle.std.proofs.lemmas.Bool.Decides.{nat_tests}
 use Rattle.object_layout.specs.declared.rows.KindRow.{KindRow}
@@ -8,25 +8,28 @@ use Rattle.tal_image.specs.declared.parts.FunctionPart.{FunctionPart}
 use Rattle.tal_image.specs.Image.{ArrayPart}
 use Rattle.tal_image.specs.Conditions.{Tables, length_fits, sig_fits, kind_fits, array_fits, with_array, numbers_given}
 use Rattle.tal_image.specs.Fields.{after_function}
-use Rattle.tal_image.specs.Reading.{◌>>=◌, number_at, checked_at, words_at, many_at, function_at, functions_at, array_at, arrays_at}
+use Rattle.tal_image.specs.Reading.{◌>>=◌, Read, number_at, checked_at, words_at, many_at, function_at, functions_at, array_at, arrays_at}
 use Rattle.tal_image.specs.CodeReading.{code_length, array_space}
 
 -- what was read first, and what then
-pub bind_inverse : {A B : Type 0} (r : Result A ImageFault) (k : A → Result B ImageFault) (y : B) → (r >>= k) ≡ Ok y → (x : A) × (r ≡ Ok x) × (k x ≡ Ok y)
+pub bind_inverse : {A B : Type 0} (r : Result A ImageFault) (k : A → Result B ImageFault) (y : B)
+    → (r >>= k) ≡ Ok y → (x : A) × (r ≡ Ok x) × (k x ≡ Ok y)
 bind_inverse (Ok x) k y e = (x, refl, e)
 bind_inverse (Err f) k y e = absurd cc
 
-pub ok_same : {A : Type 0} (x y : A) → (let l : Result A ImageFault = Ok x in l) ≡ Ok y → x ≡ y
+-- one answer has one value, and one end
+ok_same : {A : Type 0} (x y : A) → (let l : Result A ImageFault = Ok x in l) ≡ Ok y → x ≡ y
 ok_same x y e = cc
 
 pub ok_pair : {A : Type 0} (x y : A) (n m : ℕ) → (let l : Result (A × ℕ) ImageFault = Ok (x, n) in l) ≡ Ok (y, m) → (x ≡ y) × (n ≡ m)
 ok_pair {A} x y n m e = let k = ok_same (x, n) (y, m) e in (ap (λ (z : A × ℕ). z.0) k, ap (λ (z : A × ℕ). z.1) k)
 
 -- a number that was read met its condition
-pub checked_met : (ok : ℕ → Bool) (condition : ℕ) (file : List ℕ) (at : ℕ) (n : ℕ × ℕ) → checked_at ok condition file at ≡ Ok n → ok n.0 ≡ true
+checked_met : (ok : ℕ → Bool) (condition : ℕ) (file : List ℕ) (at : ℕ) (n : ℕ × ℕ) → checked_at ok condition file at ≡ Ok n → ok n.0 ≡ true
 checked_met ok condition file at n e = go (number_at file at) e
   where
-    pick : (b : Bool) (m : ℕ × ℕ) → ok m.0 ≡ b → (let r : Result (ℕ × ℕ) ImageFault = cond b (Ok m) (Err (Bad at condition)) in r) ≡ Ok n → ok n.0 ≡ true
+    pick : (b : Bool) (m : ℕ × ℕ) → ok m.0 ≡ b → (let r : Result (ℕ × ℕ) ImageFault = cond b (Ok m) (Err (Bad at condition)) in r) ≡ Ok n
+        → ok n.0 ≡ true
     pick true m t d = subst (λ (z : ℕ × ℕ). ok z.0 ≡ true) (ok_same m n d) t
     pick false m t d = absurd cc
 
@@ -35,12 +38,13 @@ checked_met ok condition file at n e = go (number_at file at) e
     go (Err f) d = absurd cc
 
 -- a row, then the others
-pub many_inverse : {S A : Type 0} (row : ℕ → S → List ℕ → ℕ → Result (A × ℕ) ImageFault) (step : S → A → S) (n : ℕ) (kept : S) (file : List ℕ) (at : ℕ) (ys : List A) (end : ℕ) → many_at (suc n) row step kept file at ≡ Ok (ys, end)
+many_inverse : {S A : Type 0} (row : ℕ → S → Read A) (step : S → A → S) (n : ℕ) (kept : S) (file : List ℕ) (at : ℕ) (ys : List A) (end : ℕ)
+    → many_at (suc n) row step kept file at ≡ Ok (ys, end)
     → (x : A × ℕ) × (xs : List A) × (row n kept file at ≡ Ok x) × (many_at n row step (step kept x.0) file x.1 ≡ Ok (xs, end)) × (x.0 ∷ xs ≡ ys)
 many_inverse {S} {A} row step n kept file at ys end e =
-    let one = bind_inverse (row n kept file at) (λ x. many_at n row step (step kept x.0) file x.1 >>= λ xs. Ok (x.0 ∷ xs.0, xs.1)) (ys, end) e in
+    let one = bind_inverse (row n kept file at) _ (ys, end) e in
     let x = one.0 in
-    let more = bind_inverse (many_at n row step (step kept x.0) file x.1) (λ xs. Ok (x.0 ∷ xs.0, xs.1)) (ys, end) one.2 in
+    let more = bind_inverse (many_at n row step (step kept x.0) file x.1) _ (ys, end) one.2 in
     let same = ok_pair (x.0 ∷ more.0.0) ys more.0.1 end more.2 in
     (x, more.0.0, one.1, more.1 ∙ ap (λ (z : ℕ). let r : Result (List A × ℕ) ImageFault = Ok (more.0.0, z) in r) same.1, same.0)
 
@@ -51,7 +55,9 @@ abbrev pub AllPositive : List FunctionPart → Type 0
 AllPositive [] = Unit {0}
 AllPositive (f ∷ functions) = (0 < f.length) × AllPositive functions
 
-function_fits : (t : Tables) (later left : ℕ) (file : List ℕ) (at : ℕ) (f : FunctionPart × ℕ) → function_at t later left file at ≡ Ok f → (0 < f.0.length) × (f.0.length ≤ left)
+-- a function has a byte at least, and no more than are left
+function_fits : (t : Tables) (later left : ℕ) (file : List ℕ) (at : ℕ) (f : FunctionPart × ℕ)
+    → function_at t later left file at ≡ Ok f → (0 < f.0.length) × (f.0.length ≤ left)
 unfolding function_at
 function_fits t later left file at f e =
     let one = bind_inverse (checked_at (length_fits later left) 13 file at) _ f e in
@@ -60,7 +66,9 @@ function_fits t later left file at f e =
     let same : one.0.0 ≡ f.0.length = ap (λ (z : FunctionPart × ℕ). z.0.length) (ok_same _ f two.2) in
     subst (λ (n : ℕ). (0 < n) × (n ≤ left)) same (grind (arith, nat_tests), grind (arith, nat_tests))
 
-pub functions_fit : (t : Tables) (n left : ℕ) (file : List ℕ) (at : ℕ) (fs : List FunctionPart) (end : ℕ) → functions_at t n left file at ≡ Ok (fs, end) → AllPositive fs × (code_length fs ≤ left)
+-- functions have a byte each at least, and no more in all than the code
+pub functions_fit : (t : Tables) (n left : ℕ) (file : List ℕ) (at : ℕ) (fs : List FunctionPart) (end : ℕ)
+    → functions_at t n left file at ≡ Ok (fs, end) → AllPositive fs × (code_length fs ≤ left)
 unfolding code_length
 functions_fit t zero left file at fs end e =
     let k = ok_pair [] fs at end e in
@@ -76,7 +84,9 @@ functions_fit t (suc n) left file at fs end e =
 
 -- ---- data arrays
 
-pub array_room : (t : Tables) (kinds : List KindRow) (used : ℕ) (file : List ℕ) (at : ℕ) (a : ArrayPart × ℕ) → array_at t kinds used file at ≡ Ok a → used + 2 + a.0.size ≤ 65536
+-- a data array lies within the words of memory
+array_room : (t : Tables) (kinds : List KindRow) (used : ℕ) (file : List ℕ) (at : ℕ) (a : ArrayPart × ℕ)
+    → array_at t kinds used file at ≡ Ok a → used + 2 + a.0.size ≤ 65536
 unfolding array_at
 array_room t kinds used file at a e =
     let one = bind_inverse (checked_at (kind_fits t) 21 file at) _ a e in
@@ -86,7 +96,9 @@ array_room t kinds used file at a e =
     let same : two.0.0 ≡ a.0.size = ap (λ (z : ArrayPart × ℕ). z.0.size) (ok_same _ a three.2) in
     subst (λ (n : ℕ). used + 2 + n ≤ 65536) same (grind (arith, nat_tests))
 
-pub arrays_fit : (t : Tables) (kinds : List KindRow) (n used : ℕ) (file : List ℕ) (at : ℕ) (xs : List ArrayPart) (end : ℕ) → arrays_at t kinds n used file at ≡ Ok (xs, end) → used ≤ 65536 → used + array_space xs ≤ 65536
+-- so do all of them
+pub arrays_fit : (t : Tables) (kinds : List KindRow) (n used : ℕ) (file : List ℕ) (at : ℕ) (xs : List ArrayPart) (end : ℕ)
+    → arrays_at t kinds n used file at ≡ Ok (xs, end) → used ≤ 65536 → used + array_space xs ≤ 65536
 unfolding array_space
 arrays_fit t kinds zero used file at xs end e le =
     let k = ok_pair [] xs at end e in

@@ -1,7 +1,6 @@
 -- What the rows of an image file stand for.
 use Rattle.std.specs.List.{flat_map}
-use Rattle.std.proofs.Common.{◌≡◌, ℕ, zero, suc, ◌<◌, ◌^◌, Bool, true, Option, Some, None, List, [], ◌∷◌, ◌++◌, length, drop, refl, sym, ap, subst, ◌∙◌}
-use Rattle.object_layout.specs.declared.rows.FieldTy.{FieldTy}
+use Rattle.std.proofs.Common.{◌≡◌, ℕ, zero, suc, Bool, true, Option, Some, None, List, ◌++◌, length, drop, refl, sym, subst}
 use Rattle.object_layout.specs.declared.rows.ClassRow.{ClassRow}
 use Rattle.object_layout.specs.declared.rows.KindRow.{KindRow}
 use Rattle.tal_types.specs.declared.types.Ty.{Ty}
@@ -9,7 +8,7 @@ use Rattle.tal_types.specs.declared.signatures.Sig.{Sig}
 use Rattle.tal_image.specs.declared.fault.ImageFault.TheVariants.{Bad}
 use Rattle.tal_image.specs.declared.parts.FunctionPart.{FunctionPart}
 use Rattle.tal_image.specs.declared.parts.MarkPart.{MarkPart}
-use Rattle.tal_image.specs.Image.{ArrayPart, BlockPart, number_bytes, numbers, type_bytes, types_bytes, field_bytes, sig_bytes, function_bytes, parent_number, class_bytes, kind_bytes, array_bytes, block_bytes, mark_bytes}
+use Rattle.tal_image.specs.Image.{ArrayPart, BlockPart, number_bytes, numbers, types_bytes, field_bytes, sig_bytes, function_bytes, parent_number, class_bytes, kind_bytes, array_bytes, block_bytes, mark_bytes}
 use Rattle.tal_image.specs.Conditions.{Tables, length_fits, sig_fits, class_view, parent_fits, inherited_fields, inherited_methods, fields_fit, methods_fit, method_fits, kind_fits, array_fits, numbers_given, Spelled, block_fits, slots_fit, number_at, mark_fits, word_fits}
 use Rattle.tal_image.specs.Grammar.{Grammar, done, then_with, fields_text}
 use Rattle.tal_image.specs.Fields.{checked, each, type_field, field_type_field, sig_fields, function_fields, parent_of, method_list, class_fields, kind_fields, array_fields, block_fields, mark_fields}
@@ -148,7 +147,8 @@ abbrev pub after_types : Tables → ℕ → List Ty → Grammar BlockPart
 after_types t offset types = then_with (checked slots_fit 25) (after_count t offset types)
 
 -- a block
-pub block_means : (t : Tables) (functions : List FunctionPart) (code : List Spelled) (least : ℕ) → Means (block_fields t functions code least) (IsBlock t functions code least) block_bytes
+pub block_means : (t : Tables) (functions : List FunctionPart) (code : List Spelled) (least : ℕ)
+    → Means (block_fields t functions code least) (IsBlock t functions code least) block_bytes
 unfolding block_fields
 block_means t functions code least = record {
   whole = λ b h.
@@ -161,7 +161,8 @@ block_means t functions code least = record {
       given (take_part (types_means t 7) (after_types t offset.value) offset.rest b offset.more) (λ types.
       given (take_part (checked_means slots_fit 25) (after_count t offset.value types.value) types.rest b types.more) (λ count.
       given (take_last (types_means t count.value) _ count.rest b count.more) (λ slots.
-      given (subst (λ (n : ℕ). Checked slots_fit n × (fields_text types.rest ≡ number_bytes n ++ types_bytes slots.value)) (sym slots.is.0) (count.is, count.bytes _ slots.bytes)) (λ counted.
+      let Count : ℕ → Type 0 = λ n. Checked slots_fit n × (fields_text types.rest ≡ number_bytes n ++ types_bytes slots.value) in
+      given (subst Count (sym slots.is.0) (count.is, count.bytes _ slots.bytes)) (λ counted.
       subst (λ (z : BlockPart). IsBlock t functions code least z × (fields_text fs ≡ block_bytes z)) slots.same (
         record {
           offset_word = offset.is.0;
@@ -226,7 +227,8 @@ module _ (t : Tables) (functions : List FunctionPart) (classes : List ClassRow) 
     text : bytes ≡ number_bytes m ++ (number_bytes own ++ (flat_map field_bytes c.fields ++ (number_bytes count ++ numbers c.methods)))
 
   -- those numbers are the class's
-  class_under : (m own count : ℕ) (c : ClassRow) (bytes : List ℕ) → ClassUnder m own count c bytes → parent_number c.parent ≡ m → IsClass t functions classes c × (bytes ≡ class_bytes c)
+  class_under : (m own count : ℕ) (c : ClassRow) (bytes : List ℕ) → ClassUnder m own count c bytes → parent_number c.parent ≡ m
+      → IsClass t functions classes c × (bytes ≡ class_bytes c)
   class_under m own count c bytes u e =
       given (subst (λ (z : ℕ). ClassUnder z own count c bytes) (sym e) u) (λ one.
       given (subst (λ (z : ℕ). ClassUnder (parent_number c.parent) z count c bytes) (sym one.fields.0) one) (λ two.

@@ -9,12 +9,12 @@ use Rattle.tal_types.specs.declared.signatures.Sig.{Sig}
 use Rattle.tal_image.specs.declared.parts.Header.{Header}
 use Rattle.tal_image.specs.declared.parts.FunctionPart.{FunctionPart}
 use Rattle.tal_image.specs.declared.parts.MarkPart.{MarkPart}
-use Rattle.tal_image.specs.Image.{ImageParts, ArrayPart, BlockPart, number_bytes, numbers, header, field_bytes, sig_bytes, function_bytes, class_bytes, kind_bytes, array_bytes, block_bytes, mark_bytes, FileOf}
+use Rattle.tal_image.specs.Image.{ImageParts, ArrayPart, BlockPart, number_bytes, numbers, field_bytes, sig_bytes, function_bytes, class_bytes, kind_bytes, array_bytes, block_bytes, mark_bytes, FileOf}
 use Rattle.tal_image.specs.Conditions.{Tables, functions_fit, entry_fits, with_array, Spelled}
-use Rattle.tal_image.specs.Grammar.{Grammar, done, Field, fields_text, Sound, StandsFor}
+use Rattle.tal_image.specs.Grammar.{done, Field, fields_text, Sound, StandsFor}
 use Rattle.tal_image.specs.Fields.{checked, tables_of, sigs_part, functions_part, entries_part, classes_part, kinds_part, statics_part, arrays_part, blocks_part, marks_part, after_function, with_class, after_block, after_mark, joined, code_bytes, CodedImage, coded, coded_fields, image_fields}
 use Rattle.tal_image.specs.Formed.{EachAfter, Each, IsSig, IsFunction, IsEntry, IsClass, IsFieldType, IsArray, AreBodies, IsBlock, IsMark, Formed, ImageOf}
-use Rattle.tal_image.proofs.PartMeanings.{Means, FieldsOf, Checked, Counted, at_end, split, join, checked_means, many_means, each_means, means_as, put_part, put_last, take_part, take_last, given}
+use Rattle.tal_image.proofs.PartMeanings.{Means, FieldsOf, Counted, at_end, split, join, checked_means, many_means, each_means, means_as, put_part, put_last, take_part, take_last, given}
 use Rattle.tal_image.proofs.TypeFields.{field_type_means}
 use Rattle.tal_image.proofs.Rows.{sig_means, function_means, kind_means, array_means, mark_means, block_means, class_means}
 use Rattle.tal_image.proofs.HeaderFields.{IsHeader, header_text, header_means}
@@ -218,7 +218,8 @@ with_code i bodies code =
     record { image = image; bodies = bodies }
 
 -- bytes of an image that was read under a header
-image_is : (h : Header) (y : CodedImage) (bytes : List ℕ) → Under h y → y.image.heap_words ≡ h.heap_words → y.image.stacks ≡ h.stacks → y.image.code ≡ code_bytes (joined y.bodies)
+image_is : (h : Header) (y : CodedImage) (bytes : List ℕ) → Under h y
+    → y.image.heap_words ≡ h.heap_words → y.image.stacks ≡ h.stacks → y.image.code ≡ code_bytes (joined y.bodies)
     → bytes ≡ header_text h ++ file_behind y.image y.image.code → ImageOf bytes y.image
 unfolding FileOf
 image_is h y bytes u heap stacks code text =
@@ -265,7 +266,8 @@ module _ (some : SomeText) where
       given (take_part (bodies_means some functions.value) _ arrays.rest y arrays.more) (λ code.
       given (take_part (blocks_means h.value functions.value (joined code.value)) _ code.rest y code.more) (λ blocks.
       given (take_last (marks_means h.value functions.value arrays.value (joined code.value)) _ blocks.rest y blocks.more) (λ marks.
-      let under : Under h.value (coded h.value sigs.value functions.value entries.value classes.value kinds.value statics.value arrays.value code.value blocks.value marks.value) = record {
+      let make = coded h.value sigs.value functions.value entries.value classes.value kinds.value statics.value arrays.value in
+      let under : Under h.value (make code.value blocks.value marks.value) = record {
         header = h.is;
         sigs = sigs.is;
         functions = functions.is;
