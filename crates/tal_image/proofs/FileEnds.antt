@@ -17,7 +17,7 @@ use Rattle.tal_image.specs.Conditions.{Tables, Spelled, class_view, inherited_me
 use Rattle.tal_image.specs.Grammar.{Grammar, done, number, pair, instruction, then_with, many, Field, Number, Pair, Instruction, fields_text, Sound, EndsInside}
 use Rattle.tal_image.specs.Fields.{checked, each, type_field, field_type_field, sig_fields, function_fields, after_function, method_list, class_fields, kind_fields, array_fields, block_fields, mark_fields, instructions, bodies, joined, tables_of, header_fields, sigs_part, functions_part, entries_part, classes_part, kinds_part, statics_part, arrays_part, blocks_part, marks_part, coded_fields, image_fields}
 use Rattle.tal_image.specs.CodeReading.{code_length}
-use Rattle.tal_image.proofs.PartMeanings.{Checked, CheckedPair}
+use Rattle.tal_image.proofs.PartMeanings.{and_then, Checked, CheckedPair}
 use Rattle.tal_image.proofs.HeaderFields.{Test, tested, AllMeet, tests, header_of, IsHeader, header_is}
 use Rattle.tal_image.proofs.Rows.{after_params, after_types}
 
@@ -113,12 +113,10 @@ most_each row size one n = most_many (λ later kept. row) (λ kept x. kept) size
 -- numbers under tests
 most_tested : (ts : List Test) (n : ℕ) → length ts * 4 ≤ n → Most (AllMeet ts) (tested ts) n
 most_tested [] n le = tt
-most_tested (t ∷ ts) n le = (
-  omega arith,
-  λ k c.
-      let rest = most_tested ts (n - 4) (omega arith) in
-      most_then (AllMeet ts) (AllMeet (t ∷ ts)) (tested ts) (λ ns. done (k, ns)) (n - 4) 0 (n - 4) (omega arith) rest (λ ns all. (c, all)),
-)
+most_tested (t ∷ ts) n le =
+    and_then (omega arith) (λ k c.
+    let rest = most_tested ts (n - 4) (omega arith) in
+    most_then (AllMeet ts) (AllMeet (t ∷ ts)) (tested ts) (λ ns. done (k, ns)) (n - 4) 0 (n - 4) (omega arith) rest (λ ns all. (c, all)))
 
 -- a header, and its limits
 header_most : Most IsHeader header_fields 52
@@ -149,17 +147,13 @@ functions_most : (t : Tables) (n left limit : ℕ) → n * 8 ≤ limit
 unfolding function_fields code_length
 functions_most t zero left limit le = omega arith
 functions_most t (suc n) left limit le =
-    let m = suc-mul n 8 in (
-      omega arith,
-      λ len c. (
-        omega arith,
-        λ sig c2.
-            let test = c.1 in
-            let fits : len ≤ left = grind (arith, nat_tests) in
-            most_then (λ (fs : List FunctionPart). code_length fs ≤ left - len) _ (many n (function_fields t) after_function (left - len)) _ (n * 8) 0 (limit - 4 - 4) (omega arith)
-            (functions_most t n (left - len) (n * 8) (omega arith)) (λ fs few. omega arith),
-      ),
-    )
+    let m = suc-mul n 8 in
+    and_then (omega arith) (λ len c.
+    and_then (omega arith) (λ sig c2.
+    let test = c.1 in
+    let fits : len ≤ left = grind (arith, nat_tests) in
+    let others = functions_most t n (left - len) (n * 8) (omega arith) in
+    most_then _ _ (many n (function_fields t) after_function (left - len)) _ (n * 8) 0 (limit - 4 - 4) (omega arith) others (λ fs few. omega arith)))
 
 -- an array kind
 kind_most : (t : Tables) → MostAny (kind_fields t) 8
@@ -169,23 +163,17 @@ kind_most t = (omega arith, λ tag index c. tt)
 -- a class: 256 fields at most, and 53 methods
 class_most : (t : Tables) (functions : List FunctionPart) (classes : List ClassRow) → MostAny (class_fields t functions classes) 2272
 unfolding class_fields
-class_most t functions classes = (
-  omega arith,
-  λ m cm. (
-    omega arith,
-    λ own co.
-        let test = co.1 in
-        let few : own ≤ 256 = grind (arith, nat_tests) in
-        most_next (each own (field_type_field t)) _ (own * 8) 216 2264 (omega arith) (field_types_most t own) (λ fields. (
-          omega arith,
-          λ n cn.
-              let test2 = cn.1 in
-              let few2 : n ≤ 53 = grind (arith, nat_tests) in
-              let slots = inherited_methods (class_view functions classes) m in
-              most_next (method_list functions n slots) _ (n * 4) 0 212 (omega arith) (most_many _ _ 4 (λ later kept. (omega arith, λ f c. tt)) n slots) (λ methods. tt),
-        )),
-  ),
-)
+class_most t functions classes =
+    and_then (omega arith) (λ m cm.
+    and_then (omega arith) (λ own co.
+    let test = co.1 in
+    let few : own ≤ 256 = grind (arith, nat_tests) in
+    most_next (each own (field_type_field t)) _ (own * 8) 216 2264 (omega arith) (field_types_most t own) (λ fields.
+    and_then (omega arith) (λ n cn.
+    let test2 = cn.1 in
+    let few2 : n ≤ 53 = grind (arith, nat_tests) in
+    let slots = inherited_methods (class_view functions classes) m in
+    most_next (method_list functions n slots) _ (n * 4) 0 212 (omega arith) (most_many _ _ 4 (λ later kept. (omega arith, λ f c. tt)) n slots) (λ methods. tt)))))
 
 -- the numbers of a data array are not more than its elements
 given_few : (kinds : List KindRow) (kind n : ℕ) → numbers_given kinds kind n ≤ n
@@ -202,39 +190,31 @@ arrays_most : (t : Tables) (kinds : List KindRow) (n used limit : ℕ) → n * 8
 unfolding array_fields
 arrays_most t kinds zero used limit le = tt
 arrays_most t kinds (suc n) used limit le =
-    let m = suc-mul n 8 in (
-      omega arith,
-      λ kind ck. (
-        omega arith,
-        λ size cs.
-            let test = cs.1 in
-            let room : used + 2 + size ≤ 65536 = grind (arith, nat_tests) in
-            let count = numbers_given kinds kind size in
-            let few = given_few kinds kind size in
-            let rest = n * 8 + (65536 - (used + 2 + size)) * 4 in
-            let given = each count (checked (λ n. true) 22) in
-            let array = λ (ns : List ℕ). (let a : ArrayPart = record { kind = kind; size = size; numbers = ns } in a) in
-            most_then (λ (a : ArrayPart). a.size ≡ size) _ (then_with given (λ ns. done (array ns))) _ (size * 4) rest (limit - 4 - 4) (omega arith)
-            (most_then _ _ given _ (count * 4) 0 (size * 4) (omega arith) (numbers_most (λ n. true) 22 count) (λ ns i. refl)) (λ a e.
-            most_last (many n (λ later kept. array_fields t kinds kept) with_array (used + 2 + a.size)) (λ more. a ∷ more) rest
-            (arrays_most t kinds n (used + 2 + a.size) rest (omega arith))),
-      ),
-    )
+    let m = suc-mul n 8 in
+    and_then (omega arith) (λ kind ck.
+    and_then (omega arith) (λ size cs.
+    let test = cs.1 in
+    let room : used + 2 + size ≤ 65536 = grind (arith, nat_tests) in
+    let count = numbers_given kinds kind size in
+    let few = given_few kinds kind size in
+    let rest = n * 8 + (65536 - (used + 2 + size)) * 4 in
+    let given = each count (checked (λ n. true) 22) in
+    let array = λ (ns : List ℕ). (let a : ArrayPart = record { kind = kind; size = size; numbers = ns } in a) in
+    most_then (λ (a : ArrayPart). a.size ≡ size) _ (then_with given (λ ns. done (array ns))) _ (size * 4) rest (limit - 4 - 4) (omega arith)
+    (most_then _ _ given _ (count * 4) 0 (size * 4) (omega arith) (numbers_most (λ n. true) 22 count) (λ ns i. refl)) (λ a e.
+    most_last (many n (λ later kept. array_fields t kinds kept) with_array (used + 2 + a.size)) (λ more. a ∷ more) rest
+    (arrays_most t kinds n (used + 2 + a.size) rest (omega arith)))))
 
 -- a block: 64 slots at most
 block_most : (t : Tables) (functions : List FunctionPart) (code : List Spelled) (least : ℕ) → MostAny (block_fields t functions code least) 576
 unfolding block_fields
-block_most t functions code least = (
-  omega arith,
-  λ offset co.
-      most_next (each 7 (type_field t)) (after_types t offset) 56 516 572 (omega arith) (types_most t 7) (λ types. (
-        omega arith,
-        λ n c.
-            let test = c.1 in
-            let few : n ≤ 64 = grind (arith, nat_tests) in
-            most_next (each n (type_field t)) _ (n * 8) 0 512 (omega arith) (types_most t n) (λ slots. tt),
-      )),
-)
+block_most t functions code least =
+    and_then (omega arith) (λ offset co.
+    most_next (each 7 (type_field t)) (after_types t offset) 56 516 572 (omega arith) (types_most t 7) (λ types.
+    and_then (omega arith) (λ n c.
+    let test = c.1 in
+    let few : n ≤ 64 = grind (arith, nat_tests) in
+    most_next (each n (type_field t)) _ (n * 8) 0 512 (omega arith) (types_most t n) (λ slots. tt))))
 
 -- a mark
 mark_most : (t : Tables) (functions : List FunctionPart) (statics : ℕ) (arrays : List ArrayPart) (code : List Spelled) (least : ℕ)

@@ -10,7 +10,7 @@ use Rattle.tal_image.specs.Image.{number_bytes}
 use Rattle.tal_image.specs.Conditions.{between, heap_fits, stacks_fit, sigs_fit, functions_fit, classes_fit, kinds_fit, statics_fit, arrays_fit, code_fits, blocks_fit, marks_fit}
 use Rattle.tal_image.specs.Grammar.{Grammar, done, then_with, fields_text}
 use Rattle.tal_image.specs.Fields.{field, header_fields}
-use Rattle.tal_image.proofs.PartMeanings.{Means, Checked, at_end, field_means, put_part, put_last, take_part, take_last}
+use Rattle.tal_image.proofs.PartMeanings.{and_then, Means, Checked, at_end, field_means, put_part, put_last, take_part, take_last}
 
 -- ---- numbers, each under a test
 
@@ -130,10 +130,6 @@ limited low high n small h = (grind (arith, nat_tests), h)
 -- the words of the heap
 heap_checked : (n : ℕ) → heap_fits n ≡ true → Checked heap_fits n
 heap_checked n h = (grind (arith, nat_tests), h)
-
--- one and the others
-and_then : {A B : Type 0} → A → B → A × B
-and_then a b = (a, b)
 
 -- the numbers of a header meet the tests
 all_meet : (h : Header) → IsHeader h → AllMeet tests (numbers_of h)

@@ -206,6 +206,10 @@ module _ {A B : Type 0} {g : Grammar A} {Is : A → Type 0} {text : A → List �
 pub given : {A B : Type 0} → A → (A → B) → B
 given x f = f x
 
+-- one thing and the others
+pub and_then : {A B : Type 0} → A → B → A × B
+and_then a b = (a, b)
+
 -- so many rows, all as they must be
 abbrev pub Counted : {A : Type 0} → ℕ → (List A → Type 0) → List A → Type 0
 Counted n Are xs = (length xs ≡ n) × Are xs
