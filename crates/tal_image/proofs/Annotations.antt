@@ -14,6 +14,7 @@ use Rattle.tal_image.proofs.KeyedRows.{first_with, first_with-found, first_with-
 abbrev told_by_block : BlockPart → ContextView
 told_by_block b = plain b.types b.slots
 
+-- what a mark tells
 abbrev told_by_mark : MarkPart → Mark
 told_by_mark m = record { tag = m.tag; index = m.index }
 
@@ -27,6 +28,7 @@ unfolding block_in first_with
 block_in-first n [] = refl
 block_in-first n (b ∷ bs) = rw (same_place b.offset n) (ap (λ o. if nat_eq b.offset n then Some (told_by_block b) else o) (block_in-first n bs))
 
+-- the mark at an address is the first with its offset
 mark_in-first : (n : ℕ) (ms : List MarkPart) → mark_in (code_start + n) ms ≡ first_with (λ (m : MarkPart). m.offset) told_by_mark n ms
 unfolding mark_in first_with
 mark_in-first n [] = refl
@@ -38,6 +40,7 @@ unfolding block_in
 block_in-before pc [] before = refl
 block_in-before pc (b ∷ bs) before = let miss : nat_eq (code_start + b.offset) pc ≡ false = grind (arith, nat_tests) in rw miss (block_in-before pc bs before)
 
+-- no mark stands before the code
 pub mark_in-before : (pc : ℕ) (ms : List MarkPart) → pc < code_start → mark_in pc ms ≡ None
 unfolding mark_in
 mark_in-before pc [] before = refl

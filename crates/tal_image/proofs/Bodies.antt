@@ -21,6 +21,7 @@ abbrev pub SomeText : Type 0
 SomeText = (text : List ℕ) (i : Inst) → Spells text i → 0 < length text
 
 module _ (some : SomeText) where
+  -- the instructions of one function are sound fields
   body_whole : (n room : ℕ) → room ≤ n → (xs : List Spelled) → IsBody room xs → (fs : List Field) × Sound (instructions n room) fs (done xs) × (fields_text fs ≡ code_bytes xs)
   unfolding instructions
   body_whole zero room le [] h = ([], refl, refl)
@@ -37,6 +38,7 @@ module _ (some : SomeText) where
         ap (λ (t : List ℕ). x.text ++ t) (ap fields_text (append-nil k.0) ∙ k.2),
       )
 
+  -- sound fields are the instructions of one function
   body_back : (n room : ℕ) → room ≤ n → (fs : List Field) (xs : List Spelled) → Sound (instructions n room) fs (done xs) → IsBody room xs × (fields_text fs ≡ code_bytes xs)
   unfolding instructions
   body_back zero room le fs xs s =
@@ -60,6 +62,7 @@ module _ (some : SomeText) where
       subst (λ (z : List Spelled). IsBody (suc r) z × (fields_text (Instruction text i ∷ fs) ≡ code_bytes z)) k.1
       ((omega arith, s.1.0, s.1.1, more.0), ap (λ (t : List ℕ). text ++ t) rest)
 
+  -- those of all functions are sound fields
   bodies_whole : (functions : List FunctionPart) (xs : List (List Spelled)) → AreBodies functions xs → (fs : List Field) × Sound (bodies functions) fs (done xs) × (fields_text fs ≡ code_bytes (joined xs))
   unfolding bodies
   bodies_whole [] [] h = ([], refl, refl)
@@ -72,6 +75,7 @@ module _ (some : SomeText) where
       let all = join (instructions f.length f.length) (λ z. then_with (bodies functions) (λ ys. done (z ∷ ys))) one.0 (more.0 ++ []) x (done (x ∷ xs)) one.1 rest in
       (one.0 ++ (more.0 ++ []), all, texts one.0 (more.0 ++ []) (code_bytes x) (code_bytes (joined xs)) one.2 (ap fields_text (append-nil more.0) ∙ more.2) ∙ sym (joined_bytes x xs))
 
+  -- sound fields are those of all functions
   bodies_back : (functions : List FunctionPart) (fs : List Field) (xs : List (List Spelled)) → Sound (bodies functions) fs (done xs) → AreBodies functions xs × (fields_text fs ≡ code_bytes (joined xs))
   unfolding bodies
   bodies_back [] fs xs s =
@@ -93,6 +97,7 @@ module _ (some : SomeText) where
 
 -- ---- how many bytes the instructions have
 
+-- the instructions of a function have all of its bytes
 body_length : (room : ℕ) (xs : List Spelled) → IsBody room xs → length (code_bytes xs) ≡ room
 body_length room [] h = sym h
 body_length room (x ∷ xs) h =

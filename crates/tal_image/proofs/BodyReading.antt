@@ -2,7 +2,7 @@
 use Rattle.std.proofs.Common.{◌≡◌, ℕ, zero, suc, ◌+◌, ◌-◌, ◌<◌, ◌≤◌, Bool, true, false, cond, List, [], ◌∷◌, ◌++◌, length, take, drop, Result, Ok, Err, refl, sym, ap, subst, ◌∙◌, append_assoc, arith}
 use Rattle.std.specs.Prelude.{nat_le}
 use Rattle.std.proofs.lemmas.Bool.Decides.{nat_tests}
-use Rattle.std.proofs.lemmas.List.{append-nil, length-drop}
+use Rattle.std.proofs.lemmas.List.{length-take-le, append-nil, length-drop}
 use Rattle.std.proofs.lemmas.Grind.{flat_map-append}
 use Rattle.ia32_code.specs.declared.instruction.Inst.{Inst}
 use Rattle.ia32_code.specs.declared.decoding.Decoded.{Decoded}
@@ -44,6 +44,7 @@ bind_ok : (r : Result (List Spelled × ℕ) ImageFault) → with_front [] r ≡ 
 bind_ok (Ok x) = refl
 bind_ok (Err e) = refl
 
+-- at first all is left
 pub body_begins : (begun : List Bool) (n : ℕ) (file : List ℕ) (at : ℕ) → BodyLeft begun begun n file at (run (instructions n n) file at)
 body_begins begun n file at = record { fuel = n; front = []; enough = omega arith; read = bind_ok (run (instructions n n) file at); marked = sym (append-nil begun) }
 
@@ -60,13 +61,9 @@ one_more n r file at d e = ap (λ (z : Decoded). answered z (after_one n (suc r)
 passes : {A : Type 0} (len room : ℕ) (x y : A) → len ≤ room → cond (nat_le len room) x y ≡ x
 passes len room x y h = let t : nat_le len room ≡ true = grind (arith, nat_tests) in rw t refl
 
+-- a test that does not hold stops
 stops : {A : Type 0} (len room : ℕ) (x y : A) → room < len → cond (nat_le len room) x y ≡ y
 stops len room x y h = let t : nat_le len room ≡ false = grind (arith, nat_tests) in rw t refl
-
-length-take : (n : ℕ) (bytes : List ℕ) → n ≤ length bytes → length (take n bytes) ≡ n
-length-take zero bytes h = refl
-length-take (suc n) [] h = absurd (omega arith)
-length-take (suc n) (b ∷ bytes) h = let e = length-take n bytes (omega arith) in omega arith
 
 -- one instruction more is marked
 one_marked : (begun : List Bool) (front : List Spelled) (x : Spelled) (len : ℕ) → length x.text ≡ len → (begun ++ instruction_starts front) ++ span len ≡ begun ++ instruction_starts (front ++ x ∷ [])
@@ -86,7 +83,7 @@ module _ (begun starts : List Bool) (left : ℕ) (file : List ℕ) (at : ℕ) (t
       go zero fuel h k f r = absurd (omega arith)
       go (suc m) zero h k f r = absurd (omega arith)
       go (suc m) (suc n) h k f r =
-          let l = length-take len (drop at file) within in
+          let l = length-take-le len (drop at file) within in
           let step : run (instructions (suc n) (suc m)) file at ≡ (run (instructions n (suc m - len)) file (at + len) >>= λ z. Ok (x ∷ z.0, z.1)) =
           one_more n m file at (answer.One i len) e ∙ passes len (suc m) (after_one n (suc m) file at len i) (Err (Bad at 23)) f
           ∙ run-then_with (instructions n (suc m - length (take len (drop at file)))) (λ more. done (x ∷ more)) file (at + len)
@@ -109,12 +106,15 @@ module _ (begun starts : List Bool) (left : ℕ) (file : List ℕ) (at : ℕ) (t
       go (suc m) zero p k q r = absurd (omega arith)
       go (suc m) (suc n) p k q r = sym r ∙ ap (with_front b.front) (one_more n m file at d e ∙ h n (suc m) q)
 
+  -- the file ends in an instruction
   pub body_short : 0 < left → answer.Short ≡ decoded (drop at file) → starts_behind begun total ≡ Err (Short (length file))
   body_short some e = stopped answer.Short (Short (length file)) some e (λ n room q. refl)
 
+  -- no instruction begins here
   pub body_unknown : 0 < left → answer.Unknown ≡ decoded (drop at file) → starts_behind begun total ≡ Err (Bad at 23)
   body_unknown some e = stopped answer.Unknown (Bad at 23) some e (λ n room q. refl)
 
+  -- an instruction ends past its function
   pub body_past : (i : Inst) (len : ℕ) → 0 < left → answer.One i len ≡ decoded (drop at file) → left < len → starts_behind begun total ≡ Err (Bad at 23)
   body_past i len some e past = stopped (answer.One i len) (Bad at 23) some e (λ n room q. let p : room < len = omega arith in stops len room (after_one n room file at len i) (Err (Bad at 23)) p)
 
@@ -135,6 +135,7 @@ module _ (begun starts : List Bool) (left : ℕ) (file : List ℕ) (at : ℕ) (t
 
 -- ---- the instructions of functions
 
+-- two readings that are the same read the same
 ok_are : {A : Type 0} (x y : A) (n m : ℕ) → (let l : Result (A × ℕ) ImageFault = Ok (x, n) in l) ≡ Ok (y, m) → (x ≡ y) × (n ≡ m)
 ok_are {A} x y n m e = let k = pair_is (x, n) (y, m) e in (ap (λ (z : A × ℕ). z.0) k, ap (λ (z : A × ℕ). z.1) k)
   where

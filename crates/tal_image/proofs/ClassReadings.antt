@@ -21,10 +21,12 @@ row_sig address [] f = refl
 row_sig address (x ∷ functions) zero = refl
 row_sig address (x ∷ functions) (suc f) = row_sig (address + x.length) functions f
 
+-- the same, by the classes' view
 signature_is : (functions : List FunctionPart) (classes : List ClassRow) (f : ℕ) → (fun_row (class_view functions classes) f).sig ≡ signature_in functions f
 unfolding fun_row
 signature_is functions classes f = row_sig code_start functions f
 
+-- the signatures of slots
 slots_are : (functions : List FunctionPart) (classes : List ClassRow) (fs : List ℕ) → map (signature_in functions) fs ≡ map (λ f. (fun_row (class_view functions classes) f).sig) fs
 slots_are functions classes [] = refl
 slots_are functions classes (f ∷ fs) = rw (signature_is functions classes f, slots_are functions classes fs) refl
@@ -45,9 +47,11 @@ class_is t functions classes file at number next fields taken e f m =
     ap (λ r. r >>= λ n. behind_parent_at t functions n.0 (inherited_fields (class_view functions classes) n.0) (inherited_methods (class_view functions classes) n.0) file n.1) e
     ∙ rw (f, m, inherited_are functions classes number) refl
 
+-- the own fields of a class
 fields_run : (t : Tables) (n : ℕ) (file : List ℕ) (at : ℕ) → run (each n (field_type_field t)) file at ≡ statics_at t n file at
 fields_run t n file at = many_run (λ later (kept : ℕ). field_type_field t) (λ later (kept : ℕ). field_type_at t) (λ (kept : ℕ) x. kept) (λ later kept f a. field_type_run t f a) n 0 file at
 
+-- its methods
 methods_run : (functions : List FunctionPart) (n : ℕ) (slots : List ℕ) (file : List ℕ) (at : ℕ) → run (method_list functions n slots) file at ≡ methods_at functions n slots file at
 methods_run functions n slots file at = many_run (λ later (kept : List ℕ). checked (method_fits functions kept) 20) (λ later (kept : List ℕ). checked_at (method_fits functions kept) 20) (λ (kept : List ℕ) f. drop 1 kept) (λ later kept f a. refl) n slots file at
 

@@ -6,6 +6,7 @@ use Rattle.std.specs.List.{flat_map}
 use Rattle.std.proofs.lemmas.Bool.{cases_lt}
 use Rattle.std.proofs.lemmas.Bool.Decides.{nat_tests}
 use Rattle.std.proofs.lemmas.List.{length-append}
+use Rattle.std.proofs.lemmas.Option.{same_Some, slice_get_within}
 use Rattle.std.proofs.lemmas.Grind.{flat_map-append}
 use Rattle.object_layout.specs.declared.rows.FieldTy.{FieldTy}
 use Rattle.object_layout.specs.declared.rows.ClassRow.{ClassRow}
@@ -19,12 +20,6 @@ use Rattle.tal_image.specs.Fields.{parent_of, with_class}
 use Rattle.tal_image.specs.ClassReading.{signature_in, slot_fits, above_lineage, AreSizes, IsAbove}
 
 -- ---- rows of a list
-
--- what stands at a place of a list is within it
-pub get-within : {A : Type 0} (xs : List A) (i : ℕ) (x : A) → slice_get xs i ≡ Some x → i < length xs
-get-within [] i x e = absurd cc
-get-within (y ∷ xs) zero x e = omega arith
-get-within (y ∷ xs) (suc i) x e = let k = get-within xs i x e in omega arith
 
 -- nothing stands behind it
 pub get-missing : {A : Type 0} (xs : List A) (i : ℕ) → slice_get xs i ≡ None → length xs ≤ i
@@ -59,8 +54,17 @@ slot_is functions (x ∷ xs) (suc i) f = slot_is functions xs i f
 
 -- ---- what stands above a class
 
-some_is : {A : Type 0} (x y : A) → (let o : Option A = Some x in o) ≡ Some y → x ≡ y
-some_is x y e = cc
+-- a class has no parent where its number is 0
+pub root_number : (n : ℕ) → parent_of n ≡ None → n ≡ 0
+unfolding parent_of
+root_number zero e = refl
+root_number (suc n) e = absurd cc
+
+-- else the number is its parent's plus 1
+pub child_number : (n p : ℕ) → parent_of n ≡ Some p → n ≡ suc p
+unfolding parent_of
+child_number zero p e = absurd cc
+child_number (suc n) p e = ap (λ (x : ℕ). suc x) (same_Some n p e)
 
 -- nothing stands above a root
 pub root_above : (s : ShapesView) → IsAbove s 0 (record { lineage = 0; fields = 0 })
@@ -71,10 +75,10 @@ module _ (s : ShapesView) (sizes : List ClassSize) (known : AreSizes s sizes) (p
   -- the size at a place is the class's
   size_is : (z : ClassSize) → slice_get sizes p ≡ Some z → (p < length s.classes) × (z.lineage ≡ length (lineage s p)) × (z.fields ≡ length (Fields s p))
   size_is z e =
-      let within = get-within sizes p z e in
+      let within = slice_get_within sizes p z e in
       let e2 = known.each in
       let there : p < length s.classes = omega arith in
-      let same = some_is _ z (sym (known.sized p there) ∙ e) in
+      let same = same_Some _ z (sym (known.sized p there) ∙ e) in
       (there, ap (λ (y : ClassSize). y.lineage) (sym same), ap (λ (y : ClassSize). y.fields) (sym same))
 
   -- a parent that is there and at most six below its root
@@ -109,6 +113,7 @@ abbrev size_of : ℕ → ℕ → ClassSize
 size_of l f = record { lineage = l; fields = f }
 
 module _ (functions : List FunctionPart) (classes : List ClassRow) (c : ClassRow) where
+  -- the classes before, and with one more
   abbrev before : ShapesView
   before = class_view functions classes
 
@@ -120,6 +125,7 @@ module _ (functions : List FunctionPart) (classes : List ClassRow) (c : ClassRow
   unfolding parent
   parent_stays k h = ap (option_and_then (λ (row : ClassRow). row.parent)) (get-front classes (c ∷ []) k h)
 
+  -- and their own fields
   own_stay : (k : ℕ) → k < length classes → own_fields after k ≡ own_fields before k
   unfolding own_fields
   own_stay k h = ap (λ (o : Option ClassRow). option_map_or (λ (row : ClassRow). row.fields) o []) (get-front classes (c ∷ []) k h)
@@ -129,6 +135,7 @@ module _ (functions : List FunctionPart) (classes : List ClassRow) (c : ClassRow
   unfolding parent
   parent_new = ap (option_and_then (λ (row : ClassRow). row.parent)) (get-last classes c)
 
+  -- and its own fields
   own_new : own_fields after (length classes) ≡ c.fields
   unfolding own_fields
   own_new = ap (λ (o : Option ClassRow). option_map_or (λ (row : ClassRow). row.fields) o []) (get-last classes c)
@@ -182,7 +189,7 @@ module _ (functions : List FunctionPart) (classes : List ClassRow) (c : ClassRow
         where
           go : (m : ℕ) → parent_of m ≡ Some p → parent_fits before m ≡ true → (m ≡ suc p) × (p < length classes)
           go zero d f = absurd cc
-          go (suc q) d f = let same = some_is q p d in (ap (λ (x : ℕ). suc x) same, grind (arith, nat_tests))
+          go (suc q) d f = let same = same_Some q p d in (ap (λ (x : ℕ). suc x) same, grind (arith, nat_tests))
 
       all_earlier : IsEarlierBelow after (suc (length classes))
       all_earlier = record {

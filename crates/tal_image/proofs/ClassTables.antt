@@ -43,14 +43,17 @@ holds_at g None holds = refl
 holds_at g (Some p) holds = holds p refl
 
 module _ (s v : ShapesView) (k : ℕ) (same : (x : ℕ) → x < k → slice_get s.classes x ≡ slice_get v.classes x) (earlier : (x p : ℕ) → parent s x ≡ Some p → p < x) where
+  -- up to a place, the classes of two tables have the same parents
   same_parent : (c : ℕ) → c < k → parent s c ≡ parent v c
   unfolding parent
   same_parent c inside = ap (option_and_then (λ (row : ClassRow). row.parent)) (same c inside)
 
+  -- the same own fields
   same_own : (c : ℕ) → c < k → own_fields s c ≡ own_fields v c
   unfolding own_fields
   same_own c inside = ap (λ (o : Option ClassRow). option_map_or (λ (row : ClassRow). row.fields) o []) (same c inside)
 
+  -- and the same methods
   same_methods : (c : ℕ) → c < k → Methods s c ≡ Methods v c
   unfolding Methods
   same_methods c inside = ap (λ (o : Option ClassRow). option_map_or (λ (row : ClassRow). row.methods) o []) (same c inside)
@@ -100,6 +103,7 @@ are_types s t [] classes kinds sigs each = refl
 are_types s t (ty ∷ tys) classes kinds sigs each =
     rw (is_type-fits s t ty classes kinds sigs each.0.condition_12, are_types s t tys classes kinds sigs each.1) refl
 
+-- each function has a row
 length-fun_rows : (a : ℕ) (fs : List FunctionPart) → length (fun_rows a fs) ≡ length fs
 unfolding fun_rows
 length-fun_rows a [] = refl
@@ -127,6 +131,7 @@ unfolding method_fits
 fits_there fs [] f fits = grind (arith, nat_tests)
 fits_there fs (sig ∷ slots) f fits = let is = fits_slot fs sig slots f fits in slice_get_within fs f is.0 is.1
 
+-- the methods of a class, with these inherited slots
 abbrev AreMethods : List FunctionPart → List ℕ → List ℕ → Type 0
 AreMethods fs slots methods = EachAfter (λ (slots : List ℕ) f. drop 1 slots) (λ later slots f. IsMethod fs slots f) slots methods
 
@@ -163,12 +168,15 @@ class_at t fs before (c ∷ cs) each (suc k) row there =
 few_rows : (most n : ℕ) → between 0 most n ≡ true → n ≤ most
 few_rows most n holds = grind (arith, nat_tests)
 
+-- a class has at most 256 fields
 few_fields : (inherited n : ℕ) → fields_fit inherited n ≡ true → inherited + n ≤ 256
 few_fields inherited n holds = grind (arith, nat_tests)
 
+-- it has the inherited methods at least, and at most 53
 few_methods : (inherited n : ℕ) → methods_fit inherited n ≡ true → (inherited ≤ n) × (n ≤ 53)
 few_methods inherited n holds = grind (arith, nat_tests)
 
+-- so the table has no fault of size
 no_more : (fields methods c : ℕ) → fields ≤ 256 → methods ≤ 53 → c < 1024 → (nat_lt 256 fields || (nat_lt 53 methods || nat_le 1024 c)) ≡ false
 no_more fields methods c few less low = grind (arith, nat_tests)
 
@@ -213,6 +221,7 @@ module _ (i : ImageParts) (f : Formed i) where
   lineage_of c = ap (λ (l : List ℕ). l ++ c ∷ []) (at_parent (lineage_within c (shapes_of i)) (lineage (before c)) [] c (parent (shapes_of i) c) (λ p e. earlier c p e)
       (λ p inside. same_lineage (shapes_of i) (before c) c (same_front c) earlier c (suc p) p inside inside (omega arith)))
 
+  -- the fields of a class are the inherited ones and its own
   fields_of : (c : ℕ) → Fields (shapes_of i) c ≡ option_map_or (Fields (before c)) (parent (shapes_of i) c) [] ++ (own_fields (shapes_of i) c ++ [])
   unfolding Fields lineage lineage_within
   fields_of c =

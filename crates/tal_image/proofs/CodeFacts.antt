@@ -4,7 +4,7 @@ use Rattle.std.specs.Prelude.{nat_le, nat_lt, ◌==◌, is_some, if◌then◌els
 use Rattle.std.specs.Option.{option_map_or}
 use Rattle.std.proofs.lemmas.Bool.{cases_lt}
 use Rattle.std.proofs.lemmas.Bool.Decides.{nat_tests}
-use Rattle.std.proofs.lemmas.List.{length-append, drop-drop}
+use Rattle.std.proofs.lemmas.List.{length-take-le, length-append, drop-drop}
 use Rattle.ia32_code.specs.declared.instruction.Inst.{Inst}
 use Rattle.ia32_code.specs.declared.decoding.Decoded.{Decoded}
 use Rattle.ia32_code.specs.declared.decoding.Decoded.TheVariants as answer
@@ -35,11 +35,6 @@ stand_both file at (s ∷ code) more h g =
     let e : at + length (code_bytes (s ∷ code)) ≡ at + length s.text + length (code_bytes code) = omega arith in
     (h.0, h.1, h.2, stand_both file (at + length s.text) code more h.3 (subst (λ (n : ℕ). StandAt file n more) e g))
 
-length-take : (n : ℕ) (bytes : List ℕ) → n ≤ length bytes → length (take n bytes) ≡ n
-length-take zero bytes h = refl
-length-take (suc n) [] h = absurd (omega arith)
-length-take (suc n) (b ∷ bytes) h = let e = length-take n bytes (omega arith) in omega arith
-
 -- a test that was passed
 passed : {A : Type 0} (b : Bool) (x : Result A ImageFault) (f : ImageFault) (y : A) → cond b x (Err f) ≡ Ok y → x ≡ Ok y
 passed true x f y e = e
@@ -54,12 +49,14 @@ abbrev Read_to : List ℕ → ℕ → List Spelled → ℕ → Type 0
 Read_to file at code end = StandAt file at code × (end ≡ at + length (code_bytes code))
 
 module _ (law : DecodedLaw) (file : List ℕ) (fits : AreBytes file) where
+  -- nothing was read
   nothing : (at : ℕ) (xs : List Spelled) (end : ℕ) → (let r : Result (List Spelled × ℕ) ImageFault = Ok ([], at) in r) ≡ Ok (xs, end) → Read_to file at xs end
   nothing at xs end e =
       let k = ok_pair [] xs at end e in
       let p : end ≡ at + 0 = let q = k.1 in omega arith in
       subst (λ (z : List Spelled). Read_to file at z end) k.0 (tt, p)
 
+  -- one instruction, then others
   one_more : (n r at : ℕ) (xs : List Spelled) (end : ℕ) (d : Decoded) → decoded (drop at file) ≡ d → Answers (drop at file) d
       → answered d (λ len i. run (then_with (instructions n (suc r - length (take len (drop at file)))) (λ more. done (record { text = take len (drop at file); means = i } ∷ more))) file (at + len)) (suc r) at (length file) ≡ Ok (xs, end)
       → ((room next : ℕ) (ys : List Spelled) (last : ℕ) → run (instructions n room) file next ≡ Ok (ys, last) → Read_to file next ys last) → Read_to file at xs end
@@ -68,7 +65,7 @@ module _ (law : DecodedLaw) (file : List ℕ) (fits : AreBytes file) where
   one_more n r at xs end (answer.One i len) de a e more =
       let text = take len (drop at file) in
       let s : Spelled = record { text = text; means = i } in
-      let l = length-take len (drop at file) a.1 in
+      let l = length-take-le len (drop at file) a.1 in
       let inner = passed (nat_le len (suc r)) (run (then_with (instructions n (suc r - length text)) (λ ys. done (s ∷ ys))) file (at + len)) (Bad at 23) (xs, end) e in
       let bound = bind_inverse (run (instructions n (suc r - length text)) file (at + len)) (λ x. Ok (s ∷ x.0, x.1)) (xs, end) (sym (run-then_with (instructions n (suc r - length text)) (λ ys. done (s ∷ ys)) file (at + len)) ∙ inner) in
       let rest = more (suc r - length text) (at + len) bound.0.0 bound.0.1 bound.1 in
@@ -115,10 +112,12 @@ module _ (law : DecodedLaw) (file : List ℕ) (fits : AreBytes file) where
 
 -- ---- the bytes
 
+-- nothing is taken of nothing
 take_nothing : (n : ℕ) → take {A = ℕ} n [] ≡ []
 take_nothing zero = refl
 take_nothing (suc n) = refl
 
+-- the first bytes, and then the next
 take_both : (n m : ℕ) (bytes : List ℕ) → take n bytes ++ take m (drop n bytes) ≡ take (n + m) bytes
 take_both zero m bytes = ap (λ (k : ℕ). take k bytes) (let e : m ≡ 0 + m = omega arith in e)
 take_both (suc n) m [] = take_nothing m ∙ sym (take_nothing (suc n + m))
@@ -136,11 +135,13 @@ bytes_are file at (s ∷ code) h =
 
 -- ---- where things begin
 
+-- no byte is marked among those that are not
 none_marked : (m : ℕ) (rest : List Bool) (k : ℕ) → k < m → starts_at (replicate m false ++ rest) k ≡ false
 none_marked zero rest k h = absurd (omega arith)
 none_marked (suc m) rest zero h = refl
 none_marked (suc m) rest (suc k) h = none_marked m rest k (omega arith)
 
+-- past them it is the others that are marked
 past_marked : (m : ℕ) (rest : List Bool) (k : ℕ) → m ≤ k → starts_at (replicate m false ++ rest) k ≡ starts_at rest (k - m)
 past_marked zero rest k h = ap (starts_at rest) (let e : k ≡ k - 0 = omega arith in e)
 past_marked (suc m) rest zero h = absurd (omega arith)
@@ -152,12 +153,14 @@ unfolding span
 first_starts zero rest h = absurd (omega arith)
 first_starts (suc n) rest h = refl
 
+-- of so many bytes none but the first is marked
 none_starts : (n : ℕ) (rest : List Bool) (k : ℕ) → 0 < k → k < n → starts_at (span n ++ rest) k ≡ false
 unfolding span
 none_starts zero rest k p h = absurd (omega arith)
 none_starts (suc n) rest zero p h = absurd (omega arith)
 none_starts (suc n) rest (suc k) p h = none_marked n rest k (omega arith)
 
+-- past them it is the others that are marked
 later_starts : (n : ℕ) (rest : List Bool) (k : ℕ) → 0 < n → n ≤ k → starts_at (span n ++ rest) k ≡ starts_at rest (k - n)
 unfolding span
 later_starts zero rest k p h = absurd (omega arith)
@@ -174,6 +177,7 @@ begins_first : (s : Spelled) (more : List Spelled) → begins_at 0 (s ∷ more) 
 unfolding begins_at
 begins_first s more = refl
 
+-- no instruction begins within another
 begins_within : (s : Spelled) (more : List Spelled) (k : ℕ) → 0 < k → k < length s.text → begins_at k (s ∷ more) ≡ None
 unfolding begins_at
 begins_within s more k p h =
@@ -181,6 +185,7 @@ begins_within s more k p h =
     let b : nat_lt k (length s.text) ≡ true = grind (arith, nat_tests) in
     rw (a, b) refl
 
+-- past it another one may begin
 begins_past : (s : Spelled) (more : List Spelled) (k : ℕ) → 0 < k → length s.text ≤ k → begins_at k (s ∷ more) ≡ begins_at (k - length s.text) more
 unfolding begins_at
 begins_past s more k p h =
@@ -188,6 +193,7 @@ begins_past s more k p h =
     let b : nat_lt k (length s.text) ≡ false = grind (arith, nat_tests) in
     rw (a, b) refl
 
+-- none begins where there is none
 begins_nowhere : (k : ℕ) → begins_at k [] ≡ None
 unfolding begins_at
 begins_nowhere k = refl
@@ -211,10 +217,12 @@ starts_same file at (s ∷ code) h k =
 abbrev decoded_number : List ℕ → ℕ → Bool → Option ℕ
 decoded_number file at b = if b then number_of (decoded (drop at file)) else None
 
+-- the immediate number of the instruction that begins at a byte
 number_is : (k : ℕ) (code : List Spelled) (o : Option Inst) → begins_at k code ≡ o → number_at k code ≡ option_map_or marked_number o None
 unfolding number_at
 number_is k code o e = ap (λ (x : Option Inst). option_map_or marked_number x None) e
 
+-- is that of the one that is decoded there
 number_stands : (file : List ℕ) (at : ℕ) (code : List Spelled) → StandAt file at code → (k : ℕ) → number_at k code ≡ decoded_number file (at + k) (starts_at (instruction_starts code) k)
 unfolding number_of
 number_stands file at [] h k = number_is k [] None (begins_nowhere k)

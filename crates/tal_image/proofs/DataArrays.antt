@@ -11,11 +11,13 @@ use Rattle.object_layout.specs.declared.rows.KindRow.{KindRow}
 use Rattle.tal_image.specs.declared.parts.ArrayPart.{ArrayPart}
 use Rattle.tal_image.specs.Image.{ImageParts}
 use Rattle.object_layout.specs.Areas.{statics_start}
-use Rattle.tal_image.specs.Conditions.{Tables, array_places, array_fits, with_array, numbers_given}
+use Rattle.tal_image.specs.Conditions.{Tables, array_room, array_places, array_fits, with_array, numbers_given}
 use Rattle.tal_image.specs.Formed.{EachAfter, IsArray}
-use Rattle.tal_image.specs.Kept.{RisesBy, array_room, array_offsets}
+use Rattle.tal_image.specs.CodeReading.{array_space}
+use Rattle.tal_image.specs.Kept.{RisesBy, array_offsets, data_place}
 use Rattle.tal_image.specs.Shown.{array_words, data_row_in}
 
+-- each array has its word
 pub length-array_offsets : (at : ℕ) (arrays : List ArrayPart) → length (array_offsets at arrays) ≡ length arrays
 unfolding array_offsets
 length-array_offsets at [] = refl
@@ -49,13 +51,37 @@ offsets_rise at (a ∷ arrays) zero (suc j) d before within =
     omega arith
 offsets_rise at (a ∷ arrays) (suc i) (suc j) d before within = offsets_rise (at + array_room a) arrays i j d (omega arith) (omega arith)
 
--- the place of an array is the first place and four bytes for each word before it
-pub places-offsets : (base at : ℕ) (arrays : List ArrayPart) → array_places (base + 4 * at) arrays ≡ map (λ o. base + 4 * o) (array_offsets at arrays)
+-- where the words after so many statics begin
+first_place : (statics : ℕ) → statics_start + 4 * statics ≡ data_place statics 0
+first_place statics = omega arith
+
+-- the address of each array is that of its first word
+places-offsets : (statics at : ℕ) (arrays : List ArrayPart) → array_places (data_place statics at) arrays ≡ map (data_place statics) (array_offsets at arrays)
 unfolding array_places array_offsets
-places-offsets base at [] = refl
-places-offsets base at (a ∷ arrays) =
-    let next : base + 4 * at + 4 * (2 + a.size) ≡ base + 4 * (at + array_room a) = omega arith in
-    ap (λ l. (base + 4 * at) ∷ l) (rw next (places-offsets base (at + array_room a) arrays))
+places-offsets statics at [] = refl
+places-offsets statics at (a ∷ arrays) =
+    let next : data_place statics at + 4 * array_room a ≡ data_place statics (at + array_room a) = omega arith in
+    ap (λ l. data_place statics at ∷ l) (rw next (places-offsets statics (at + array_room a) arrays))
+
+-- the address of each array is that of its first word behind the statics
+pub places-behind : (statics : ℕ) (arrays : List ArrayPart) → array_places (statics_start + 4 * statics) arrays ≡ map (data_place statics) (array_offsets 0 arrays)
+places-behind statics arrays = ap (λ b. array_places b arrays) (first_place statics) ∙ places-offsets statics 0 arrays
+
+-- each array begins among the words for which all of them have room
+pub offsets-few : (statics bound : ℕ) (arrays : List ArrayPart) → statics + sum_by array_room arrays ≤ bound → All (λ offset. statics + offset ≤ bound) (array_offsets 0 arrays)
+offsets-few statics bound arrays few k d within =
+    let there : k < length arrays = rw length-array_offsets at within in
+    let last = offsets_within 0 arrays k d there in
+    omega arith
+
+-- the words of all arrays, one array after another
+pub array_space-sum : (arrays : List ArrayPart) → array_space arrays ≡ sum_by array_room arrays
+unfolding array_space
+array_space-sum [] = omega arith
+array_space-sum (a ∷ arrays) =
+    let whole = sum_by-cons array_room a arrays in
+    let rest = array_space-sum arrays in
+    omega arith
 
 -- an array that meets its condition leaves room for itself
 room : (used n : ℕ) → array_fits used n ≡ true → used + 2 + n ≤ 65536
@@ -75,6 +101,7 @@ given : (kinds : List KindRow) (k n : ℕ) → numbers_given kinds k n ≤ n
 unfolding numbers_given
 given kinds k n = grind (arith, nat_tests)
 
+-- no array has more numbers than elements
 pub few_numbers : (t : Tables) (kinds : List KindRow) (used : ℕ) (arrays : List ArrayPart) → EachAfter with_array (λ later used a. IsArray t kinds used a) used arrays → All (λ a. length a.numbers ≤ a.size) arrays
 few_numbers t kinds used [] each k d within = absurd (omega arith)
 few_numbers t kinds used (a ∷ arrays) each zero d within = let some = given kinds a.kind a.size in omega (arith, each.0.count)
@@ -93,6 +120,7 @@ length-padded ns m few =
     let zeros : length (replicate {A = ℕ} (m - length ns) 0) ≡ m - length ns = length-replicate (m - length ns) 0 in
     omega arith
 
+-- a word of the padded numbers
 pub padded-within : (ns : List ℕ) (m k : ℕ) → length ns ≤ m → k < m → slice_get (ns ++ replicate (m - length ns) 0) k ≡ Some (get_or ns k 0)
 padded-within ns m k few within =
     let long = length-padded ns m few in
@@ -102,6 +130,7 @@ padded-within ns m k few within =
     by_part (inl before) = get_or_append_left ns (replicate (m - length ns) 0) 0 k before
     by_part (inr behind) = get_or-append_right ns (replicate (m - length ns) 0) (length ns) k 0 refl behind ∙ get_or-replicate (m - length ns) (k - length ns) 0 0 (omega arith) ∙ sym (get_or_past ns k 0 behind)
 
+-- there is none past them
 pub padded-past : (ns : List ℕ) (m k : ℕ) → length ns ≤ m → m ≤ k → slice_get (ns ++ replicate (m - length ns) 0) k ≡ None
 padded-past ns m k few past =
     let long = length-padded ns m few in
@@ -114,6 +143,7 @@ array_words-element a zero behind = absurd (omega arith)
 array_words-element a (suc zero) behind = absurd (omega arith)
 array_words-element a (suc (suc k)) behind = ap (slice_get (a.numbers ++ replicate (a.size - length a.numbers) 0)) (omega arith)
 
+-- an array has as many words as it takes room
 length-array_words : (a : ArrayPart) → length a.numbers ≤ a.size → length (array_words a) ≡ array_room a
 unfolding array_words
 length-array_words a few = let long = length-padded a.numbers a.size few in omega arith
@@ -124,6 +154,7 @@ slice_get-left [] ys k within = absurd (omega arith)
 slice_get-left (x ∷ xs) ys zero within = refl
 slice_get-left (x ∷ xs) ys (suc k) within = slice_get-left xs ys k (omega arith)
 
+-- and of the second
 slice_get-right : (xs ys : List ℕ) (k : ℕ) → slice_get (xs ++ ys) (length xs + k) ≡ slice_get ys k
 slice_get-right [] ys k = ap (slice_get ys) (omega arith)
 slice_get-right (x ∷ xs) ys k = let next : suc (length xs) + k ≡ suc (length xs + k) = omega arith in rw next (slice_get-right xs ys k)
@@ -162,18 +193,16 @@ data_words-none (a ∷ arrays) i high = absurd (let behind : i < 0 = high 0 (ome
 
 module _ (i : ImageParts) (d : ℕ) where
   -- the row of a data array
-  pub data_row-at : (a : ArrayPart) (offset : ℕ) → slice_get i.arrays d ≡ Some a → offset ≡ get_or (array_offsets 0 i.arrays) d offset → data_row_in i d ≡ Some (record { place = 3145728 + 4 * (length i.statics + offset); kind = a.kind; length = a.size })
+  pub data_row-at : (a : ArrayPart) (offset : ℕ) → slice_get i.arrays d ≡ Some a → offset ≡ get_or (array_offsets 0 i.arrays) d offset
+      → data_row_in i d ≡ Some (record { place = data_place (length i.statics) offset; kind = a.kind; length = a.size })
   unfolding data_row_in
   data_row-at a offset there is =
-      let base = statics_start + 4 * length i.statics in
+      let statics = length i.statics in
       let within : d < length (array_offsets 0 i.arrays) = rw length-array_offsets (slice_get_within i.arrays d a there) in
-      let begins : base ≡ base + 4 * 0 = omega arith in
-      let place : slice_get (array_places base i.arrays) d ≡ Some (3145728 + 4 * (length i.statics + offset)) =
-      ap (λ (b : ℕ). slice_get (array_places b i.arrays) d) begins
-      ∙ ap (λ (l : List ℕ). slice_get l d) (places-offsets base 0 i.arrays)
-      ∙ slice_get-map (λ o. base + 4 * o) (array_offsets 0 i.arrays) d
-      ∙ ap (option_map (λ o. base + 4 * o)) (slice_get_read (array_offsets 0 i.arrays) _ d offset refl within is)
-      ∙ ap Some (omega arith) in
+      let place : slice_get (array_places (statics_start + 4 * statics) i.arrays) d ≡ Some (data_place statics offset) =
+      ap (λ (l : List ℕ). slice_get l d) (places-behind statics i.arrays)
+      ∙ slice_get-map (data_place statics) (array_offsets 0 i.arrays) d
+      ∙ ap (option_map (data_place statics)) (slice_get_read (array_offsets 0 i.arrays) _ d offset refl within is) in
       rw (there, place) refl
 
   -- none where there is no such array

@@ -21,6 +21,7 @@ pub none_left : (bytes : List ℕ) → length bytes ≡ 0 → bytes ≡ []
 none_left [] e = refl
 none_left (b ∷ bytes) e = absurd (omega arith)
 
+-- a list with a length is not empty
 pub some_left : (bytes : List ℕ) → 0 < length bytes → bytes ≢ []
 some_left [] h = absurd (omega arith)
 some_left (b ∷ bytes) h = λ e. absurd cc
@@ -60,5 +61,6 @@ module _ (law : DecodedLaw) (prefix : PrefixLaw) (some : SomeText) (file : List 
       go true t = inr (Rest x.1, before_end image_fields file x.0 x.1 (took law prefix image_fields file 0 x.0 x.1 fits (omega arith) e) (grind (arith, nat_tests)))
       go false t = inl (x.0, read some file x.0 (to_end image_fields file x.0 x.1 (took law prefix image_fields file 0 x.0 x.1 fits (omega arith) e) (grind (arith, nat_tests))))
 
+  -- each file stands for an image, or has a first fault
   pub each_file : ((i : ImageParts) × ImageOf file i) ⊎ ((f : ImageFault) × FirstFault file f)
   each_file = what_it_is (run image_fields file 0) refl

@@ -11,10 +11,10 @@ use Rattle.tal_image.specs.declared.parts.FunctionPart.{FunctionPart}
 use Rattle.tal_image.specs.declared.parts.MarkPart.{MarkPart}
 use Rattle.tal_image.specs.Image.{ImageParts, BlockPart}
 use Rattle.object_layout.specs.Areas.{code_start}
-use Rattle.tal_image.specs.Conditions.{between, block_fits, mark_fits}
+use Rattle.tal_image.specs.Conditions.{between, array_room, block_fits, mark_fits}
 use Rattle.tal_image.specs.Fields.{after_block, after_mark, with_class, joined}
 use Rattle.tal_image.specs.Formed.{Formed, EachAfter, IsBlock, IsClass, IsMark, tables}
-use Rattle.tal_image.specs.Kept.{ClassHasWords, IsKept, RisesBy, parts_of, array_room, array_offsets}
+use Rattle.tal_image.specs.Kept.{ClassHasWords, IsKept, RisesBy, parts_of, array_offsets}
 use Rattle.tal_image.specs.Shown.{spans}
 use Rattle.tal_image.proofs.KeyedRows.{rises, rises-map}
 use Rattle.tal_image.proofs.Spans.{has_bytes, code_holds, starts_rise, length-spans}
@@ -74,6 +74,7 @@ module _ (i : ImageParts) (f : Formed i) where
       fit (c ∷ cs) before each zero d within = record { parent = each.0.parent_word; fields = each.0.fields_word; methods = each.0.methods_word }
       fit (c ∷ cs) before each (suc k) d within = fit cs (with_class before c) each.1 k d (omega arith)
 
+  -- marks stand by rising offsets
   pub marks_rise : RisesBy (λ (m : MarkPart). m.offset) i.marks
   unfolding mark_fits
   marks_rise = rises (λ (m : MarkPart). m.offset) after_mark (λ later least m. IsMark (tables i) i.functions (length i.statics) i.arrays (joined f.bodies) least m) (λ least m. refl) (λ later least m is. lowest least m is.condition_26) 0 i.marks f.marks
@@ -99,7 +100,7 @@ module _ (a : Inside) (k : IsKept a) where
   length-offsets = ap length k.offsets ∙ length-array_offsets 0 a.rows.arrays.items
 
   -- a data array begins among the first 65536 words with the statics
-  pub place_within : (d offset : ℕ) → d < length a.rows.arrays.items → offset ≡ get_or a.offsets.items d offset → length a.rows.statics.items + offset ≤ 65536
+  pub place_within : (d offset : ℕ) → d < length a.rows.arrays.items → offset ≡ get_or a.offsets.items d offset → length a.rows.statics + offset ≤ 65536
   place_within d offset within is =
       let begins : offset ≡ get_or (array_offsets 0 a.rows.arrays.items) d offset = subst (λ l. offset ≡ get_or l d offset) k.offsets is in
       let last = offsets_within 0 a.rows.arrays.items d offset within in

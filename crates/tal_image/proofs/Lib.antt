@@ -22,7 +22,7 @@ pub mod ClassTables
 pub mod OneAnswer
 pub mod ClassSizes
 pub mod ClassReadings
-pub mod CodeMaps
+pub mod CodeTails
 pub mod Rooms
 pub mod CodeFacts
 pub mod ImageRuns

@@ -1,5 +1,5 @@
 -- Reading so many rows one after another.
-use Rattle.std.proofs.Common.{◌≡◌, ℕ, suc, ◌-◌, ◌≤◌, List, [], ◌∷◌, ◌++◌, Result, Ok, Err, refl, sym, ap, ◌∙◌, append_assoc, arith}
+use Rattle.std.proofs.Common.{◌≡◌, ℕ, suc, List, [], ◌∷◌, ◌++◌, Result, Ok, Err, refl, sym, ap, ◌∙◌, append_assoc}
 use Rattle.std.proofs.lemmas.List.{append-nil}
 use Rattle.tal_image.specs.declared.fault.ImageFault.{ImageFault}
 use Rattle.tal_image.specs.declared.fault.ImageFault.TheVariants.{Magic, Version, Short, Rest, Bad, NoMemory}
@@ -18,31 +18,30 @@ passed_on (Bad at field) one all h k = h (Bad at field) k
 abbrev pub with_front : {A : Type 0} → List A → Result (List A × ℕ) ImageFault → Result (List A × ℕ) ImageFault
 with_front front read = read >>= λ x. Ok (front ++ x.0, x.1)
 
+-- a row moves from what is read to what was read before
 pub regroup : {A : Type 0} (front : List A) (n : A) (read : Result (List A × ℕ) ImageFault) → with_front front (read >>= λ x. Ok (n ∷ x.0, x.1)) ≡ with_front (front ++ n ∷ []) read
 regroup {A} front n (Ok x) = ap (λ (ns : List A). let r : Result (List A × ℕ) ImageFault = Ok (ns, x.1) in r) (sym (append_assoc front (n ∷ []) x.0))
 regroup front n (Err f) = refl
 
-module _ {S A : Type 0} (row : ℕ → S → Read A) (step : S → A → S) where
+-- So many rows are still to be read; others stand before them, and what is read is the whole.
+pub record RowsLeft {S A : Type 0} (front : List A) (left : ℕ) (row : ℕ → S → Read A) (step : S → A → S) (kept : S) (file : List ℕ) (at : ℕ) (total : Result (List A × ℕ) ImageFault) : Type 0 where
+  pub read : with_front front (many_at left row step kept file at) ≡ total
+
+module _ {S A : Type 0} {front : List A} {left : ℕ} {row : ℕ → S → Read A} {step : S → A → S} {kept : S} {file : List ℕ} {at : ℕ} {total : Result (List A × ℕ) ImageFault} (r : RowsLeft front left row step kept file at total) where
   -- one row more
-  pub goes_on : (front : List A) (count i later : ℕ) (kept : S) (file : List ℕ) (at : ℕ) (x : A) (after : ℕ) (total : Result (List A × ℕ) ImageFault) → count - i ≡ suc later
-      → row later kept file at ≡ Ok (x, after)
-      → with_front front (many_at (count - i) row step kept file at) ≡ total
-      → with_front (front ++ x ∷ []) (many_at later row step (step kept x) file after) ≡ total
-  goes_on front count i later kept file at x after total k h so_far =
-      let one : with_front front (many_at (count - i) row step kept file at) ≡ with_front (front ++ x ∷ []) (many_at later row step (step kept x) file after) =
+  pub goes_on : {later : ℕ} {x : A} {after : ℕ} → left ≡ suc later → row later kept file at ≡ Ok (x, after) → RowsLeft (front ++ x ∷ []) later row step (step kept x) file after total
+  goes_on {later} {x} {after} k h =
+      let one : with_front front (many_at left row step kept file at) ≡ with_front (front ++ x ∷ []) (many_at later row step (step kept x) file after) =
       rw (k, h) (regroup front x (many_at later row step (step kept x) file after)) in
-      sym one ∙ so_far
+      record { read = sym one ∙ r.read }
 
   -- a row that is refused
-  pub ends : (e : ImageFault) (front : List A) (count i later : ℕ) (kept : S) (file : List ℕ) (at : ℕ) (total : Result (List A × ℕ) ImageFault) → count - i ≡ suc later
-      → Fails e (row later kept file at)
-      → with_front front (many_at (count - i) row step kept file at) ≡ total → Fails e total
-  ends e front count i later kept file at total k h so_far =
-      passed_on e (row later kept file at) total (λ f q. let one : with_front front (many_at (count - i) row step kept file at) ≡ Err f = rw (k, q) refl in sym so_far ∙ one) h
+  pub ends : (e : ImageFault) {later : ℕ} → left ≡ suc later → Fails e (row later kept file at) → Fails e total
+  ends e {later} k h =
+      passed_on e (row later kept file at) total (λ f q. let one : with_front front (many_at left row step kept file at) ≡ Err f = rw (k, q) refl in sym r.read ∙ one) h
 
   -- no row more
-  pub is_done : (front : List A) (count i : ℕ) (kept : S) (file : List ℕ) (at : ℕ) (total : Result (List A × ℕ) ImageFault) → count ≤ i → with_front front (many_at (count - i) row step kept file at) ≡ total → total ≡ Ok (front, at)
-  is_done front count i kept file at total le so_far =
-      let k : count - i ≡ 0 = omega arith in
-      let one : with_front front (many_at (count - i) row step kept file at) ≡ Ok (front, at) = rw (k, append-nil front) refl in
-      sym so_far ∙ one
+  pub is_done : left ≡ 0 → total ≡ Ok (front, at)
+  is_done k =
+      let one : with_front front (many_at left row step kept file at) ≡ Ok (front, at) = rw (k, append-nil front) refl in
+      sym r.read ∙ one

@@ -16,6 +16,7 @@ use Rattle.tal_image.specs.Grammar.{Grammar, done, number, pair, instruction, Fi
 first_is : (b c : ℕ) (s t : List ℕ) → b ∷ s ≡ c ∷ t → b ≡ c
 first_is b c s t e = cc
 
+-- what follows the same byte
 rest_is : (b c : ℕ) (s t : List ℕ) → b ∷ s ≡ c ∷ t → s ≡ t
 rest_is b c s t e = cc
 
@@ -34,6 +35,7 @@ front_of_other (b ∷ s) (c ∷ t) x y e =
 same_number : (n m : ℕ) (x y : List ℕ) → n < 2 ^ 32 → m < 2 ^ 32 → to_le_bytes w32 n ++ x ≡ to_le_bytes w32 m ++ y → n ≡ m
 same_number n m x y ln lm e = sym (from_le_bytes-to_le_bytes_4 n ln) ∙ ap (λ (t : List ℕ). from_le_bytes w32 (take 4 t)) e ∙ from_le_bytes-to_le_bytes_4 m lm
 
+-- what follows the same number
 after_number : (n m : ℕ) (x y : List ℕ) → to_le_bytes w32 n ++ x ≡ to_le_bytes w32 m ++ y → x ≡ y
 after_number n m x y e = ap (λ (t : List ℕ). drop 4 t) e
 
@@ -57,12 +59,14 @@ record SameField {A : Type 0} (f h : Field) (a b : Grammar A) (x y : List ℕ) :
   rest : x ≡ y
 
 module _ (law : PrefixLaw) where
+  -- a spelling at the front of bytes is the only one there
   pub same_text : (s t x y : List ℕ) (i j : Inst) → Spells s i → Spells t j → s ++ x ≡ t ++ y → (s ≡ t) × (i ≡ j)
   same_text s t x y i j a b e = elim (front_of_other s t x y e) [
     | inl k ↦ (let l = law s t k.0 i j a b k.1 in (sym (append-nil s) ∙ ap (λ (z : List ℕ). s ++ z) (sym l.0) ∙ k.1, l.1))
     | inr k ↦ (let l = law t s k.0 j i b a k.1 in (sym (sym (append-nil t) ∙ ap (λ (z : List ℕ). t ++ z) (sym l.0) ∙ k.1), sym l.1))
   ]
 
+  -- a field that meets what comes next is the only one at the front of the bytes
   same_field : {A : Type 0} (g : Grammar A) (f h : Field) (a b : Grammar A) (x y : List ℕ) → Meets g f a → Meets g h b → field_text f ++ x ≡ field_text h ++ y → SameField f h a b x y
   same_field (number ok fault next) (Number n) (Number m) a b x y p q e =
       let k = same_number n m x y p.0 q.0 e in

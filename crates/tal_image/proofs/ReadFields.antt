@@ -4,7 +4,7 @@ use Rattle.std.specs.Prelude.{nat_lt, nat_le}
 use Rattle.std.specs.Int.{w32, to_le_bytes, from_le_bytes}
 use Rattle.std.proofs.lemmas.Bool.Decides.{nat_tests}
 use Rattle.std.proofs.lemmas.Nat.{le_bytes_4}
-use Rattle.std.proofs.lemmas.List.{length-append, length-drop, drop-drop, take-append-drop}
+use Rattle.std.proofs.lemmas.List.{length-take-le, length-append, length-drop, drop-drop, take-append-drop}
 use Rattle.ia32_code.specs.declared.instruction.Inst.{Inst}
 use Rattle.ia32_code.specs.declared.decoding.Decoded.{Decoded}
 use Rattle.ia32_code.specs.declared.decoding.Decoded.TheVariants as answer
@@ -20,11 +20,13 @@ use Rattle.tal_image.specs.Reading.{◌>>=◌, number_at, pair_at, answered, run
 abbrev pub AreBytes : List ℕ → Type 0
 AreBytes bytes = (i : ℕ) → get_or bytes i 0 < 256
 
+-- what is left of bytes are bytes
 pub bytes_after : (n : ℕ) (bytes : List ℕ) → AreBytes bytes → AreBytes (drop n bytes)
 bytes_after zero bytes fits = fits
 bytes_after (suc n) [] fits = fits
 bytes_after (suc n) (b ∷ bytes) fits = bytes_after n bytes (λ i. fits (suc i))
 
+-- and so are the first four
 front_4 : (a b c d : ℕ) (bytes : List ℕ) → AreBytes (a ∷ b ∷ c ∷ d ∷ bytes) → AreBytes (a ∷ b ∷ c ∷ d ∷ [])
 front_4 a b c d bytes fits zero = fits 0
 front_4 a b c d bytes fits (suc zero) = fits 1
@@ -36,6 +38,7 @@ front_4 a b c d bytes fits (suc (suc (suc (suc i)))) = lit< tt
 abbrev front_number : List ℕ → ℕ
 front_number bytes = from_le_bytes w32 (take 4 bytes)
 
+-- four bytes are those of the number that they are
 four : (bytes : List ℕ) → AreBytes bytes → 4 ≤ length bytes → (front_number bytes < 2 ^ 32) × (bytes ≡ to_le_bytes w32 (front_number bytes) ++ drop 4 bytes)
 four [] fits h = absurd (omega arith)
 four (a ∷ []) fits h = absurd (omega arith)
@@ -81,6 +84,7 @@ record PairRead (file : List ℕ) (at n m : ℕ) : Type 0 where
   parts : drop at file ≡ (to_le_bytes w32 n ++ to_le_bytes w32 m) ++ drop (at + 8) file
   within : at + 8 ≤ length file
 
+-- the file ends too early, or two numbers are read
 pair_cases : (file : List ℕ) (at : ℕ) → AreBytes file → at ≤ length file → ((pair_at file at ≡ Err (Short (length file))) × (length (drop at file) < 8)) ⊎ ((n m : ℕ) × PairRead file at n m)
 pair_cases file at fits le = go (nat_lt (length (drop at file)) 8) refl
   where
@@ -138,6 +142,7 @@ cons_took g file at next f mid x end m e p t = record {
   within = t.within;
 }
 
+-- a field that was read before the one that failed
 cons_failed : {A : Type 0} (g : Grammar A) (file : List ℕ) (at next : ℕ) (f : Field) (mid : Grammar A) (h : ImageFault) → Meets g f mid → drop at file ≡ field_text f ++ drop next file → next ≡ at + length (field_text f) → Failed mid file next h → Failed g file at h
 cons_failed g file at next f mid h m e p t = record {
   fields = f ∷ t.fields;
@@ -166,6 +171,7 @@ let_through : {A : Type 0} (b : Bool) (r : Result A ImageFault) (f : ImageFault)
 let_through true r f x e = (refl, e)
 let_through false r f x e = absurd cc
 
+-- a reading under a test fails by itself or by the test
 held_back : {A : Type 0} (b : Bool) (r : Result A ImageFault) (f h : ImageFault) → cond b r (Err f) ≡ Err h → ((b ≡ true) × (r ≡ Err h)) ⊎ ((b ≡ false) × (h ≡ f))
 held_back true r f h e = inl (refl, e)
 held_back {A} false r f h e = inr (refl, fault_is {B = A} h f (sym e))
@@ -173,22 +179,20 @@ held_back {A} false r f h e = inr (refl, fault_is {B = A} h f (sym e))
     fault_is : {B : Type 0} (x y : ImageFault) → (let l : Result B ImageFault = Err x in l) ≡ Err y → x ≡ y
     fault_is x y d = cc
 
+-- two readings that are the same read the same
 ok_is : {A : Type 0} (x y : A) (n m : ℕ) → (let l : Result (A × ℕ) ImageFault = Ok (x, n) in l) ≡ Ok (y, m) → (x ≡ y) × (n ≡ m)
 ok_is {A} x y n m e = let k = pair_is (x, n) (y, m) e in (ap (λ (z : A × ℕ). z.0) k, ap (λ (z : A × ℕ). z.1) k)
   where
     pair_is : (p q : A × ℕ) → (let l : Result (A × ℕ) ImageFault = Ok p in l) ≡ Ok q → p ≡ q
     pair_is p q d = cc
 
+-- and fail by the same fault
 err_is : {B : Type 0} (x y : ImageFault) → (let l : Result B ImageFault = Err x in l) ≡ Err y → x ≡ y
 err_is x y e = cc
 
-length-take : (n : ℕ) (bytes : List ℕ) → n ≤ length bytes → length (take n bytes) ≡ n
-length-take zero bytes h = refl
-length-take (suc n) [] h = absurd (omega arith)
-length-take (suc n) (b ∷ bytes) h = let e = length-take n bytes (omega arith) in omega arith
-
 -- ---- an instruction
 
+-- the first part of two
 take-append : (s t : List ℕ) → take (length s) (s ++ t) ≡ s
 take-append [] t = refl
 take-append (b ∷ s) t = ap (λ (z : List ℕ). b ∷ z) (take-append s t)
@@ -200,13 +204,14 @@ record InstructionRead (file : List ℕ) (at len : ℕ) (i : Inst) : Type 0 wher
   parts : drop at file ≡ take len (drop at file) ++ drop (at + len) file
   within : at + len ≤ length file
 
+-- an instruction was read
 instruction_read : (file : List ℕ) (at len : ℕ) (i : Inst) → at ≤ length file → Answers (drop at file) (answer.One i len) → InstructionRead file at len i
 instruction_read file at len i le a =
     let b = length-drop at file in
     let long = a.1 in
     record {
       spells = a.2;
-      long = length-take len (drop at file) a.1;
+      long = length-take-le len (drop at file) a.1;
       parts = sym (take-append-drop len (drop at file)) ∙ ap (λ (z : List ℕ). take len (drop at file) ++ z) (drop-drop len at file);
       within = omega arith;
     }
@@ -218,7 +223,7 @@ after_read next file at len i = run (next (take len (drop at file)) i) file (at 
 -- a front that spells an instruction of so many bytes has no other length
 one_front : (law : PrefixLaw) (bytes text rest : List ℕ) (i j : Inst) (len : ℕ) → len ≤ length bytes → Spells (take len bytes) i → Spells text j → bytes ≡ text ++ rest → length text ≡ len
 one_front law bytes text rest i j len le s t e =
-    let k = length-take len bytes le in
+    let k = length-take-le len bytes le in
     let both : take len bytes ++ drop len bytes ≡ text ++ rest = take-append-drop len bytes ∙ e in
     let same = same_text law (take len bytes) text (drop len bytes) rest i j s t both in
     ap length (sym same.0) ∙ k
@@ -228,6 +233,7 @@ no_spelling : (bytes text rest : List ℕ) (i : Inst) → (HasFront bytes → �
 no_spelling bytes text rest i none s e =
     none (i, length text, subst (λ (z : List ℕ). Spells z i) (sym (ap (take (length text)) e ∙ take-append text rest)) s)
 
+-- what a reading from an instruction on took
 instruction_took : {A : Type 0} (law : DecodedLaw) (room : ℕ) (next : List ℕ → Inst → Grammar A) (file : List ℕ) (at : ℕ) (x : A) (end : ℕ) → AreBytes file → at ≤ length file → run (instruction room next) file at ≡ Ok (x, end)
     → ((len : ℕ) (i : Inst) → at + len ≤ length file → after_read next file at len i ≡ Ok (x, end) → Took (next (take len (drop at file)) i) file (at + len) x end)
     → Took (instruction room next) file at x end
@@ -243,6 +249,7 @@ instruction_took {A} law room next file at x end fits le e more = go (decoded (d
         let long = r.long in
         cons_took (instruction room next) file at (at + len) (Instruction (take len (drop at file)) i) (next (take len (drop at file)) i) x end (r.spells, omega arith, refl) r.parts (omega arith) (more len i r.within k.1)
 
+-- and where it failed
 instruction_failed : {A : Type 0} (law : DecodedLaw) (prefix : PrefixLaw) (room : ℕ) (next : List ℕ → Inst → Grammar A) (file : List ℕ) (at : ℕ) (f : ImageFault) → AreBytes file → at ≤ length file → run (instruction room next) file at ≡ Err f
     → ((len : ℕ) (i : Inst) → at + len ≤ length file → after_read next file at len i ≡ Err f → Failed (next (take len (drop at file)) i) file (at + len) f)
     → Failed (instruction room next) file at f

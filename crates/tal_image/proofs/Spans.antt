@@ -12,6 +12,7 @@ use Rattle.tal_image.specs.declared.parts.FunctionPart.{FunctionPart}
 use Rattle.tal_image.specs.Conditions.{Tables, length_fits, fun_rows}
 use Rattle.tal_image.specs.Fields.{after_function}
 use Rattle.tal_image.specs.Formed.{EachAfter, IsFunction}
+use Rattle.tal_image.specs.CodeReading.{code_length}
 use Rattle.tal_image.specs.Kept.{RisesBy}
 use Rattle.tal_image.specs.Shown.{spans, span_of, begun_by}
 use Rattle.tal_image.proofs.KeyedRows.{first_with, first_with-found, first_with-missing}
@@ -22,6 +23,7 @@ unfolding fun_rows spans
 addresses-spans a [] = refl
 addresses-spans a (f ∷ fs) = ap (λ l. a ∷ l) (addresses-spans (a + f.length) fs)
 
+-- each function has a span
 pub length-spans : (a : ℕ) (fs : List FunctionPart) → length (spans a fs) ≡ length fs
 unfolding spans
 length-spans a [] = refl
@@ -76,6 +78,15 @@ code_holds t left (f ∷ fs) each =
     let whole = sum_by-cons (λ (f : FunctionPart). f.length) f fs in
     let here = fits (length fs) left f.length each.0.condition_13 in
     let rest = code_holds t (after_function left f) fs each.1 in
+    omega arith
+
+-- the bytes of all functions, one function after another
+pub code_length-sum : (fs : List FunctionPart) → code_length fs ≡ sum_by (λ (f : FunctionPart). f.length) fs
+unfolding code_length
+code_length-sum [] = omega arith
+code_length-sum (f ∷ fs) =
+    let whole = sum_by-cons (λ (f : FunctionPart). f.length) f fs in
+    let rest = code_length-sum fs in
     omega arith
 
 -- so their spans start at rising addresses
@@ -167,6 +178,7 @@ module _ (fs : List FunctionPart) (some : All (λ f. 0 < f.length) fs) (a : ℕ)
       let from : (get_or (spans a fs) i s).start ≤ pc = subst (λ n. n ≤ pc) (get_or-map (λ (s : Span). s.start) (spans a fs) i s 0 w) low in
       span_of-found a fs pc i s is.0 from (rw is.1 high) ∙ ap Some is.1
 
+  -- an address behind the last function that begins before it is in none
   pub holds-nowhere : (pc i : ℕ) (s : Span) → slice_get (spans a fs) i ≡ Some s → s.end ≤ pc → ((k : ℕ) → i < k → k < length (map (λ (s : Span). s.start) (spans a fs)) → pc < get_or (map (λ (s : Span). s.start) (spans a fs)) k 0) → span_of pc (spans a fs) ≡ None
   holds-nowhere pc i s there past later = span_of-missing pc (spans a fs) (λ k d w. by_side k d (rw length-spans at w) (cases_lt i k))
     where
@@ -187,5 +199,6 @@ module _ (fs : List FunctionPart) (some : All (λ f. 0 < f.length) fs) (a : ℕ)
           inl (subst (λ n. pc < n) (get_or-map (λ (s : Span). s.start) (spans a fs) k d 0 w) (later k behind (rw (length-map (spans a fs)) w)))
       by_side k d within (inr upto) = inr (ended k d within upto (cases_eq k i))
 
+  -- an address before all functions is in none
   pub holds-before : (pc : ℕ) → ((k : ℕ) → k < length (map (λ (s : Span). s.start) (spans a fs)) → pc < get_or (map (λ (s : Span). s.start) (spans a fs)) k 0) → span_of pc (spans a fs) ≡ None
   holds-before pc later = span_of-missing pc (spans a fs) (λ k d w. inl (subst (λ n. pc < n) (get_or-map (λ (s : Span). s.start) (spans a fs) k d 0 w) (later k (rw (length-map (spans a fs)) w))))

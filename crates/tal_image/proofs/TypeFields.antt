@@ -20,6 +20,7 @@ use Rattle.tal_image.proofs.PartMeanings.{Means, at_end}
 none_below : {X : Type 0} (i : ℕ) → nat_lt i 0 ≡ true → X
 none_below {X} i h = let no : ⊥ = grind (arith, nat_tests) in absurd no
 
+-- a type without an index has index 0
 zero_below : (i : ℕ) → nat_lt i 1 ≡ true → 0 ≡ i
 zero_below i h = grind (arith, nat_tests)
 
@@ -38,6 +39,7 @@ same_tag t (suc (suc (suc (suc (suc (suc (suc (suc zero)))))))) index h = refl
 same_tag t (suc (suc (suc (suc (suc (suc (suc (suc (suc zero))))))))) index h = refl
 same_tag t (suc (suc (suc (suc (suc (suc (suc (suc (suc (suc n)))))))))) index h = none_below index h
 
+-- the index of the type with a tag and an index
 same_index : (t : Tables) (tag index : ℕ) → type_fits t tag index ≡ true → index_of (type_of tag index) ≡ index
 unfolding type_fits type_of index_of
 same_index t zero index h = zero_below index h
@@ -133,6 +135,7 @@ field_back (RefField c) = refl
 field_back (ArrRefField k) = refl
 field_back (FunField s) = refl
 
+-- the tag of the type of a field, a static or an element
 field_tag : (f : FieldTy) → is_field_tag (tag_of (of_field f)) ≡ true
 unfolding of_field tag_of
 field_tag NumField = refl

@@ -27,10 +27,12 @@ longer : (bytes more : List ℕ) → bytes ≢ [] → bytes ++ more ≢ []
 longer [] more h = λ e. h refl
 longer (b ∷ bytes) more h = λ e. absurd cc
 
+-- bytes before some leave some
 longer_behind : (more bytes : List ℕ) → bytes ≢ [] → more ++ bytes ≢ []
 longer_behind [] bytes h = h
 longer_behind (b ∷ more) bytes h = λ e. absurd cc
 
+-- bytes are none or some
 empty_or : (bytes : List ℕ) → (bytes ≡ []) ⊎ (bytes ≢ [])
 empty_or [] = inl refl
 empty_or (b ∷ bytes) = inr (λ e. absurd cc)
@@ -65,6 +67,7 @@ bytes_front (b ∷ front) rest fits zero = fits zero
 bytes_front (b ∷ front) rest fits (suc i) = bytes_front front rest (λ k. fits (suc k)) i
 
 module _ (prefix : PrefixLaw) (law : DecodedLaw) (some : SomeText) (few : FewBytes) (file front : List ℕ) (fits : AreBytes file) (is : IsFront front file) where
+  -- what the front has are bytes
   front_fits : AreBytes front
   front_fits = bytes_front front is.rest (subst AreBytes is.parts fits)
 
@@ -101,6 +104,7 @@ module _ (prefix : PrefixLaw) (law : DecodedLaw) (some : SomeText) (few : FewByt
         fails = inr (some_left (drop end front ++ is.rest) (omega arith), ap (λ (z : ℕ). Rest z) place);
       }
 
+  -- a front is not shorter and longer at once
   too_long : length front ≤ 67108864 → 67108864 < length front → ⊥
   too_long a b = omega arith
 
@@ -124,6 +128,7 @@ module _ (prefix : PrefixLaw) (law : DecodedLaw) (some : SomeText) (few : FewByt
       })
       is.long
 
+  -- a fault was met, or memory was wanting
   pub reads_fault : (f : ImageFault) → Fails f (image_at front 0) → (f ≡ NoMemory) ⊎ FirstFault file f
   reads_fault NoMemory h = inl refl
   reads_fault Magic h = inr (fault_met Magic h)

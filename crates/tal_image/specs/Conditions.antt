@@ -15,14 +15,16 @@ use Rattle.object_layout.specs.Areas.{code_start, statics_start, table_address, 
 use Rattle.object_layout.specs.Classes.{ShapesView, Depth, Fields, signatures}
 use Rattle.tal_types.specs.declared.signatures.Sig.{Sig}
 use Rattle.tal_types.specs.Types.{of_field}
+pub use Rattle.tal_image.specs.declared.parts.Tables.{Tables}
 use Rattle.tal_image.specs.declared.parts.FunctionPart.{FunctionPart}
 use Rattle.tal_image.specs.Image.{ArrayPart, tag_of}
 
--- how many rows the tables have to which types refer
-pub record Tables : Type 0 where
-  pub sigs : ℕ
-  pub classes : ℕ
-  pub kinds : ℕ
+-- the most bytes of code, and the most words of statics and data arrays
+abbrev pub most_code : ℕ
+most_code = 1048576
+
+abbrev pub most_words : ℕ
+most_words = 65536
 
 -- a number from one to another
 abbrev pub between : ℕ → ℕ → ℕ → Bool
@@ -56,7 +58,7 @@ abbrev pub arrays_fit : ℕ → Bool
 arrays_fit n = between 0 65536 n
 
 abbrev pub code_fits : ℕ → Bool
-code_fits n = between 1 1048576 n
+code_fits n = between 1 most_code n
 
 abbrev pub blocks_fit : ℕ → Bool
 blocks_fit n = between 0 65536 n
@@ -135,7 +137,7 @@ kind_fits t k = nat_lt k t.kinds
 
 -- 22: the statics and the data arrays so far, each with the two words before its elements, take at most 65536 words
 abbrev pub array_fits : ℕ → ℕ → Bool
-array_fits used n = nat_le (used + 2 + n) 65536
+array_fits used n = nat_le (used + 2 + n) most_words
 
 -- the words that the statics and the data arrays so far take, with one more data array
 abbrev pub with_array : ℕ → ArrayPart → ℕ
@@ -195,10 +197,14 @@ number_at offset code = option_map_or marked_number (begins_at offset code) None
 unfoldable pub mark_fits : List Spelled → ℕ → ℕ → Bool
 mark_fits code least offset = nat_le least offset && is_some (number_at offset code)
 
+-- how many words a data array takes, with the two before its elements
+abbrev pub array_room : ArrayPart → ℕ
+array_room a = 2 + a.size
+
 -- data arrays one after another from an address on
 unfoldable pub array_places : ℕ → List ArrayPart → List ℕ
 array_places address [] = []
-array_places address (a ∷ arrays) = address ∷ array_places (address + 4 * (2 + a.size)) arrays
+array_places address (a ∷ arrays) = address ∷ array_places (address + 4 * array_room a) arrays
 
 -- the word that a mark of each tag stands for, if it may have this index: null of a class, an array kind or a signature; a function's
 -- address; a class's table; an array kind's descriptor; a data array's address

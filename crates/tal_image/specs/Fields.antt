@@ -13,9 +13,9 @@ use Rattle.tal_image.specs.declared.fault.ImageFault.TheVariants.{Magic, Version
 use Rattle.tal_image.specs.declared.parts.Header.{Header}
 use Rattle.tal_image.specs.declared.parts.FunctionPart.{FunctionPart}
 use Rattle.tal_image.specs.declared.parts.MarkPart.{MarkPart}
-use Rattle.tal_image.specs.Image.{ImageParts, ArrayPart, BlockPart}
+use Rattle.tal_image.specs.Image.{ImageParts, ArrayPart, BlockPart, magic_number}
 use Rattle.tal_image.specs.Conditions.{Tables, heap_fits, stacks_fit, sigs_fit, functions_fit, classes_fit, kinds_fit, statics_fit, arrays_fit, code_fits, blocks_fit, marks_fit, type_fits, length_fits, sig_fits, entry_fits, class_view, parent_fits, inherited_fields, inherited_methods, fields_fit, is_field_tag, methods_fit, method_fits, kind_fits, array_fits, with_array, numbers_given, Spelled, block_fits, slots_fit, number_at, mark_fits, word_fits}
-use Rattle.tal_image.specs.Grammar.{Grammar, done, number, pair, instruction, then_with, many}
+use Rattle.tal_image.specs.Grammar.{Grammar, done, number, pair, instruction, then_with, many, FaultOf}
 
 -- a number under a condition, with the fault where it breaks that
 abbrev pub field : (ℕ → Bool) → (ℕ → ImageFault) → Grammar ℕ
@@ -36,7 +36,7 @@ tables_of h = record { sigs = h.sigs; classes = h.classes; kinds = h.kinds }
 -- the header
 unfoldable pub header_fields : Grammar Header
 header_fields =
-    then_with (field (λ n. n == 0x49565256) (λ at. Magic)) (λ magic.
+    then_with (field (λ n. n == magic_number) (λ at. Magic)) (λ magic.
     then_with (field (λ n. n == 1) (λ at. Version)) (λ version.
     then_with (checked heap_fits 1) (λ heap_words.
     then_with (checked stacks_fit 2) (λ stacks.
@@ -136,12 +136,16 @@ class_fields t functions classes =
 unfoldable pub kind_fields : Tables → Grammar KindRow
 kind_fields t = then_with (field_type_field t) (λ element. done (record { element = element }))
 
+-- a number of a data array, which may be any: the condition with this number is met by all
+abbrev pub any_number : Grammar ℕ
+any_number = checked (λ n. true) 22
+
 -- a data array, where the statics and the data arrays before it take so many words
 unfoldable pub array_fields : Tables → List KindRow → ℕ → Grammar ArrayPart
 array_fields t kinds used =
     then_with (checked (kind_fits t) 21) (λ kind.
     then_with (checked (array_fits used) 22) (λ size.
-    then_with (each (numbers_given kinds kind size) (checked (λ n. true) 22)) (λ ns.
+    then_with (each (numbers_given kinds kind size) any_number) (λ ns.
     done (record { kind = kind; size = size; numbers = ns }))))
 
 -- the instructions of so many bytes; there are not more of them than bytes
@@ -265,3 +269,7 @@ coded_fields =
 -- the fields of an image file
 unfoldable pub image_fields : Grammar ImageParts
 image_fields = then_with coded_fields (λ coded. done coded.image)
+
+-- the first fault of bytes that stand for no image
+abbrev pub FirstFault : List ℕ → ImageFault → Type 0
+FirstFault bytes f = FaultOf image_fields bytes f

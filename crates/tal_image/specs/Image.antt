@@ -75,10 +75,14 @@ types_bytes ts = flat_map type_bytes ts
 abbrev pub field_bytes : FieldTy → List ℕ
 field_bytes t = type_bytes (of_field t)
 
+-- the number whose bytes are the letters VRVI
+abbrev pub magic_number : ℕ
+magic_number = 0x49565256
+
 -- the header: the letters VRVI, the version, the heap's words, the stacks, the counts of the rows with the code's length
 abbrev pub header : ImageParts → List ℕ
 header i =
-    0x49565256 ∷ 1 ∷ i.heap_words ∷ i.stacks
+    magic_number ∷ 1 ∷ i.heap_words ∷ i.stacks
     ∷ length i.sigs ∷ length i.functions ∷ length i.classes ∷ length i.kinds ∷ length i.statics ∷ length i.arrays
     ∷ length i.code ∷ length i.blocks ∷ length i.marks ∷ []
 

@@ -1,5 +1,6 @@
 -- Reading a whole image file: the tables, then the code with what is said of it.
 use Rattle.std.specs.Prelude.{◌≡◌, ℕ, ◌+◌, ◌-◌, ◌*◌, ◌≤◌, ◌<◌, ◌⊎◌, List, [], ◌++◌, length, map, take, drop, Ok}
+use Rattle.std.specs.List.{sum_by}
 use Rattle.object_layout.specs.declared.rows.FieldTy.{FieldTy}
 use Rattle.object_layout.specs.declared.rows.ClassRow.{ClassRow}
 use Rattle.object_layout.specs.declared.rows.KindRow.{KindRow}
@@ -12,11 +13,11 @@ use Rattle.tal_image.specs.declared.image_reader.TableRows.{TableRows}
 use Rattle.tal_image.specs.declared.image_reader.CodeRows.{CodeRows}
 use Rattle.tal_image.specs.Image.{ImageParts, ArrayPart, BlockPart}
 use Rattle.object_layout.specs.Areas.{code_start, statics_start}
-use Rattle.tal_image.specs.Conditions.{fun_rows, array_places}
+use Rattle.tal_image.specs.Conditions.{fun_rows, array_places, array_room, most_code, most_words}
 use Rattle.tal_image.specs.Fields.{tables_of}
 use Rattle.tal_image.specs.Reading.{◌>>=◌, Read, header_at, sigs_at, functions_at, entries_at, kinds_at, statics_at, arrays_at}
 use Rattle.tal_image.specs.ClassReading.{classes_at}
-use Rattle.tal_image.specs.CodeReading.{function_starts, code_at, blocks_at, marks_at, code_length, array_space}
+use Rattle.tal_image.specs.CodeReading.{function_starts, code_at, blocks_at, marks_at}
 
 -- what stands before the code
 pub record FrontParts : Type 0 where
@@ -44,7 +45,7 @@ front_of r = record {
   entries = r.entries.items;
   classes = r.classes.items;
   kinds = r.kinds.items;
-  statics = r.statics.items;
+  statics = r.statics;
   arrays = r.arrays.items;
 }
 
@@ -115,10 +116,12 @@ image_at file at = do
   behind ← behind_at front.0 file front.1
   Ok (whole front.0 behind.0, behind.1)
 
--- the functions and the data arrays have room in memory
+-- the classes, the array kinds, the functions and the data arrays have room in memory
 pub record HasRoom (f : FrontParts) : Type 0 where
-  pub code : code_length f.functions ≤ 1048576
-  pub arrays : f.header.statics + array_space f.arrays ≤ 65536
+  pub classes : f.header.classes ≤ 1024
+  pub kinds : f.header.kinds ≤ 256
+  pub code : sum_by (λ (row : FunctionPart). row.length) f.functions ≤ most_code
+  pub arrays : f.header.statics + sum_by array_room f.arrays ≤ most_words
 
 -- the bytes are the front of the file: all of it, or more than any image has
 pub record IsFront (front file : List ℕ) : Type 0 where

@@ -1,20 +1,15 @@
 -- What the readers' values stand for, and what an image keeps beside its rows.
-use Rattle.std.specs.Prelude.{◌≡◌, ◌≢◌, ℕ, ◌+◌, ◌^◌, ◌<◌, ◌≤◌, List, [], ◌∷◌, length, map, Option, MatchOption, slice_index, slice_index_or}
+use Rattle.std.specs.Prelude.{◌≡◌, ◌≢◌, ℕ, ◌+◌, ◌*◌, ◌^◌, ◌<◌, ◌≤◌, List, [], ◌∷◌, length, map, Option, MatchOption, slice_index, slice_index_or}
 use Rattle.object_layout.specs.declared.rows.ClassRow.{ClassRow}
 use Rattle.tal_types.specs.declared.views.Span.{Span}
 use Rattle.tal_image.specs.declared.parts.ArrayPart.{ArrayPart}
-use Rattle.tal_image.specs.declared.reader.TableSizes.{TableSizes}
 use Rattle.tal_image.specs.declared.image_rows.ImageRows.{ImageRows}
 use Rattle.tal_image.specs.declared.image.Image.TheInside.{Inside}
 use Rattle.tal_image.specs.Image.{ImageParts, parent_number}
-use Rattle.object_layout.specs.Areas.{code_start}
-use Rattle.tal_image.specs.Conditions.{Tables}
+use Rattle.object_layout.specs.Areas.{code_start, statics_start}
+use Rattle.tal_image.specs.Conditions.{array_room}
 use Rattle.tal_image.specs.Formed.{Formed}
 use Rattle.tal_image.specs.Shown.{spans, shapes_of}
-
--- the sizes of the tables
-abbrev pub tables : TableSizes → Tables
-tables t = record { sigs = t.sigs; classes = t.classes; kinds = t.kinds }
 
 -- the image of these rows
 abbrev pub parts_of : ImageRows → ImageParts
@@ -26,16 +21,16 @@ parts_of r = record {
   entries = r.entries.items;
   classes = r.classes.items;
   kinds = r.kinds.items;
-  statics = r.statics.items;
+  statics = r.statics;
   arrays = r.arrays.items;
   code = r.code.items;
   blocks = r.blocks.items;
   marks = r.marks.items;
 }
 
--- how many words a data array takes, with the two before its elements
-abbrev pub array_room : ArrayPart → ℕ
-array_room a = 2 + a.size
+-- the address of a data array that begins so many words behind so many statics
+abbrev pub data_place : ℕ → ℕ → ℕ
+data_place statics offset = statics_start + 4 * (statics + offset)
 
 -- where data arrays begin that follow one another from a word on, in words
 unfoldable pub array_offsets : ℕ → List ArrayPart → List ℕ

@@ -4,13 +4,10 @@ use Rattle.object_layout.specs.Laws.{ClassLaws}
 use Rattle.tal_image.specs.declared.fault.ImageFault.{ImageFault}
 use Rattle.tal_image.specs.Image.{ImageParts}
 use Rattle.tal_image.specs.Formed.{Formed, ImageOf}
-use Rattle.tal_image.specs.Grammar.{FaultOf, StandsFor}
+use Rattle.tal_image.specs.Grammar.{StandsFor}
 use Rattle.tal_image.specs.Fields.{image_fields}
+pub use Rattle.tal_image.specs.Fields.{FirstFault}
 use Rattle.tal_image.specs.Shown.{shapes_of}
-
--- the first fault of bytes that stand for no image
-abbrev pub FirstFault : List ℕ → ImageFault → Type 0
-FirstFault bytes f = FaultOf image_fields bytes f
 
 -- no bytes stand for two images, none have two first faults, and none that stand for an image have a fault
 pub record OneMeaning : Type 0 where

@@ -15,6 +15,7 @@ use Rattle.tal_image.specs.declared.parts.FunctionPart.{FunctionPart}
 use Rattle.object_layout.specs.declared.rows.KindRow.{KindRow}
 use Rattle.tal_image.specs.declared.parts.ArrayPart.{ArrayPart}
 use Rattle.tal_image.specs.Conditions.{Tables, between, heap_fits, type_fits, is_field_tag, length_fits, sig_fits, entry_fits, kind_fits, array_fits, with_array, numbers_given, Spelled}
+use Rattle.tal_image.specs.Image.{magic_number}
 use Rattle.tal_image.specs.Grammar.{Grammar, done, number, pair, instruction}
 use Rattle.tal_image.specs.Fields.{type_of, field_type_of, after_function, instructions}
 
@@ -65,6 +66,10 @@ abbrev pub many_at : {S A : Type 0} → ℕ → (ℕ → S → Read A) → (S �
 many_at zero row step kept file at = Ok ([], at)
 many_at (suc n) row step kept file at = row n kept file at >>= λ x. many_at n row step (step kept x.0) file x.1 >>= λ xs. Ok (x.0 ∷ xs.0, xs.1)
 
+-- so many rows that look at nothing but themselves
+abbrev pub rows_at : {A : Type 0} → Read A → ℕ → Read (List A)
+rows_at row n file at = many_at {S = ℕ} n (λ later kept. row) (λ kept x. kept) 0 file at
+
 -- what comes after the answer to bytes that have so many bytes of room, at a place of a file with so many bytes
 abbrev pub answered : {A : Type 0} → Decoded → (ℕ → Inst → Result A ImageFault) → ℕ → ℕ → ℕ → Result A ImageFault
 answered (answer.One i len) next room at all = cond (nat_le len room) (next len i) (Err (Bad at 23))
@@ -82,7 +87,7 @@ run (instruction room next) file at = answered (decoded (drop at file)) (λ len 
 unfoldable pub header_at : Read Header
 header_at file at = do
   magic ← number_at file at
-  if magic.0 == 0x49565256 then (do
+  if magic.0 == magic_number then (do
     version ← number_at file magic.1
     if version.0 == 1 then (do
       heap_words ← checked_at heap_fits 1 file version.1
@@ -135,11 +140,11 @@ functions_at t n left file at = many_at n (λ later kept. function_at t later ke
 
 -- the functions at which stacks begin
 abbrev pub entries_at : List Sig → List FunctionPart → ℕ → Read (List ℕ)
-entries_at sigs functions n file at = many_at {S = ℕ} n (λ later kept. checked_at (entry_fits sigs functions) 15) (λ kept x. kept) 0 file at
+entries_at sigs functions n file at = rows_at (checked_at (entry_fits sigs functions) 15) n file at
 
--- the types of statics
+-- the types of statics, or of the fields of a class
 abbrev pub statics_at : Tables → ℕ → Read (List FieldTy)
-statics_at t n file at = many_at {S = ℕ} n (λ later kept. field_type_at t) (λ kept x. kept) 0 file at
+statics_at t n file at = rows_at (field_type_at t) n file at
 
 -- a type, and others of a signature or a block
 abbrev pub seven_at : Tables → Read (List Ty)
@@ -162,7 +167,7 @@ sig_at t file at = do
 
 -- signatures one after another
 abbrev pub sigs_at : Tables → ℕ → Read (List Sig)
-sigs_at t n file at = many_at {S = ℕ} n (λ later kept. sig_at t) (λ kept x. kept) 0 file at
+sigs_at t n file at = rows_at (sig_at t) n file at
 
 -- an array kind
 unfoldable pub kind_at : Tables → Read KindRow
@@ -170,15 +175,19 @@ kind_at t file at = field_type_at t file at >>= λ x. Ok (record { element = x.0
 
 -- array kinds one after another
 abbrev pub kinds_at : Tables → ℕ → Read (List KindRow)
-kinds_at t n file at = many_at {S = ℕ} n (λ later kept. kind_at t) (λ kept x. kept) 0 file at
+kinds_at t n file at = rows_at (kind_at t) n file at
 
 -- types one after another
 abbrev pub types_at : Tables → ℕ → Read (List Ty)
-types_at t n file at = many_at {S = ℕ} n (λ later kept. type_at t) (λ kept x. kept) 0 file at
+types_at t n file at = rows_at (type_at t) n file at
 
--- numbers without a condition
+-- a number of a data array, which may be any
+abbrev pub any_number_at : Read ℕ
+any_number_at = checked_at (λ m. true) 22
+
+-- numbers of a data array
 abbrev pub words_at : ℕ → Read (List ℕ)
-words_at n file at = many_at {S = ℕ} n (λ later kept. checked_at (λ m. true) 22) (λ kept x. kept) 0 file at
+words_at n file at = rows_at any_number_at n file at
 
 -- a data array, where the statics and the data arrays before it take so many words
 unfoldable pub array_at : Tables → List KindRow → ℕ → Read ArrayPart

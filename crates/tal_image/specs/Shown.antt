@@ -65,10 +65,10 @@ unfoldable pub data_row_in : ImageParts → ℕ → Option DataRow
 data_row_in i d = option_and_then (λ (a : ArrayPart). option_map (λ place. record { place = place; kind = a.kind; length = a.size })
     (slice_get (array_places (statics_start + 4 * length i.statics) i.arrays) d)) (slice_get i.arrays d)
 
--- the first words of a data array: its descriptor's address, its length, its elements; those that the file does not give are 0
+-- the words of a data array as they are at first: its descriptor's address, its length, its elements; those that the file does not give are 0
 unfoldable pub array_words : ArrayPart → List ℕ
 array_words a = descriptor_address a.kind ∷ a.size ∷ (a.numbers ++ replicate (a.size - length a.numbers) 0)
 
--- the first words of the data arrays, which follow the last static without a gap
+-- the words of the data arrays as they are at first, which follow the last static without a gap
 unfoldable pub data_words : ImageParts → List ℕ
 data_words i = flat_map array_words i.arrays

@@ -4,26 +4,25 @@ ghost use Rattle.std.specs.Prelude.{◌≡◌, ◌≤◌, ◌+◌, ◌++◌, ◌
 ghost use Rattle.object_layout.specs.Classes.{ShapesView};
 ghost use Rattle.tal_image.specs.Conditions.{class_view, parent_fits, fields_fit, methods_fit, method_fits};
 ghost use Rattle.tal_image.specs.Fields.{parent_of, with_class};
-ghost use Rattle.tal_image.specs.Reading.{GivesAt, GivesView, checked_at, statics_at};
+ghost use Rattle.tal_image.specs.Reading.{GivesAt, GivesView, checked_at};
 ghost use Rattle.tal_image.specs.ClassReading.{class_at, classes_at, methods_at, signature_in, above_methods, slot_fits, AreSizes, IsAbove, behind_parent_at};
-ghost use Rattle.tal_image.specs.Kept.{tables};
 
 use crate::fault::ImageFault;
-use crate::parts::FunctionPart;
-use crate::reader::{Reader, TableSizes};
-use object_layout::{ClassRow, FieldList, MethodList};
+use crate::parts::{FunctionPart, Tables};
+use crate::reader::{Reader, require};
+use object_layout::{ClassRow, MethodList};
 use std::alloc::Global;
 
 /// How many classes stand from the root down to a class, and how many fields it has with theirs.
 #[derive(Clone, Copy, Debug, PartialEq, Eq)]
-pub struct ClassSize {
+pub(crate) struct ClassSize {
     pub lineage: u32,
     pub fields: u32,
 }
 
 /// A class and its size.
 #[derive(Drop)]
-pub struct SizedClass {
+pub(crate) struct SizedClass {
     pub row: ClassRow,
     pub size: ClassSize,
 }
@@ -33,46 +32,35 @@ pub struct SizedClass {
 fn parent_of(number: u32) -> Option<u32>
     ensures { result ≡ parent_of number }
 {
-    if number == 0 { None } else { Some(number - 1) }
-}
-
-/// The size of a class.
-fn size_at(sizes: &[ClassSize], class: usize) -> Option<ClassSize>
-    ensures { result ≡ slice_get sizes.now class }
-{
-    match sizes.get(class) {
-        Some(size) => Some(*size),
-        None => None,
-    }
+    number.checked_sub(1)
 }
 
 /// The size of what stands above a class with the parent of this number; none where it may not have that parent.
 fn size_above(sizes: &[ClassSize], number: u32) -> Option<ClassSize>
     ensures { (s : ShapesView) → AreSizes s sizes.now → MatchOption result (parent_fits s number ≡ false) (λ size. IsAbove s number size) }
 {
-    if number == 0 {
-        return Some(ClassSize {
+    match parent_of(number) {
+        None => Some(ClassSize {
             lineage: 0,
             fields: 0,
-        });
-    }
-    match size_at(sizes, number as usize - 1) {
-        Some(size) => { if size.lineage <= 7 { Some(size) } else { None } }
-        None => None,
+        }),
+        Some(parent) => match sizes.get(parent as usize) {
+            Some(size) if size.lineage <= 7 => Some(*size),
+            _ => None,
+        },
     }
 }
 
 /// The functions in the slots that a class takes over from the parent with a number.
-#[tactic(auto, unfolding(crate::specs::ClassReading::above_methods, object_layout::specs::Classes::Methods))]
 fn methods_above(classes: &[ClassRow], number: u32) -> &[u32]
     ensures { (s : ShapesView) → s.classes ≡ classes.now → result.now ≡ above_methods s number }
 {
-    if number == 0 {
-        return &[];
-    }
-    match classes.get(number as usize - 1) {
-        Some(row) => row.methods.items(),
+    match parent_of(number) {
         None => &[],
+        Some(parent) => match classes.get(parent as usize) {
+            Some(row) => row.methods.items(),
+            None => &[],
+        },
     }
 }
 
@@ -81,10 +69,7 @@ fn methods_above(classes: &[ClassRow], number: u32) -> &[u32]
 fn signature(functions: &[FunctionPart], function: u32) -> u32
     ensures { result ≡ signature_in functions.now function }
 {
-    match functions.get(function as usize) {
-        Some(row) => row.sig,
-        None => 0,
-    }
+    functions.get(function as usize).map_or(0, |row| row.sig)
 }
 
 /// Whether a function may stand in a method slot, where these functions stand in the slots that are taken over.
@@ -124,11 +109,8 @@ impl Reader<'_> {
     {
         let at = self.at as u32;
         let number = self.number()?;
-        if u64::from(above) + u64::from(number) <= 256 {
-            Ok(number)
-        } else {
-            Err(ImageFault::Bad { at, field: 17 })
-        }
+        require(u64::from(above) + u64::from(number) <= 256, at, 17)?;
+        Ok(number)
     }
 
     /// The next number, of a class's methods, where it takes over so many.
@@ -138,30 +120,8 @@ impl Reader<'_> {
     {
         let at = self.at as u32;
         let number = self.number()?;
-        if above <= number as usize && number <= 53 {
-            Ok(number)
-        } else {
-            Err(ImageFault::Bad { at, field: 19 })
-        }
-    }
-
-    /// The types of the next fields, so many.
-    fn fields(
-        &mut self,
-        alloc: Global,
-        table: &TableSizes,
-        count: u32,
-    ) -> Result<FieldList, ImageFault>
-        ensures gives { GivesAt result (statics_at (tables table.now) count self.old.file.now self.old.at) self.new.at }
-        ensures file { self.new.file ≡ self.old.file }
-        ensures count { IfOk result (λ fields. length fields ≡ count) }
-    {
-        let mut fields = FieldList::new(alloc);
-        for i in 0..count {
-            let one = self.field_type(table)?;
-            fields.push(one)?;
-        }
-        Ok(fields)
+        require(above <= number as usize && number <= 53, at, 19)?;
+        Ok(number)
     }
 
     /// The next number, the function in a method slot, where these functions stand in the slots that are taken over.
@@ -177,11 +137,8 @@ impl Reader<'_> {
     {
         let at = self.at as u32;
         let function = self.number()?;
-        if slot_fits(functions, above, slot, function) {
-            Ok(function)
-        } else {
-            Err(ImageFault::Bad { at, field: 20 })
-        }
+        require(slot_fits(functions, above, slot, function), at, 20)?;
+        Ok(function)
     }
 
     /// The functions in the next method slots, so many, where these stand in the slots that are taken over.
@@ -209,19 +166,19 @@ impl Reader<'_> {
     fn behind_parent(
         &mut self,
         alloc: Global,
-        table: &TableSizes,
+        tables: &Tables,
         functions: &[FunctionPart],
         number: u32,
         above: u32,
         taken: &[u32],
     ) -> Result<ClassRow, ImageFault>
-        ensures gives { GivesAt result (behind_parent_at (tables table.now) functions.now number above (map (signature_in functions.now) taken.now) self.old.file.now self.old.at) self.new.at }
+        ensures gives { GivesAt result (behind_parent_at tables.now functions.now number above (map (signature_in functions.now) taken.now) self.old.file.now self.old.at) self.new.at }
         ensures file { self.new.file ≡ self.old.file }
         ensures parent { IfOk result (λ row. row.parent ≡ parent_of number) }
         ensures fits { IfOk result (λ row. above + length row.fields ≤ 256) }
     {
         let own = self.own_fields(above)?;
-        let fields = self.fields(alloc, table, own)?;
+        let fields = self.field_types(alloc, tables, own)?;
         let count = self.method_count(taken.len())?;
         let methods = self.methods(alloc, functions, taken, count)?;
         Ok(ClassRow {
@@ -235,19 +192,19 @@ impl Reader<'_> {
     fn class(
         &mut self,
         alloc: Global,
-        table: &TableSizes,
+        tables: &Tables,
         functions: &[FunctionPart],
         classes: &[ClassRow],
         sizes: &[ClassSize],
     ) -> Result<SizedClass, ImageFault>
         requires { AreSizes (class_view functions.now classes.now) sizes.now }
-        ensures gives { GivesView (λ c. c.row) result (class_at (tables table.now) functions.now classes.now self.old.file.now self.old.at) self.new.at }
+        ensures gives { GivesView (λ c. c.row) result (class_at tables.now functions.now classes.now self.old.file.now self.old.at) self.new.at }
         ensures file { self.new.file ≡ self.old.file }
         ensures sized { IfOk result (λ c. AreSizes (class_view functions.now (with_class classes.now c.row)) (sizes.now ++ c.size ∷ [])) }
     {
         let (number, above) = self.parent(sizes)?;
         let taken = methods_above(classes, number);
-        let row = self.behind_parent(alloc, table, functions, number, above.fields, taken)?;
+        let row = self.behind_parent(alloc, tables, functions, number, above.fields, taken)?;
         let size = ClassSize {
             lineage: above.lineage + 1,
             fields: above.fields + row.fields.items().len() as u32,
@@ -256,20 +213,20 @@ impl Reader<'_> {
     }
 
     /// The next classes, so many.
-    pub fn classes(
+    pub(crate) fn classes(
         &mut self,
         alloc: Global,
-        table: &TableSizes,
+        tables: &Tables,
         functions: &[FunctionPart],
         count: u32,
     ) -> Result<Vec<ClassRow>, ImageFault>
-        ensures gives { GivesView (λ v. v.items) result (classes_at (tables table.now) functions.now count self.old.file.now self.old.at) self.new.at }
+        ensures gives { GivesView (λ v. v.items) result (classes_at tables.now functions.now count self.old.file.now self.old.at) self.new.at }
         ensures file { self.new.file ≡ self.old.file }
     {
         let mut classes = Vec::new(alloc);
         let mut sizes = Vec::new(alloc);
         for i in 0..count {
-            let one = self.class(alloc, table, functions, &classes, &sizes)?;
+            let one = self.class(alloc, tables, functions, &classes, &sizes)?;
             classes.push(one.row)?;
             sizes.push(one.size)?;
         }

@@ -2,13 +2,14 @@ ghost use Rattle.std.specs.Prelude.{◌≡◌, ◌⊎◌, IfOk, IfErr, MatchResu
 ghost use Rattle.tal_image.specs.declared.fault.ImageFault.{ImageFault};
 ghost use Rattle.tal_image.specs.Image.{ImageParts, FileOf, header};
 ghost use Rattle.tal_image.specs.Formed.{ImageOf};
-ghost use Rattle.tal_image.specs.Laws.{FirstFault};
+ghost use Rattle.tal_image.specs.Fields.{FirstFault};
 
 use crate::fault::ImageFault;
 use crate::image::Image;
 use crate::image_reader::image_rows;
 use crate::laws::one_meaning;
-use crate::writing::{put_all, room};
+use crate::parts::MAGIC;
+use crate::writing::put_all;
 use no_memory::NoMemory;
 use std::alloc::Global;
 
@@ -31,7 +32,7 @@ impl Image {
     {
         let rows = &self.rows;
         [
-            0x4956_5256,
+            MAGIC,
             1,
             rows.heap_words,
             rows.stacks,
@@ -39,7 +40,7 @@ impl Image {
             rows.functions.len() as u32,
             rows.classes.len() as u32,
             rows.kinds.len() as u32,
-            rows.statics.len() as u32,
+            rows.statics.items().len() as u32,
             rows.arrays.len() as u32,
             rows.code.len() as u32,
             rows.blocks.len() as u32,
@@ -53,14 +54,14 @@ impl Image {
         ensures stands { IfOk result (λ bytes. ImageOf bytes.items self.now) }
     {
         let rows = &self.rows;
-        let mut file = Vec::with_capacity(alloc, room(rows))?;
+        let mut file = Vec::new(alloc);
         put_all(&mut file, &self.header())?;
         put_all(&mut file, &rows.sigs)?;
         put_all(&mut file, &rows.functions)?;
         put_all(&mut file, &rows.entries)?;
         put_all(&mut file, &rows.classes)?;
         put_all(&mut file, &rows.kinds)?;
-        put_all(&mut file, &rows.statics)?;
+        put_all(&mut file, rows.statics.items())?;
         put_all(&mut file, &rows.arrays)?;
         file.extend_from_slice(&rows.code)?;
         put_all(&mut file, &rows.blocks)?;

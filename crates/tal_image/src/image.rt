@@ -1,12 +1,15 @@
 ghost use Rattle.std.specs.Prelude.{◌≡◌, ◌≤◌, length, slice_get, IfOk};
+ghost use Rattle.object_layout.specs.Areas.{code_start};
+ghost use Rattle.tal_image.specs.Conditions.{fun_rows};
 ghost use Rattle.tal_image.specs.Formed.{Formed};
 ghost use Rattle.tal_image.specs.Kept.{parts_of};
+ghost use Rattle.tal_image.specs.Shown.{shapes_of};
 
 use crate::image_rows::ImageRows;
-use crate::indexes::{addresses, array_offsets, fun_rows, shapes};
 use crate::parts::{BlockPart, MarkPart};
+use crate::placement::{addresses, array_offsets, fun_rows};
 use no_memory::NoMemory;
-use object_layout::Shapes;
+use object_layout::{FunRow, ShapeFault, Shapes};
 use std::alloc::Global;
 use std::marker::Model;
 use tal_types::Sig;
@@ -33,6 +36,27 @@ impl Model for Image {
     ghost view = { λ i. parts_of i.rows };
 
     ghost invariant = { IsKept };
+}
+
+/// The classes and the array kinds of an image whose functions have these addresses.
+fn shapes(alloc: Global, rows: &ImageRows, funs: &[FunRow]) -> Result<Shapes, NoMemory>
+    requires formed { Formed (parts_of rows.now) }
+    requires funs { funs.now ≡ fun_rows code_start rows.now.functions.items }
+    ensures { IfOk result (λ shapes. shapes ≡ shapes_of (parts_of rows.now)) }
+{
+    match Shapes::of(
+        alloc,
+        &rows.classes,
+        &rows.kinds,
+        funs,
+        rows.sigs.len() as u32,
+    ) {
+        Ok(shapes) => Ok(shapes),
+        Err(fault) => {
+            prove!(matches!(&fault, ShapeFault::NoMemory));
+            Err(NoMemory)
+        }
+    }
 }
 
 impl Image {

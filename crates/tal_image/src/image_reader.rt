@@ -1,88 +1,60 @@
 // The reader of a whole image file: the tables, then the code with what is said of it, then the end of the file.
 ghost use Rattle.std.specs.Prelude.{◌≡◌, ◌⊎◌, ◌≤◌, ◌-◌, ◌<◌, ◌^◌, length, take, drop, IfOk, IfErr};
 ghost use Rattle.tal_image.specs.declared.fault.ImageFault.TheVariants.{NoMemory as no_memory};
-ghost use Rattle.tal_image.specs.Fields.{tables_of};
 ghost use Rattle.tal_image.specs.Formed.{ImageOf};
-ghost use Rattle.tal_image.specs.Laws.{FirstFault};
+ghost use Rattle.tal_image.specs.Fields.{FirstFault};
 ghost use Rattle.tal_image.specs.Reading.{GivesView};
-ghost use Rattle.tal_image.specs.ImageReading.{front_of, behind_of, front_at, behind_at, image_at, HasRoom, addresses_of, places_of, IsFront};
-ghost use Rattle.tal_image.specs.Kept.{parts_of, tables};
+ghost use Rattle.tal_image.specs.ImageReading.{front_of, behind_of, front_at, behind_at, image_at, HasRoom, IsFront};
+ghost use Rattle.tal_image.specs.Kept.{parts_of};
 
-use crate::code_reader::{Words, addresses, function_starts, places};
+use crate::code_reader::function_starts;
 use crate::fault::ImageFault;
 use crate::image_rows::ImageRows;
-use crate::parts::{ArrayPart, BlockPart, FunctionPart, Header, MarkPart};
-use crate::reader::{Reader, TableSizes};
-use no_memory::NoMemory;
-use object_layout::{ClassRow, FieldTy, KindRow};
+use crate::mark_words::MarkWords;
+use crate::parts::{ArrayPart, BlockPart, FunctionPart, Header, MarkPart, Tables};
+use crate::reader::Reader;
+use object_layout::{ClassRow, FieldList, KindRow};
 use std::alloc::Global;
 use tal_types::Sig;
 
 /// What stands before the code of an image file.
 #[derive(Drop)]
-pub struct TableRows {
+pub(crate) struct TableRows {
     pub header: Header,
     pub sigs: Vec<Sig>,
     pub functions: Vec<FunctionPart>,
     pub entries: Vec<u32>,
     pub classes: Vec<ClassRow>,
     pub kinds: Vec<KindRow>,
-    pub statics: Vec<FieldTy>,
+    pub statics: FieldList,
     pub arrays: Vec<ArrayPart>,
 }
 
 /// The code and what is said of it.
 #[derive(Drop)]
-pub struct CodeRows {
+pub(crate) struct CodeRows {
     pub code: Vec<u8>,
     pub blocks: Vec<BlockPart>,
     pub marks: Vec<MarkPart>,
 }
 
-/// How many rows the tables have to which types refer.
-fn sizes(header: &Header) -> TableSizes
-    ensures { result ≡ record { sigs = header.now.sigs; classes = header.now.classes; kinds = header.now.kinds } }
-{
-    TableSizes {
-        sigs: header.sigs,
-        classes: header.classes,
-        kinds: header.kinds,
-    }
-}
-
-/// What marks stand for, behind these tables.
-fn words(alloc: Global, front: &TableRows) -> Result<Words, NoMemory>
-    requires { HasRoom (front_of front.now) }
-    ensures tables { IfOk result (λ words. tables words.tables ≡ tables_of front.now.header) }
-    ensures addresses { IfOk result (λ words. words.addresses.items ≡ addresses_of (front_of front.now)) }
-    ensures places { IfOk result (λ words. words.places.items ≡ places_of (front_of front.now)) }
-{
-    let addresses = addresses(alloc, &front.functions)?;
-    let places = places(alloc, front.header.statics, &front.arrays)?;
-    Ok(Words {
-        tables: sizes(&front.header),
-        addresses,
-        places,
-    })
-}
-
 impl Reader<'_> {
     /// The tables.
     #[tactic(auto, unfolding(crate::specs::ImageReading::front_at))]
-    fn front(&mut self, alloc: Global) -> Result<TableRows, ImageFault>
+    fn table_rows(&mut self, alloc: Global) -> Result<TableRows, ImageFault>
         ensures gives { GivesView front_of result (front_at self.old.file.now self.old.at) self.new.at }
         ensures file { self.new.file ≡ self.old.file }
         ensures room { IfOk result (λ rows. HasRoom (front_of rows)) }
     {
         let header = self.header()?;
-        let table = sizes(&header);
-        let sigs = self.sigs(alloc, &table, header.sigs)?;
-        let functions = self.functions(alloc, &table, header.functions, header.code)?;
+        let tables = Tables::of(&header);
+        let sigs = self.rows(alloc, &tables, header.sigs)?;
+        let functions = self.functions(alloc, &tables, header.functions, header.code)?;
         let entries = self.entries(alloc, &sigs, &functions, header.stacks)?;
-        let classes = self.classes(alloc, &table, &functions, header.classes)?;
-        let kinds = self.kinds(alloc, &table, header.kinds)?;
-        let statics = self.statics(alloc, &table, header.statics)?;
-        let arrays = self.arrays(alloc, &table, &kinds, header.arrays, header.statics)?;
+        let classes = self.classes(alloc, &tables, &functions, header.classes)?;
+        let kinds = self.rows(alloc, &tables, header.kinds)?;
+        let statics = self.field_types(alloc, &tables, header.statics)?;
+        let arrays = self.arrays(alloc, &tables, &kinds, header.arrays, header.statics)?;
         Ok(TableRows {
             header,
             sigs,
@@ -100,8 +72,8 @@ impl Reader<'_> {
     fn image(&mut self, alloc: Global) -> Result<ImageRows, ImageFault>
         ensures { GivesView parts_of result (image_at self.old.file.now self.old.at) self.new.at }
     {
-        let front = self.front(alloc)?;
-        let behind = self.behind(alloc, &front)?;
+        let front = self.table_rows(alloc)?;
+        let behind = self.code_rows(alloc, &front)?;
         Ok(ImageRows {
             heap_words: front.header.heap_words,
             stacks: front.header.stacks,
@@ -130,20 +102,20 @@ impl Reader<'_> {
 
     /// The code and what is said of it, behind these tables.
     #[tactic(auto, unfolding(crate::specs::ImageReading::behind_at))]
-    fn behind(&mut self, alloc: Global, front: &TableRows) -> Result<CodeRows, ImageFault>
+    fn code_rows(&mut self, alloc: Global, front: &TableRows) -> Result<CodeRows, ImageFault>
         requires { HasRoom (front_of front.now) }
         ensures gives { GivesView behind_of result (behind_at (front_of front.now) self.old.file.now self.old.at) self.new.at }
         ensures file { self.new.file ≡ self.old.file }
     {
-        let table = sizes(&front.header);
-        let words = words(alloc, front)?;
+        let tables = Tables::of(&front.header);
+        let words = MarkWords::behind(alloc, front)?;
         let functions = function_starts(alloc, &front.functions)?;
         let start = self.at;
         let file = self.file;
         let (_, rest) = file.split_at(start);
         let starts = self.code(alloc, &front.functions)?;
         let code = self.bytes_from(alloc, start)?;
-        let blocks = self.blocks(alloc, &table, &starts, &functions, front.header.blocks)?;
+        let blocks = self.blocks(alloc, &tables, &starts, &functions, front.header.blocks)?;
         let marks = self.marks(alloc, &words, rest, &starts, front.header.marks)?;
         Ok(CodeRows {
             code,
@@ -153,17 +125,14 @@ impl Reader<'_> {
     }
 }
 
-/// The front of a file, which has all of it or more bytes than any image.
+/// The front of a file, as far as 32 bits count its bytes. No image has more than 64 MiB, so that a longer file has its first
+/// fault there.
 fn front(file: &[u8]) -> &[u8]
     ensures front { IsFront result.now file.now }
     ensures small { length result.now < 2 ^ 32 }
 {
-    if file.len() <= 0x0800_0000 {
-        file
-    } else {
-        let (front, _) = file.split_at(0x0800_0000);
-        front
-    }
+    let (front, _) = file.split_at(file.len().min(u32::MAX as usize));
+    front
 }
 
 /// The rows of the image for which the bytes stand; else their first fault, or want of memory.

@@ -1,5 +1,5 @@
 use crate::parts::{ArrayPart, BlockPart, FunctionPart, MarkPart};
-use object_layout::{ClassRow, FieldTy, KindRow};
+use object_layout::{ClassRow, FieldList, KindRow};
 use tal_types::Sig;
 
 /// The rows of an image as they are read, in the order of the file.
@@ -12,7 +12,7 @@ pub(crate) struct ImageRows {
     pub entries: Vec<u32>,
     pub classes: Vec<ClassRow>,
     pub kinds: Vec<KindRow>,
-    pub statics: Vec<FieldTy>,
+    pub statics: FieldList,
     pub arrays: Vec<ArrayPart>,
     pub code: Vec<u8>,
     pub blocks: Vec<BlockPart>,

@@ -14,20 +14,22 @@ mod files;
 mod image;
 mod image_reader;
 mod image_rows;
-mod indexes;
 pub mod laws;
 mod look_ups;
+mod mark_words;
 mod parts;
+mod placement;
 mod reader;
+mod type_codes;
 mod writing;
 
 pub use fault::ImageFault;
 pub use image::Image;
-pub use parts::{
-    ArrayPart, BlockPart, DataRow, FunctionPart, Header, MarkPart, NumberList, TypeList,
-};
+pub use parts::{BlockPart, DataRow, MarkPart, TypeList};
 
+#[cfg(test)]
+mod fault_tests;
 #[cfg(test)]
 mod image_tests;
 #[cfg(test)]
-mod tests;
+mod test_image;

@@ -5,6 +5,8 @@ ghost use Rattle.tal_image.specs.Shown.{spans, function_in, data_row_in, data_wo
 
 use crate::image::Image;
 use crate::parts::{ArrayPart, BlockPart, DataRow, MarkPart};
+use crate::placement::data_place;
+use object_layout::areas::{CODE_START, descriptor_address};
 use object_layout::{FieldTy, Shapes};
 use tal_types::{Context, ImageView, Mark, Sig, Span};
 
@@ -57,7 +59,7 @@ fn array_word(array: &ArrayPart, word: u32) -> Option<u32>
     ensures { result ≡ slice_get (array_words array.now) word }
 {
     match word {
-        0 => Some(0x280000 + 16 * array.kind),
+        0 => Some(descriptor_address(array.kind)),
         1 => Some(array.size),
         _ if word - 2 < array.size => {
             Some(number_or_zero(array.numbers.items(), word as usize - 2))
@@ -100,15 +102,15 @@ impl Image {
     {
         let array = self.rows.arrays.get(d as usize)?;
         let offset = self.offsets[d as usize];
+        let statics = self.rows.statics.items().len() as u32;
         Some(DataRow {
-            place: 0x300000 + 4 * (self.rows.statics.len() as u32 + offset),
+            place: data_place(statics, offset),
             kind: array.kind,
             length: array.size,
         })
     }
 
-    /// The first word number `i` of the data arrays, counted from the word after the last static; none past the last
-    /// array.
+    /// What word `i` after the last static holds at first; none past the last word of the data arrays.
     pub fn data_word(&self, i: u32) -> Option<u32>
         ensures { result ≡ slice_get (data_words self.now) i }
     {
@@ -130,7 +132,7 @@ impl ImageView for Image {
 
     #[tactic(auto, unfolding(crate::specs::Shown::shown))]
     fn statics(&self) -> &[FieldTy] {
-        &self.rows.statics
+        self.rows.statics.items()
     }
 
     #[tactic(auto, unfolding(crate::specs::Shown::shown))]
@@ -150,14 +152,14 @@ impl ImageView for Image {
     }
 
     fn block_at(&self, pc: u32) -> Option<Context> {
-        let offset = pc.checked_sub(0x100000)?;
+        let offset = pc.checked_sub(CODE_START)?;
         let at = find_block(&self.rows.blocks, offset)?;
         let block = &self.rows.blocks[at];
         Some(Context::plain(&block.types, block.slots.items()))
     }
 
     fn mark_at(&self, pc: u32) -> Option<Mark> {
-        let offset = pc.checked_sub(0x100000)?;
+        let offset = pc.checked_sub(CODE_START)?;
         let at = find_mark(&self.rows.marks, offset)?;
         let mark = self.rows.marks[at];
         Some(Mark {

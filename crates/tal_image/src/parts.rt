@@ -1,9 +1,13 @@
 use std::marker::Model;
 use tal_types::Ty;
 
-/// What the header of an image file tells: the size of the heap in words, the number of stacks, how many signatures,
-/// functions, classes, array kinds, statics and data arrays follow, the length of the code in bytes, and how many blocks
-/// and marks follow it.
+/// The magic number of image files, whose bytes are the letters VRVI.
+pub(crate) const MAGIC: u32 = 0x4956_5256;
+
+/// What the header of an image file tells: the size of the heap in words (64 to 4194304, a multiple of 4), the number of
+/// stacks (2 to 64), how many signatures (1 to 4096), functions (1 to 16384), classes (at most 1024), array kinds (at most
+/// 256), statics and data arrays (at most 65536 each) follow, the length of the code in bytes (1 to 1048576), and how many
+/// blocks and marks follow it (at most 65536 each).
 #[derive(Clone, Copy, Debug, PartialEq, Eq)]
 pub struct Header {
     pub heap_words: u32,
@@ -19,14 +23,25 @@ pub struct Header {
     pub marks: u32,
 }
 
-/// A function: the length of its code in bytes, and the number of its signature.
+/// How many rows the tables have to which types refer: 1 to 4096 signatures, at most 1024 classes, at most 256 array kinds.
+#[derive(Clone, Copy, Debug, PartialEq, Eq)]
+pub struct Tables {
+    pub sigs: u32,
+    pub classes: u32,
+    pub kinds: u32,
+}
+
+/// A function: the length of its code in bytes, 1 to 1048576, and the number of its signature.
 #[derive(Clone, Copy, Debug, PartialEq, Eq)]
 pub struct FunctionPart {
     pub length: u32,
     pub sig: u32,
 }
 
-/// A mark: where in the code its instruction begins, in bytes from the code's first, and what the immediate there means.
+/// A mark: where in the code its instruction begins, in bytes from the code's first (below 1048576), and what the immediate
+/// there means. The tags are those of `tal_types::Mark`: 1, 3 and 5 null of a class, an array kind or a signature, 6 a
+/// function's address, 7 a class's table, 8 an array kind's descriptor, 10 a data array's address; the index is that thing's
+/// number.
 #[derive(Clone, Copy, Debug, PartialEq, Eq)]
 pub struct MarkPart {
     pub offset: u32,
@@ -52,7 +67,7 @@ impl NumberList {
     ghost use Rattle.std.specs.Prelude.{◌≡◌};
 
     /// These numbers.
-    pub fn of(numbers: Vec<u32>) -> NumberList
+    pub(crate) fn of(numbers: Vec<u32>) -> NumberList
         ensures { result ≡ numbers.items }
     {
         NumberList { numbers }
@@ -66,7 +81,8 @@ impl NumberList {
     }
 }
 
-/// A data array: the number of its array kind, its length, and its numbers, where the kind is one of numbers.
+/// A data array: the number of its array kind (below 256), its length (at most 65534), and its numbers, where the kind is one
+/// of numbers.
 #[derive(Drop)]
 pub struct ArrayPart {
     pub kind: u32,
@@ -93,7 +109,7 @@ impl TypeList {
     ghost use Rattle.std.specs.Prelude.{◌≡◌};
 
     /// These types.
-    pub fn of(types: Vec<Ty>) -> TypeList
+    pub(crate) fn of(types: Vec<Ty>) -> TypeList
         ensures { result ≡ types.items }
     {
         TypeList { types }
@@ -107,8 +123,8 @@ impl TypeList {
     }
 }
 
-/// The annotation of a block: where in the code it begins, in bytes from the code's first, the types of EAX, ECX, EDX,
-/// EBX, EBP, ESI and EDI, and those of the slots, slot 0 first.
+/// The annotation of a block: where in the code it begins, in bytes from the code's first (below 1048576), the types of EAX,
+/// ECX, EDX, EBX, EBP, ESI and EDI, and those of the slots, slot 0 first (at most 64).
 #[derive(Drop)]
 pub struct BlockPart {
     pub offset: u32,
@@ -116,8 +132,8 @@ pub struct BlockPart {
     pub slots: TypeList,
 }
 
-/// A data array as it lies in memory: the address of its first word, the number of its array kind, and how many elements
-/// it has.
+/// A data array as it lies in memory: the address of its first word (0x300000 to 0x340000), the number of its array kind
+/// (below 256), and how many elements it has (at most 65534).
 #[derive(Clone, Copy, Debug, PartialEq, Eq)]
 pub struct DataRow {
     pub place: u32,

@@ -1,41 +1,67 @@
-ghost use Rattle.std.specs.Prelude.{◌≡◌, ◌≤◌, ◌<◌, ◌+◌, ◌^◌, ◌==◌, length, IfOk, true};
-ghost use Rattle.std.specs.List.{list_all};
-ghost use Rattle.tal_image.specs.Conditions.{between, heap_fits, type_fits, is_field_tag, length_fits, sig_fits, entry_fits, starts_stack, kind_fits, array_fits, numbers_given};
-ghost use Rattle.tal_image.specs.Reading.{GivesAt, GivesView, number_at, pair_at, checked_at, header_at, type_at, field_type_at, function_at, functions_at, statics_at, types_at, seven_at, sig_at, sigs_at, kind_at, kinds_at, entries_at, words_at, array_at, arrays_at};
-ghost use Rattle.tal_image.specs.CodeReading.{code_length, array_space};
-ghost use Rattle.tal_image.specs.Fields.{type_of, field_type_of};
+// The readers of the header and the tables. Each reads at a place in the file, and a refusal is the first fault there.
+ghost use Rattle.std.specs.Prelude.{◌≡◌, ◌≤◌, ◌<◌, ◌+◌, ◌^◌, ◌==◌, length, IfOk, IfErr, OnOk, true, false};
+ghost use Rattle.std.specs.List.{list_all, sum_by};
+ghost use Rattle.tal_image.specs.declared.fault.ImageFault.TheVariants.{Bad};
+ghost use Rattle.tal_image.specs.Conditions.{Tables, between, heap_fits, type_fits, is_field_tag, length_fits, sig_fits, entry_fits, starts_stack, kind_fits, array_fits, array_room, most_code, most_words, numbers_given};
+ghost use Rattle.tal_image.specs.Fields.{tables_of};
 ghost use Rattle.tal_image.specs.Image.{tag_of};
-ghost use Rattle.tal_image.specs.declared.reader.TableSizes.{TableSizes};
-ghost use Rattle.tal_image.specs.Kept.{tables};
+ghost use Rattle.tal_image.specs.Reading.{Read, GivesAt, GivesView, number_at, pair_at, checked_at, any_number_at, rows_at, header_at, type_at, field_type_at, statics_at, function_at, functions_at, seven_at, sig_at, kind_at, entries_at, array_at, arrays_at};
 
 use crate::fault::ImageFault;
-use crate::parts::{ArrayPart, FunctionPart, Header, NumberList};
-use object_layout::{FieldTy, KindRow};
+use crate::parts::{ArrayPart, FunctionPart, Header, MAGIC, NumberList, Tables};
+use crate::type_codes::{field_type_of, tag_and_index, type_of};
+use object_layout::{FieldList, FieldTy, KindRow};
 use std::alloc::Global;
 use tal_types::{Sig, Ty};
 
 /// A place in an image file.
 #[derive(Drop)]
-pub struct Reader<'a> {
+pub(crate) struct Reader<'a> {
     pub file: &'a [u8],
     pub at: usize,
     ghost within: { at ≤ length file.now },
     ghost small: { length file.now < 2 ^ 32 },
 }
 
-/// How many rows the tables have to which types refer.
-#[derive(Clone, Copy, Debug, PartialEq, Eq)]
-pub struct TableSizes {
-    pub sigs: u32,
-    pub classes: u32,
-    pub kinds: u32,
+/// A row of an image file that looks at nothing but itself and the sizes of the tables.
+pub(crate) trait Row {
+    /// how it is read
+    ghost read_at: { Tables → Read Self };
+
+    /// Reads the next row.
+    fn read(reader: &mut Reader<'_>, tables: &Tables) -> Result<Self, ImageFault>
+        ensures gives { GivesAt result (read_at tables.now reader.old.file.now reader.old.at) reader.new.at }
+        ensures file { reader.new.file ≡ reader.old.file };
 }
 
-impl TableSizes {
+/// Nothing where a condition holds; else the fault of the field at a place by the condition's number.
+pub(crate) fn require(holds: bool, at: u32, field: u32) -> Result<(), ImageFault>
+    ensures met { OnOk result (holds ≡ true) }
+    ensures broken { IfErr result (λ fault. (holds ≡ false) × (fault ≡ Bad at field)) }
+{
+    if holds {
+        Ok(())
+    } else {
+        Err(ImageFault::Bad { at, field })
+    }
+}
+
+impl Tables {
+    /// How many rows the tables have behind a header.
+    pub(crate) fn of(header: &Header) -> Tables
+        ensures { result ≡ tables_of header.now }
+    {
+        Tables {
+            sigs: header.sigs,
+            classes: header.classes,
+            kinds: header.kinds,
+        }
+    }
+
     /// Whether a type may have a tag and an index.
     #[tactic(auto, unfolding(crate::specs::Conditions::type_fits))]
     fn type_fits(&self, tag: u32, index: u32) -> bool
-        ensures { result ≡ type_fits (tables self.now) tag index }
+        ensures { result ≡ type_fits self.now tag index }
     {
         let sizes = [
             1,
@@ -56,62 +82,11 @@ impl TableSizes {
     }
 }
 
-/// The type with a tag and an index.
-#[tactic(auto, unfolding(crate::specs::Fields::type_of))]
-fn type_of(tag: u32, index: u32) -> Ty
-    ensures { result ≡ type_of tag index }
-{
-    match tag {
-        0 => Ty::Num,
-        1 => Ty::Ref(index),
-        2 => Ty::Obj(index),
-        3 => Ty::ArrRef(index),
-        4 => Ty::Arr(index),
-        5 => Ty::Fun(index),
-        6 => Ty::Code(index),
-        7 => Ty::Tab(index),
-        8 => Ty::Desc(index),
-        _ => Ty::Junk,
-    }
-}
-
-/// The type of a field, a static or an element with a tag and an index.
-#[tactic(auto, unfolding(crate::specs::Fields::field_type_of))]
-fn field_type_of(tag: u32, index: u32) -> FieldTy
-    ensures { result ≡ field_type_of tag index }
-{
-    match tag {
-        1 => FieldTy::Ref(index),
-        3 => FieldTy::ArrRef(index),
-        5 => FieldTy::Fun(index),
-        _ => FieldTy::Num,
-    }
-}
-
-/// The tag of a type.
-#[tactic(auto, unfolding(crate::specs::Image::tag_of))]
-fn tag(ty: Ty) -> u32
-    ensures { result ≡ tag_of ty }
-{
-    match ty {
-        Ty::Num => 0,
-        Ty::Ref(_) => 1,
-        Ty::Obj(_) => 2,
-        Ty::ArrRef(_) => 3,
-        Ty::Arr(_) => 4,
-        Ty::Fun(_) => 5,
-        Ty::Code(_) => 6,
-        Ty::Tab(_) => 7,
-        Ty::Desc(_) => 8,
-        Ty::Junk => 9,
-    }
-}
-
 /// Whether all types are junk.
 fn all_junk(types: &[Ty]) -> bool
     ensures { result ≡ list_all (λ t. tag_of t == 9) types.now }
 {
-    types.iter().all(|t| tag(*t) == 9)
+    types.iter().all(|t| tag_and_index(*t).0 == 9)
 }
 
 /// Whether a stack may begin at a function of the signature.
@@ -119,7 +94,7 @@ fn all_junk(types: &[Ty]) -> bool
 fn starts_stack(sig: &Sig) -> bool
     ensures { result ≡ starts_stack sig.now }
 {
-    all_junk(&sig.params) && tag(sig.result) == 0
+    all_junk(&sig.params) && tag_and_index(sig.result).0 == 0
 }
 
 /// Whether a stack may begin at a function.
@@ -151,8 +126,8 @@ fn numbers_given(kinds: &[KindRow], kind: u32, size: u32) -> u32
 }
 
 impl<'a> Reader<'a> {
-    /// The front of a file.
-    pub fn new(file: &'a [u8]) -> Reader<'a>
+    /// A reader at the first byte of a file.
+    pub(crate) fn new(file: &'a [u8]) -> Reader<'a>
         requires { length file.now < 2 ^ 32 }
         ensures file { result.file ≡ file.entry }
         ensures front { result.at ≡ 0 }
@@ -163,7 +138,7 @@ impl<'a> Reader<'a> {
 
 impl Reader<'_> {
     /// The next number.
-    pub fn number(&mut self) -> Result<u32, ImageFault>
+    pub(crate) fn number(&mut self) -> Result<u32, ImageFault>
         ensures gives { GivesAt result (number_at self.old.file.now self.old.at) self.new.at }
         ensures file { self.new.file ≡ self.old.file }
     {
@@ -180,18 +155,15 @@ impl Reader<'_> {
     }
 
     /// The next number, from `low` to `high` by the condition `field`.
-    pub fn ranged(&mut self, low: u32, high: u32, field: u32) -> Result<u32, ImageFault>
+    pub(crate) fn ranged(&mut self, low: u32, high: u32, field: u32) -> Result<u32, ImageFault>
         ensures gives { GivesAt result (checked_at (between low high) field self.old.file.now self.old.at) self.new.at }
         ensures file { self.new.file ≡ self.old.file }
         ensures most { IfOk result (λ n. n ≤ high) }
     {
         let at = self.at as u32;
         let number = self.number()?;
-        if low <= number && number <= high {
-            Ok(number)
-        } else {
-            Err(ImageFault::Bad { at, field })
-        }
+        require(low <= number && number <= high, at, field)?;
+        Ok(number)
     }
 
     /// The next number, the size of the heap in words.
@@ -201,15 +173,16 @@ impl Reader<'_> {
     {
         let at = self.at as u32;
         let number = self.number()?;
-        if 64 <= number && number <= 4_194_304 && number % 4 == 0 {
-            Ok(number)
-        } else {
-            Err(ImageFault::Bad { at, field: 1 })
-        }
+        require(
+            64 <= number && number <= 4_194_304 && number % 4 == 0,
+            at,
+            1,
+        )?;
+        Ok(number)
     }
 
     /// The next two numbers, as one field.
-    pub fn pair(&mut self) -> Result<(u32, u32), ImageFault>
+    pub(crate) fn pair(&mut self) -> Result<(u32, u32), ImageFault>
         ensures gives { GivesAt result (pair_at self.old.file.now self.old.at) self.new.at }
         ensures file { self.new.file ≡ self.old.file }
     {
@@ -225,13 +198,15 @@ impl Reader<'_> {
 
     /// The header.
     #[tactic(auto, unfolding(crate::specs::Reading::header_at))]
-    pub fn header(&mut self) -> Result<Header, ImageFault>
+    pub(crate) fn header(&mut self) -> Result<Header, ImageFault>
         ensures gives { GivesAt result (header_at self.old.file.now self.old.at) self.new.at }
         ensures file { self.new.file ≡ self.old.file }
-        ensures statics { IfOk result (λ h. h.statics ≤ 65536) }
-        ensures code { IfOk result (λ h. h.code ≤ 1048576) }
+        ensures classes { IfOk result (λ h. h.classes ≤ 1024) }
+        ensures kinds { IfOk result (λ h. h.kinds ≤ 256) }
+        ensures statics { IfOk result (λ h. h.statics ≤ most_words) }
+        ensures code { IfOk result (λ h. h.code ≤ most_code) }
     {
-        if self.number()? != 0x4956_5256 {
+        if self.number()? != MAGIC {
             return Err(ImageFault::Magic);
         }
         if self.number()? != 1 {
@@ -254,190 +229,148 @@ impl Reader<'_> {
 
     /// The next type.
     #[tactic(auto, unfolding(crate::specs::Reading::type_at))]
-    pub fn type_of(&mut self, sizes: &TableSizes) -> Result<Ty, ImageFault>
-        ensures gives { GivesAt result (type_at (tables sizes.now) self.old.file.now self.old.at) self.new.at }
+    pub(crate) fn one_type(&mut self, tables: &Tables) -> Result<Ty, ImageFault>
+        ensures gives { GivesAt result (type_at tables.now self.old.file.now self.old.at) self.new.at }
         ensures file { self.new.file ≡ self.old.file }
     {
         let at = self.at as u32;
         let (tag, index) = self.pair()?;
-        if !sizes.type_fits(tag, index) {
-            return Err(ImageFault::Bad { at, field: 12 });
-        }
+        require(tables.type_fits(tag, index), at, 12)?;
         Ok(type_of(tag, index))
     }
 
     /// The next type, of a field, a static or an element.
     #[tactic(auto, unfolding(crate::specs::Reading::field_type_at))]
-    pub fn field_type(&mut self, sizes: &TableSizes) -> Result<FieldTy, ImageFault>
-        ensures gives { GivesAt result (field_type_at (tables sizes.now) self.old.file.now self.old.at) self.new.at }
+    pub(crate) fn field_type(&mut self, tables: &Tables) -> Result<FieldTy, ImageFault>
+        ensures gives { GivesAt result (field_type_at tables.now self.old.file.now self.old.at) self.new.at }
         ensures file { self.new.file ≡ self.old.file }
     {
         let at = self.at as u32;
         let (tag, index) = self.pair()?;
-        if !sizes.type_fits(tag, index) {
-            return Err(ImageFault::Bad { at, field: 12 });
-        }
-        if tag == 0 || tag == 1 || tag == 3 || tag == 5 {
-            Ok(field_type_of(tag, index))
-        } else {
-            Err(ImageFault::Bad { at, field: 18 })
-        }
+        require(tables.type_fits(tag, index), at, 12)?;
+        require(tag == 0 || tag == 1 || tag == 3 || tag == 5, at, 18)?;
+        Ok(field_type_of(tag, index))
     }
 
     /// The next function, where `later` come after it and `left` bytes of the code are left.
     #[tactic(auto, unfolding(crate::specs::Reading::function_at))]
-    pub fn function(
+    pub(crate) fn function(
         &mut self,
-        sizes: &TableSizes,
+        tables: &Tables,
         later: u32,
         left: u32,
     ) -> Result<FunctionPart, ImageFault>
-        ensures gives { GivesAt result (function_at (tables sizes.now) later left self.old.file.now self.old.at) self.new.at }
+        ensures gives { GivesAt result (function_at tables.now later left self.old.file.now self.old.at) self.new.at }
         ensures file { self.new.file ≡ self.old.file }
         ensures fits { IfOk result (λ f. f.length ≤ left) }
     {
         let at = self.at as u32;
         let length = self.number()?;
-        if length < 1 || length > left || later == 0 && length != left {
-            return Err(ImageFault::Bad { at, field: 13 });
-        }
+        require(
+            1 <= length && length <= left && (later > 0 || length == left),
+            at,
+            13,
+        )?;
         let at = self.at as u32;
         let sig = self.number()?;
-        if sig >= sizes.sigs {
-            return Err(ImageFault::Bad { at, field: 14 });
-        }
+        require(sig < tables.sigs, at, 14)?;
         Ok(FunctionPart { length, sig })
     }
 
     /// The next functions, so many, with so many bytes of code.
-    pub fn functions(
+    pub(crate) fn functions(
         &mut self,
         alloc: Global,
-        sizes: &TableSizes,
+        tables: &Tables,
         count: u32,
         code: u32,
     ) -> Result<Vec<FunctionPart>, ImageFault>
-        ensures gives { GivesView (λ v. v.items) result (functions_at (tables sizes.now) count code self.old.file.now self.old.at) self.new.at }
+        ensures gives { GivesView (λ v. v.items) result (functions_at tables.now count code self.old.file.now self.old.at) self.new.at }
         ensures file { self.new.file ≡ self.old.file }
-        ensures room { IfOk result (λ v. code_length v.items ≤ code) }
+        ensures room { IfOk result (λ v. sum_by (λ f. f.length) v.items ≤ code) }
     {
         let mut functions = Vec::new(alloc);
         let mut left = code;
         for i in 0..count {
-            let one = self.function(sizes, count - i - 1, left)?;
+            let one = self.function(tables, count - i - 1, left)?;
             left -= one.length;
             functions.push(one)?;
         }
         Ok(functions)
     }
 
-    /// The types of the next statics, so many.
-    pub fn statics(
+    /// The next rows, so many.
+    pub(crate) fn rows<T: Row + Drop>(
         &mut self,
         alloc: Global,
-        sizes: &TableSizes,
+        tables: &Tables,
         count: u32,
-    ) -> Result<Vec<FieldTy>, ImageFault>
-        ensures gives { GivesView (λ v. v.items) result (statics_at (tables sizes.now) count self.old.file.now self.old.at) self.new.at }
+    ) -> Result<Vec<T>, ImageFault>
+        ensures gives { GivesView (λ v. v.items) result (rows_at (T.read_at tables.now) count self.old.file.now self.old.at) self.new.at }
         ensures file { self.new.file ≡ self.old.file }
     {
-        let mut statics = Vec::new(alloc);
+        let mut rows = Vec::new(alloc);
         for i in 0..count {
-            let one = self.field_type(sizes)?;
-            statics.push(one)?;
+            let one = T::read(self, tables)?;
+            rows.push(one)?;
         }
-        Ok(statics)
+        Ok(rows)
     }
 
-    /// The next types, so many.
-    pub fn types(
+    /// The next types of fields or statics, so many.
+    pub(crate) fn field_types(
         &mut self,
         alloc: Global,
-        sizes: &TableSizes,
+        tables: &Tables,
         count: u32,
-    ) -> Result<Vec<Ty>, ImageFault>
-        ensures gives { GivesView (λ v. v.items) result (types_at (tables sizes.now) count self.old.file.now self.old.at) self.new.at }
+    ) -> Result<FieldList, ImageFault>
+        ensures gives { GivesAt result (statics_at tables.now count self.old.file.now self.old.at) self.new.at }
         ensures file { self.new.file ≡ self.old.file }
+        ensures count { IfOk result (λ fields. length fields ≡ count) }
     {
-        let mut types = Vec::new(alloc);
+        let mut fields = FieldList::new(alloc);
         for i in 0..count {
-            let one = self.type_of(sizes)?;
-            types.push(one)?;
+            let one = self.field_type(tables)?;
+            fields.push(one)?;
         }
-        Ok(types)
+        Ok(fields)
     }
 
     /// The next types, one for each register but ESP.
-    pub fn seven(&mut self, sizes: &TableSizes) -> Result<[Ty; 7], ImageFault>
-        ensures gives { GivesAt result (seven_at (tables sizes.now) self.old.file.now self.old.at) self.new.at }
+    pub(crate) fn seven(&mut self, tables: &Tables) -> Result<[Ty; 7], ImageFault>
+        ensures gives { GivesAt result (seven_at tables.now self.old.file.now self.old.at) self.new.at }
         ensures file { self.new.file ≡ self.old.file }
     {
         Ok([
-            self.type_of(sizes)?,
-            self.type_of(sizes)?,
-            self.type_of(sizes)?,
-            self.type_of(sizes)?,
-            self.type_of(sizes)?,
-            self.type_of(sizes)?,
-            self.type_of(sizes)?,
+            self.one_type(tables)?,
+            self.one_type(tables)?,
+            self.one_type(tables)?,
+            self.one_type(tables)?,
+            self.one_type(tables)?,
+            self.one_type(tables)?,
+            self.one_type(tables)?,
         ])
     }
 
     /// The next signature.
     #[tactic(auto, unfolding(crate::specs::Reading::sig_at))]
-    fn sig(&mut self, sizes: &TableSizes) -> Result<Sig, ImageFault>
-        ensures gives { GivesAt result (sig_at (tables sizes.now) self.old.file.now self.old.at) self.new.at }
+    fn sig(&mut self, tables: &Tables) -> Result<Sig, ImageFault>
+        ensures gives { GivesAt result (sig_at tables.now self.old.file.now self.old.at) self.new.at }
         ensures file { self.new.file ≡ self.old.file }
     {
-        let params = self.seven(sizes)?;
-        let result = self.type_of(sizes)?;
+        let params = self.seven(tables)?;
+        let result = self.one_type(tables)?;
         Ok(Sig { params, result })
-    }
-
-    /// The next signatures, so many.
-    pub fn sigs(
-        &mut self,
-        alloc: Global,
-        sizes: &TableSizes,
-        count: u32,
-    ) -> Result<Vec<Sig>, ImageFault>
-        ensures gives { GivesView (λ v. v.items) result (sigs_at (tables sizes.now) count self.old.file.now self.old.at) self.new.at }
-        ensures file { self.new.file ≡ self.old.file }
-    {
-        let mut sigs = Vec::new(alloc);
-        for i in 0..count {
-            let one = self.sig(sizes)?;
-            sigs.push(one)?;
-        }
-        Ok(sigs)
     }
 
     /// The next array kind.
     #[tactic(auto, unfolding(crate::specs::Reading::kind_at))]
-    fn kind(&mut self, sizes: &TableSizes) -> Result<KindRow, ImageFault>
-        ensures gives { GivesAt result (kind_at (tables sizes.now) self.old.file.now self.old.at) self.new.at }
+    fn kind(&mut self, tables: &Tables) -> Result<KindRow, ImageFault>
+        ensures gives { GivesAt result (kind_at tables.now self.old.file.now self.old.at) self.new.at }
         ensures file { self.new.file ≡ self.old.file }
     {
-        let element = self.field_type(sizes)?;
+        let element = self.field_type(tables)?;
         Ok(KindRow { element })
-    }
-
-    /// The next array kinds, so many.
-    pub fn kinds(
-        &mut self,
-        alloc: Global,
-        sizes: &TableSizes,
-        count: u32,
-    ) -> Result<Vec<KindRow>, ImageFault>
-        ensures gives { GivesView (λ v. v.items) result (kinds_at (tables sizes.now) count self.old.file.now self.old.at) self.new.at }
-        ensures file { self.new.file ≡ self.old.file }
-    {
-        let mut kinds = Vec::new(alloc);
-        for i in 0..count {
-            let one = self.kind(sizes)?;
-            kinds.push(one)?;
-        }
-        Ok(kinds)
     }
 
     /// The next number, the function at which a stack begins.
@@ -447,15 +380,12 @@ impl Reader<'_> {
     {
         let at = self.at as u32;
         let function = self.number()?;
-        if entry_fits(sigs, functions, function) {
-            Ok(function)
-        } else {
-            Err(ImageFault::Bad { at, field: 15 })
-        }
+        require(entry_fits(sigs, functions, function), at, 15)?;
+        Ok(function)
     }
 
     /// The functions at which the stacks begin, so many.
-    pub fn entries(
+    pub(crate) fn entries(
         &mut self,
         alloc: Global,
         sigs: &[Sig],
@@ -473,55 +403,27 @@ impl Reader<'_> {
         Ok(entries)
     }
 
-    /// The next number, which has no condition.
-    fn word(&mut self) -> Result<u32, ImageFault>
-        ensures gives { GivesAt result (checked_at (λ m. true) 22 self.old.file.now self.old.at) self.new.at }
-        ensures file { self.new.file ≡ self.old.file }
-    {
-        let number = self.number()?;
-        Ok(number)
-    }
-
-    /// The next numbers, so many, without a condition.
-    fn words(&mut self, alloc: Global, count: u32) -> Result<Vec<u32>, ImageFault>
-        ensures gives { GivesView (λ v. v.items) result (words_at count self.old.file.now self.old.at) self.new.at }
-        ensures file { self.new.file ≡ self.old.file }
-    {
-        let mut words = Vec::new(alloc);
-        for i in 0..count {
-            let one = self.word()?;
-            words.push(one)?;
-        }
-        Ok(words)
-    }
-
     /// The next number, an array kind.
-    fn kind_number(&mut self, sizes: &TableSizes) -> Result<u32, ImageFault>
-        ensures gives { GivesAt result (checked_at (kind_fits (tables sizes.now)) 21 self.old.file.now self.old.at) self.new.at }
+    fn kind_number(&mut self, tables: &Tables) -> Result<u32, ImageFault>
+        ensures gives { GivesAt result (checked_at (kind_fits tables.now) 21 self.old.file.now self.old.at) self.new.at }
         ensures file { self.new.file ≡ self.old.file }
     {
         let at = self.at as u32;
         let kind = self.number()?;
-        if kind < sizes.kinds {
-            Ok(kind)
-        } else {
-            Err(ImageFault::Bad { at, field: 21 })
-        }
+        require(kind < tables.kinds, at, 21)?;
+        Ok(kind)
     }
 
     /// The next number, the length of a data array, where so many words are taken before it.
     fn array_size(&mut self, used: u32) -> Result<u32, ImageFault>
         ensures gives { GivesAt result (checked_at (array_fits used) 22 self.old.file.now self.old.at) self.new.at }
         ensures file { self.new.file ≡ self.old.file }
-        ensures fits { IfOk result (λ n. used + 2 + n ≤ 65536) }
+        ensures fits { IfOk result (λ n. used + 2 + n ≤ most_words) }
     {
         let at = self.at as u32;
         let size = self.number()?;
-        if u64::from(used) + 2 + u64::from(size) <= 65536 {
-            Ok(size)
-        } else {
-            Err(ImageFault::Bad { at, field: 22 })
-        }
+        require(u64::from(used) + 2 + u64::from(size) <= 65536, at, 22)?;
+        Ok(size)
     }
 
     /// The next data array, where so many words are taken before it.
@@ -529,17 +431,17 @@ impl Reader<'_> {
     fn array(
         &mut self,
         alloc: Global,
-        sizes: &TableSizes,
+        tables: &Tables,
         kinds: &[KindRow],
         used: u32,
     ) -> Result<ArrayPart, ImageFault>
-        ensures gives { GivesAt result (array_at (tables sizes.now) kinds.now used self.old.file.now self.old.at) self.new.at }
+        ensures gives { GivesAt result (array_at tables.now kinds.now used self.old.file.now self.old.at) self.new.at }
         ensures file { self.new.file ≡ self.old.file }
-        ensures fits { IfOk result (λ a. used + 2 + a.size ≤ 65536) }
+        ensures fits { IfOk result (λ a. used + 2 + a.size ≤ most_words) }
     {
-        let kind = self.kind_number(sizes)?;
+        let kind = self.kind_number(tables)?;
         let size = self.array_size(used)?;
-        let numbers = self.words(alloc, numbers_given(kinds, kind, size))?;
+        let numbers = self.rows(alloc, tables, numbers_given(kinds, kind, size))?;
         Ok(ArrayPart {
             kind,
             size,
@@ -548,25 +450,58 @@ impl Reader<'_> {
     }
 
     /// The next data arrays, so many, behind so many words of statics.
-    pub fn arrays(
+    pub(crate) fn arrays(
         &mut self,
         alloc: Global,
-        sizes: &TableSizes,
+        tables: &Tables,
         kinds: &[KindRow],
         count: u32,
         statics: u32,
     ) -> Result<Vec<ArrayPart>, ImageFault>
-        ensures gives { GivesView (λ v. v.items) result (arrays_at (tables sizes.now) kinds.now count statics self.old.file.now self.old.at) self.new.at }
+        ensures gives { GivesView (λ v. v.items) result (arrays_at tables.now kinds.now count statics self.old.file.now self.old.at) self.new.at }
         ensures file { self.new.file ≡ self.old.file }
-        ensures room { statics ≤ 65536 → IfOk result (λ v. statics + array_space v.items ≤ 65536) }
+        ensures room { statics ≤ most_words → IfOk result (λ v. statics + sum_by array_room v.items ≤ most_words) }
     {
         let mut arrays = Vec::new(alloc);
         let mut used = statics;
         for i in 0..count {
-            let one = self.array(alloc, sizes, kinds, used)?;
+            let one = self.array(alloc, tables, kinds, used)?;
             used = used + 2 + one.size;
             arrays.push(one)?;
         }
         Ok(arrays)
+    }
+}
+
+impl Row for Ty {
+    ghost read_at = { λ t. type_at t };
+
+    fn read(reader: &mut Reader<'_>, tables: &Tables) -> Result<Ty, ImageFault> {
+        reader.one_type(tables)
+    }
+}
+
+impl Row for Sig {
+    ghost read_at = { λ t. sig_at t };
+
+    fn read(reader: &mut Reader<'_>, tables: &Tables) -> Result<Sig, ImageFault> {
+        reader.sig(tables)
+    }
+}
+
+impl Row for KindRow {
+    ghost read_at = { λ t. kind_at t };
+
+    fn read(reader: &mut Reader<'_>, tables: &Tables) -> Result<KindRow, ImageFault> {
+        reader.kind(tables)
+    }
+}
+
+impl Row for u32 {
+    ghost read_at = { λ t. any_number_at };
+
+    fn read(reader: &mut Reader<'_>, _tables: &Tables) -> Result<u32, ImageFault> {
+        let number = reader.number()?;
+        Ok(number)
     }
 }

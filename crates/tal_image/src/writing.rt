@@ -1,10 +1,10 @@
 // The parts of an image file as they are written.
 ghost use Rattle.std.specs.Prelude.{◌≡◌, ◌<◌, ◌^◌, ◌++◌, ℕ, List, length, OnOk, All};
 ghost use Rattle.std.specs.List.{flat_map};
-ghost use Rattle.tal_image.specs.Image.{number_bytes, tag_of, index_of, parent_number};
+ghost use Rattle.tal_image.specs.Image.{number_bytes, parent_number};
 
-use crate::image_rows::ImageRows;
 use crate::parts::{ArrayPart, BlockPart, FunctionPart, MarkPart};
+use crate::type_codes::tag_and_index;
 use no_memory::NoMemory;
 use object_layout::{ClassRow, FieldTy, KindRow};
 use tal_types::{Sig, Ty};
@@ -21,41 +21,6 @@ pub(crate) trait Part {
     fn put(&self, file: &mut Vec<u8>) -> Result<(), NoMemory>
         requires { fits self.now }
         ensures { OnOk result (file.new.items ≡ file.old.items ++ bytes self.now) };
-}
-
-/// About how many bytes the file of these rows takes, so that its room is taken once. Nothing rests on the number: a file
-/// that is longer grows.
-pub(crate) fn room(rows: &ImageRows) -> usize {
-    let classes = rows.classes.iter();
-    let fields = classes.fold(0, |n: usize, c| n.saturating_add(c.fields.items().len()));
-    let classes = rows.classes.iter();
-    let methods = classes.fold(0, |n: usize, c| n.saturating_add(c.methods.items().len()));
-    let arrays = rows.arrays.iter();
-    let numbers = arrays.fold(0, |n: usize, a| n.saturating_add(a.numbers.items().len()));
-    let blocks = rows.blocks.iter();
-    let slots = blocks.fold(0, |n: usize, b| n.saturating_add(b.slots.items().len()));
-    let parts: [(usize, usize); 15] = [
-        (13, 4),
-        (rows.sigs.len(), 64),
-        (rows.functions.len(), 8),
-        (rows.entries.len(), 4),
-        (rows.classes.len(), 12),
-        (fields, 8),
-        (methods, 4),
-        (rows.kinds.len(), 8),
-        (rows.statics.len(), 8),
-        (rows.arrays.len(), 8),
-        (numbers, 4),
-        (rows.code.len(), 1),
-        (rows.blocks.len(), 64),
-        (slots, 8),
-        (rows.marks.len(), 12),
-    ];
-    let mut room: usize = 0;
-    for (count, size) in parts {
-        room = room.saturating_add(size.saturating_mul(count));
-    }
-    room
 }
 
 /// Puts parts at the end of a file, one after another.
@@ -101,25 +66,6 @@ impl Part for Ty {
         let (tag, index) = tag_and_index(*self);
         tag.put(file)?;
         index.put(file)
-    }
-}
-
-/// The tag of a type, and its index, which is 0 where it has none.
-#[tactic(auto, unfolding(crate::specs::Image::tag_of, crate::specs::Image::index_of))]
-fn tag_and_index(ty: Ty) -> (u32, u32)
-    ensures { result ≡ (tag_of ty, index_of ty) }
-{
-    match ty {
-        Ty::Num => (0, 0),
-        Ty::Ref(class) => (1, class),
-        Ty::Obj(class) => (2, class),
-        Ty::ArrRef(kind) => (3, kind),
-        Ty::Arr(kind) => (4, kind),
-        Ty::Fun(sig) => (5, sig),
-        Ty::Code(sig) => (6, sig),
-        Ty::Tab(class) => (7, class),
-        Ty::Desc(kind) => (8, kind),
-        Ty::Junk => (9, 0),
     }
 }
 

@@ -1,12 +1,11 @@
 use Rattle.std.proofs.Common.{◌≤◌, ◌-◌, ◌∙◌, sym, refl, arith}
-use Rattle.object_layout.specs.Areas.{descriptor_address}
 use Rattle.tal_image.specs.Shown.{array_words}
 use Rattle.tal_image.proofs.DataArrays.{padded-within, padded-past, array_words-element}
 use Rattle.tal_image.proofs.look_ups.array_word.Goals as goal
 
 pub returns-in-0 : goal.returns-in-0
-unfolding array_words descriptor_address
-returns-in-0 c = rw c.in-0.is refl
+unfolding array_words
+returns-in-0 c = rw (c.in-0.is, c.descriptor_address.ensures) refl
 
 pub returns-in-1 : goal.returns-in-1
 unfolding array_words

@@ -1,28 +1,21 @@
 use Rattle.std.proofs.Common.{◌≡◌, ◌∙◌, ◌-◌, ◌+◌, suc, arith}
 use Rattle.std.proofs.lemmas.Result.{err_from_is_err_and}
-use Rattle.tal_image.specs.Kept.{tables}
-use Rattle.tal_image.specs.Fields.{after_block}
-use Rattle.tal_image.specs.CodeReading.{block_at, blocks_at}
 use Rattle.tal_image.proofs.Loops.{goes_on, ends, is_done}
 use Rattle.tal_image.proofs.reader.Reader.blocks.Goals as goal
 
 pub returns-in_err-one-clause-gives : goal.returns-in_err-one-clause-gives
 returns-in_err-one-clause-gives c =
     let p = err_from_is_err_and c.from_residual.result c.from_residual.ensures.1 in
-    let r = c.loop-i.self in
     let e : c.args.count - c.loop-i.i ≡ suc (c.args.count - c.loop-i.i - 1) = omega arith in
-    rw (p.1, p.2) (ends (λ later kept. block_at (tables c.args.table.now) c.args.instructions.now c.args.functions.now kept) after_block c.in_err-one.field-0.0 c.loop-i.blocks.items c.args.count c.loop-i.i (c.args.count - c.loop-i.i - 1) c.loop-i.least r.file.now r.at (blocks_at (tables c.args.table.now) c.args.instructions.now c.args.functions.now c.args.count c.args.self.now.file.now c.args.self.now.at) e c.in_err-one.ensures.gives c.loop-i.invariant.read)
+    rw (p.1, p.2) (ends c.loop-i.invariant.read _ e c.in_err-one.ensures.gives)
 
 pub loop-i-preserved : goal.loop-i-preserved
 loop-i-preserved c =
-    let r = c.loop-i.self in
     let e : c.args.count - c.loop-i.i ≡ suc (c.args.count - (c.loop-i.i + 1)) = omega arith in
     record {
-      read = rw (c.from-least.ensures, c.in_ok-push.ensures.items, c.in_ok-one.ensures.file) (goes_on (λ later kept. block_at (tables c.args.table.now) c.args.instructions.now c.args.functions.now kept) after_block c.loop-i.blocks.items c.args.count c.loop-i.i (c.args.count - (c.loop-i.i + 1)) c.loop-i.least r.file.now r.at c.in_ok-one.one c.block.new.self.at (blocks_at (tables c.args.table.now) c.args.instructions.now c.args.functions.now c.args.count c.args.self.now.file.now c.args.self.now.at) e c.in_ok-one.ensures.gives c.loop-i.invariant.read);
+      read = rw (c.from-least.ensures, c.in_ok-push.ensures.items, c.in_ok-one.ensures.file) (goes_on c.loop-i.invariant.read e c.in_ok-one.ensures.gives);
       file = c.in_ok-one.ensures.file ∙ c.loop-i.invariant.file;
     }
 
 pub returns-clause-gives : goal.returns-clause-gives
-returns-clause-gives c =
-    let r = c.loop-i.self in
-    is_done (λ later kept. block_at (tables c.args.table.now) c.args.instructions.now c.args.functions.now kept) after_block c.loop-i.blocks.items c.args.count c.loop-i.i c.loop-i.least r.file.now r.at (blocks_at (tables c.args.table.now) c.args.instructions.now c.args.functions.now c.args.count c.args.self.now.file.now c.args.self.now.at) c.loop-i-test.false c.loop-i.invariant.read
+returns-clause-gives c = is_done c.loop-i.invariant.read (omega (arith, c.loop-i-test.false))

@@ -5,7 +5,7 @@ use Rattle.tal_image.specs.Reading.{body_at}
 use Rattle.tal_image.specs.CodeReading.{bodies_at, starts_behind, code_at}
 use Rattle.tal_image.proofs.Loops.{passed_on}
 use Rattle.tal_image.proofs.BodyReading.{function_on, function_fails, functions_done}
-use Rattle.tal_image.proofs.CodeMaps.{next_is, drop_past}
+use Rattle.std.proofs.lemmas.List.{drop_more, drop_all}
 use Rattle.tal_image.proofs.reader.Reader.code.Goals as goal
 
 pub returns-in_err-body-clause-gives : goal.returns-in_err-body-clause-gives
@@ -17,7 +17,7 @@ returns-in_err-body-clause-gives c =
     let d : FunctionPart = record { length = 0; sig = 0 } in
     let f = get_or fs i d in
     let begun = c.loop-function.starts.items in
-    let next = next_is fs i d c.loop-function-test.true in
+    let next = drop_more fs i d c.loop-function-test.true in
     rw (p.1, p.2) (passed_on c.in_err-body.field-0.0 (starts_behind begun (body_at f.length r.file.now r.at)) (code_at fs c.args.self.now.file.now c.args.self.now.at)
     (λ h q. sym c.loop-function.invariant.read ∙ ap (λ (xs : List FunctionPart). starts_behind begun (bodies_at xs r.file.now r.at)) next ∙ function_fails begun f (drop (i + 1) fs) r.file.now r.at h q) c.in_err-body.ensures.gives)
 
@@ -29,7 +29,7 @@ loop-function-preserved c =
     let d : FunctionPart = record { length = 0; sig = 0 } in
     let f = get_or fs i d in
     let begun = c.loop-function.starts.items in
-    let next = next_is fs i d c.loop-function-test.true in
+    let next = drop_more fs i d c.loop-function-test.true in
     record {
       read = rw c.in_ok-body.ensures.file (sym (function_on begun f (drop (i + 1) fs) r.file.now r.at c.body.new.starts.items c.body.new.self.at c.in_ok-body.ensures.gives) ∙ ap (λ (xs : List FunctionPart). starts_behind begun (bodies_at xs r.file.now r.at)) (sym next) ∙ c.loop-function.invariant.read);
       onward = omega (arith, c.loop-function.invariant.onward, c.in_ok-body.ensures.onward);
@@ -40,4 +40,4 @@ pub returns-clause-gives : goal.returns-clause-gives
 returns-clause-gives c =
     let r = c.loop-function.self in
     let begun = c.loop-function.starts.items in
-    sym c.loop-function.invariant.read ∙ ap (λ (xs : List FunctionPart). starts_behind begun (bodies_at xs r.file.now r.at)) (drop_past c.loop-function.function-index c.args.functions.now c.loop-function-test.false) ∙ functions_done begun r.file.now r.at
+    sym c.loop-function.invariant.read ∙ ap (λ (xs : List FunctionPart). starts_behind begun (bodies_at xs r.file.now r.at)) (drop_all c.loop-function.function-index c.args.functions.now c.loop-function-test.false) ∙ functions_done begun r.file.now r.at

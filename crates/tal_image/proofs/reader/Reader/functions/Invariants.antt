@@ -1,13 +1,11 @@
 use Rattle.std.proofs.Common.{◌≡◌, ◌-◌}
-use Rattle.tal_image.specs.Kept.{tables}
 use Rattle.tal_image.specs.Fields.{after_function}
 use Rattle.tal_image.specs.Reading.{function_at, functions_at}
-use Rattle.tal_image.specs.Reading.{many_at}
-use Rattle.tal_image.proofs.Loops.{with_front}
+use Rattle.tal_image.proofs.Loops.{RowsLeft}
 use Rattle.tal_image.proofs.reader.Reader.functions.Given as goal
 
 abbrev pub invariant-loop-i : goal.invariant-loop-i
 invariant-loop-i l = record {
-  read : with_front l.functions.items (many_at (l.count - l.i) (λ later kept. function_at (tables l.sizes) later kept) after_function l.left l.self.file.now l.self.at) ≡ functions_at (tables l.sizes) l.count l.code l.fn.self.file.now l.fn.self.at;
+  read : RowsLeft l.functions.items (l.count - l.i) (λ later kept. function_at l.tables later kept) after_function l.left l.self.file.now l.self.at (functions_at l.tables l.count l.code l.fn.self.file.now l.fn.self.at);
   file : l.self.file ≡ l.fn.self.file;
 }
