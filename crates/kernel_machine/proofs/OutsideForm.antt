@@ -12,7 +12,8 @@ use Rattle.tal_image.specs.declared.parts.FunctionPart.{FunctionPart}
 use Rattle.object_layout.specs.declared.rows.FieldTy.{FieldTy}
 use Rattle.tal_image.specs.Image.{ImageParts}
 use Rattle.tal_image.specs.Shown.{shown}
-use Rattle.tal_image.specs.Conditions.{Tables, Spelled, slots_fit}
+use Rattle.tal_image.specs.declared.parts.Tables.{Tables}
+use Rattle.tal_image.specs.Conditions.{Spelled, slots_fit}
 use Rattle.tal_image.specs.Fields.{after_block}
 use Rattle.tal_image.specs.Formed.{EachAfter, IsBlock}
 use Rattle.tal_checker.specs.Instructions.{instructions}

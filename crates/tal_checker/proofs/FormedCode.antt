@@ -13,7 +13,8 @@ use Rattle.tal_flow.specs.Strongest.{Placed, placed_at}
 use Rattle.tal_image.specs.declared.parts.BlockPart.{BlockPart}
 use Rattle.tal_image.specs.declared.parts.FunctionPart.{FunctionPart}
 use Rattle.object_layout.specs.Areas.{code_start}
-use Rattle.tal_image.specs.Conditions.{Tables, Spelled, begins_at, function_begins, block_fits, entry_fits, starts_stack}
+use Rattle.tal_image.specs.declared.parts.Tables.{Tables}
+use Rattle.tal_image.specs.Conditions.{Spelled, begins_at, function_begins, block_fits, entry_fits, starts_stack}
 use Rattle.tal_image.specs.Fields.{joined, code_bytes, after_function, after_block}
 use Rattle.tal_image.specs.Formed.{EachAfter, Each, IsFunction, IsEntry, IsBlock, IsBody, AreBodies, Formed, tables}
 use Rattle.tal_image.specs.Image.{ImageParts}
