@@ -19,7 +19,7 @@ use Rattle.tal_image.specs.Shown.{shown, mark_in}
 use Rattle.object_layout.specs.Areas.{code_start}
 use Rattle.tal_checker.specs.Instructions.{instructions}
 use Rattle.tal_checker.specs.Running.{instruction_in}
-use Rattle.kernel_machine.specs.Built.{operands_of, is_memory, is_entry, calls_entry, is_unbuilt, count_outside, code_outside, sigs_outside, blocks_outside, code_byte, outside, IsBuilt}
+use Rattle.kernel_machine.specs.Built.{operands_of, is_memory, is_entry, calls_entry, is_unbuilt, count_outside, code_outside, sigs_outside, blocks_outside, code_byte, outside, IsBuilt, counts_outside, rows_outside}
 
 -- no operand of the form is in memory, and it calls no Nucleus entry
 abbrev pub is_built : Form → Bool
@@ -63,24 +63,18 @@ nil-parts : (xs ys : List ℕ) → xs ++ ys ≡ [] → (xs ≡ []) × (ys ≡ []
 nil-parts [] ys h = (refl, h)
 nil-parts (x ∷ xs) ys h = absurd (cc)
 
--- the fifth and the seventh of eight lists are empty where all together are
-nil-among : (a b c d e f g h : List ℕ) → a ++ b ++ c ++ d ++ e ++ f ++ g ++ h ≡ [] → (e ≡ []) × (g ≡ [])
-nil-among a b c d e f g h n =
-    let to_g = nil-parts (a ++ b ++ c ++ d ++ e ++ f) g (nil-parts (a ++ b ++ c ++ d ++ e ++ f ++ g) h n).0 in
-    let to_e = (nil-parts (a ++ b ++ c ++ d ++ e) f to_g.0).0 in
-    ((nil-parts (a ++ b ++ c ++ d) e to_e).1, to_g.1)
-
 -- a count of the header that is inside the form is 0
 no_count : (at n : ℕ) → count_outside at n ≡ [] → n ≡ 0
 no_count at n h = grind (arith, nat_tests)
 
 -- there are no marks, and no instruction is outside the form
 built-parts : (image : ImageParts) → IsBuilt image → (length image.marks ≡ 0) × (code_outside (code_byte image) (instructions image.code) ≡ [])
-unfolding outside
+unfolding outside counts_outside rows_outside
 built-parts image h =
-    let parts = nil-among (count_outside 24 (length image.classes)) (count_outside 28 (length image.kinds)) (count_outside 32 (length image.statics)) (count_outside 36 (length image.arrays))
-    (count_outside 48 (length image.marks)) (sigs_outside 52 image.sigs) (code_outside (code_byte image) (instructions image.code)) (blocks_outside (code_byte image + length image.code) image.blocks) h in
-    (no_count 48 (length image.marks) parts.0, parts.1)
+    let parts = nil-parts (counts_outside image) (rows_outside image) h in
+    let marks = (nil-parts _ (count_outside 48 (length image.marks)) parts.0).1 in
+    let until_code = (nil-parts _ (blocks_outside (code_byte image + length image.code) image.blocks) parts.1).0 in
+    (no_count 48 (length image.marks) marks, (nil-parts (sigs_outside 52 image.sigs) _ until_code).1)
 
 -- where there are no marks, there is none at an address
 no_mark : (marks : List MarkPart) (pc : ℕ) → length marks ≡ 0 → mark_in pc marks ≡ None
@@ -102,7 +96,8 @@ placed-built at (y ∷ ys) pc x e h = go (placed-built at ys pc x parts.1) (is_u
     parts : ((if is_unbuilt (next_of y.pc y.len) y.inst then (at + (y.pc - code_start)) ∷ [] else []) ≡ []) × (code_outside at ys ≡ [])
     parts = nil-parts _ _ e
 
-    go : (placed_at ys pc ≡ Some x → is_unbuilt (next_of x.pc x.len) x.inst ≡ false) → (u : Bool) → is_unbuilt (next_of y.pc y.len) y.inst ≡ u → (b : Bool) → (if b then Some y else placed_at ys pc) ≡ Some x → is_unbuilt (next_of x.pc x.len) x.inst ≡ false
+    go : (placed_at ys pc ≡ Some x → is_unbuilt (next_of x.pc x.len) x.inst ≡ false) → (u : Bool) → is_unbuilt (next_of y.pc y.len) y.inst ≡ u → (b : Bool)
+        → (if b then Some y else placed_at ys pc) ≡ Some x → is_unbuilt (next_of x.pc x.len) x.inst ≡ false
     go later true f b h = absurd (let p = rw f at parts.0 in cc)
     go later false f true h = let same : y ≡ x = cc in ap (λ z. is_unbuilt (next_of z.pc z.len) z.inst) (sym same) ∙ f
     go later false f false h = later h

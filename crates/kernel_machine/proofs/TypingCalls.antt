@@ -21,7 +21,7 @@ use Rattle.tal_flow.specs.declared.calls.Arguments.{Arguments}
 use Rattle.tal_flow.specs.declared.calls.Called.{Called}
 use Rattle.tal_flow.specs.declared.forms.Form.TheVariants.{CallTo, CallBy, Return}
 use Rattle.tal_flow.specs.Places.{type_of}
-use Rattle.tal_flow.specs.Calls.{arguments_fit as parameters_fit, called_with, call_of_signature, entry_or, call_to, call_by, is_callable, is_fit, result_of}
+use Rattle.tal_flow.specs.Calls.{arguments_fit, called_with, call_of_signature, entry_or, call_to, call_by, is_callable, is_fit, result_of}
 use Rattle.tal_flow.specs.Afterwards.{after, after_call}
 use Rattle.tal_flow.specs.Edges.{allows, falling}
 use Rattle.tal_flow.specs.Rules.{operand_rule, fits_result}
@@ -33,7 +33,7 @@ use Rattle.kernel_machine.specs.Built.{is_entry}
 use Rattle.kernel_machine.specs.Values.{Value, Number, Ret, Fits}
 use Rattle.kernel_machine.specs.States.{State, values_of, with_values, most_words, NoCondition}
 use Rattle.kernel_machine.specs.Effects.{is_full, form_effect}
-use Rattle.kernel_machine.specs.Turns.{faulted, called, enters, arguments_fit, returns_from}
+use Rattle.kernel_machine.specs.Turns.{faulted, called, enters, values_fit, returns_from}
 use Rattle.kernel_machine.specs.Typing.{Typed, FramesFit, Back}
 use Rattle.kernel_machine.proofs.TypingValues.{fits-sub, fits-junk}
 use Rattle.kernel_machine.proofs.FramesFitted.{frames-sub}
@@ -43,7 +43,8 @@ use Rattle.kernel_machine.proofs.TypingPlaces.{above-live, typed-fits, entered, 
 -- ---- returns
 
 -- rule 13: what EAX holds fits the result
-result-fits : (image : ImageParts) (pc : ℕ) (u : Ty) (sig : Sig) → signature_at image pc ≡ Some sig → fits_result (shown image) pc u ≡ true → sub (shown image).shapes u sig.result ≡ true
+result-fits : (image : ImageParts) (pc : ℕ) (u : Ty) (sig : Sig) → signature_at image pc ≡ Some sig → fits_result (shown image) pc u ≡ true
+    → sub (shown image).shapes u sig.result ≡ true
 unfolding signature_at fits_result
 result-fits image pc u sig e h = rw e at h
 
@@ -61,12 +62,20 @@ unfolding kind_below allows
 lost-allows k c e h = grind arith
 
 -- a return to the place on top, or to the end word
-returns-typed : (image : ImageParts) (s : State) (t : Typed image s) → sub (shown image).shapes (t.context.regs Eax) t.sig.result ≡ true → (vs : List Value) → FramesFit image t.sig.result [] vs → length vs ≤ most_words → StaysTyped image (returns_from vs s)
+returns-typed : (image : ImageParts) (s : State) (t : Typed image s) → sub (shown image).shapes (t.context.regs Eax) t.sig.result ≡ true → (vs : List Value)
+    → FramesFit image t.sig.result [] vs → length vs ≤ most_words → StaysTyped image (returns_from vs s)
 unfolding Back plain
 returns-typed image s t e [] h room = absurd h
 returns-typed image s t e (Number w ∷ vs) h room = absurd h
 returns-typed image s t e (Ret zero ∷ []) h room =
-    fits-typed image t.context t.sig _ t.here t.function (record { regs = t.regs; conditions = t.conditions; frames = t.frames; stacks = t.stacks; room = t.room; statics = t.statics })
+    fits-typed image t.context t.sig _ t.here t.function (record {
+      regs = t.regs;
+      conditions = t.conditions;
+      frames = t.frames;
+      stacks = t.stacks;
+      room = t.room;
+      statics = t.statics;
+    })
 returns-typed image s t e (Ret zero ∷ v ∷ vs) h room = absurd (let x = h.0 in cc)
 returns-typed image s t e (Ret (suc a) ∷ vs) h room =
     let below = h.4 in
@@ -88,7 +97,7 @@ record Callee (image : ImageParts) (c : LiveContext) (to : ℕ) : Type 0 where
   sig : Sig
   function : (shown image).function_at to ≡ Some number
   signature : (shown image).sig number ≡ Some sig
-  arguments : parameters_fit (shown image).shapes c sig ≡ true
+  arguments : arguments_fit (shown image).shapes c sig ≡ true
   result : result_of (call_to (shown image) c to) ≡ sig.result
 
 -- where no entry of the Nucleus stands, the call is of a function
@@ -102,15 +111,17 @@ found-signature sigs None sig h = absurd (cc)
 found-signature sigs (Some n) sig h = (n, refl, h)
 
 -- the signature that a call without a fault has
-called-sig : (s : ShapesView) (c : LiveContext) (o : Option Sig) → is_callable (called_with s c o) ≡ true → is_fit (called_with s c o) ≡ true → (sig : Sig) × (o ≡ Some sig) × (parameters_fit s c sig ≡ true) × (result_of (called_with s c o) ≡ sig.result)
+called-sig : (s : ShapesView) (c : LiveContext) (o : Option Sig) → is_callable (called_with s c o) ≡ true → is_fit (called_with s c o) ≡ true
+    → (sig : Sig) × (o ≡ Some sig) × (arguments_fit s c sig ≡ true) × (result_of (called_with s c o) ≡ sig.result)
 unfolding is_callable is_fit result_of
 called-sig s c None e f = absurd (grind arith)
 called-sig s c (Some sig) e f =
-    let fits : parameters_fit s c sig ≡ true = grind arith in
+    let fits : arguments_fit s c sig ≡ true = grind arith in
     (sig, refl, fits, rw fits refl)
 
 -- rules 10 and 11: the function that is called
-callee-of : (image : ImageParts) (c : LiveContext) (to : ℕ) → is_entry to ≡ false → is_callable (call_to (shown image) c to) ≡ true → is_fit (call_to (shown image) c to) ≡ true → Callee image c to
+callee-of : (image : ImageParts) (c : LiveContext) (to : ℕ) → is_entry to ≡ false → is_callable (call_to (shown image) c to) ≡ true
+    → is_fit (call_to (shown image) c to) ≡ true → Callee image c to
 unfolding is_entry call_to call_of_signature
 callee-of image c to e f g =
     let v = shown image in
@@ -120,13 +131,15 @@ callee-of image c to e f g =
     record { number = found.0; sig = known.0; function = found.1; signature = found.2; arguments = known.2; result = rw is known.3 }
 
 -- the values in the registers fit the parameters
-arguments-fit : (image : ImageParts) (s : State) (c : LiveContext) (sig : Sig) → ((r : Reg) → Fits (s.regs r) (c.regs r) ≡ true) → parameters_fit (shown image).shapes c sig ≡ true → (r : Reg) → Fits (s.regs r) (register_type sig.params r) ≡ true
-unfolding parameters_fit
-arguments-fit image s c sig h e r = fits-sub (shown image).shapes (s.regs r) (c.regs r) (register_type sig.params r) (h r) (every-all (λ r. sub (shown image).shapes (c.regs r) (register_type sig.params r)) r e)
+arguments-fit : (image : ImageParts) (s : State) (c : LiveContext) (sig : Sig) → ((r : Reg) → Fits (s.regs r) (c.regs r) ≡ true)
+    → arguments_fit (shown image).shapes c sig ≡ true → (r : Reg) → Fits (s.regs r) (register_type sig.params r) ≡ true
+unfolding arguments_fit
+arguments-fit image s c sig h e r =
+    fits-sub (shown image).shapes (s.regs r) (c.regs r) (register_type sig.params r) (h r) (every-all (λ r. sub (shown image).shapes (c.regs r) (register_type sig.params r)) r e)
 
 -- the test of the arguments' values
-arguments-tested : (s : State) (sig : Sig) → ((r : Reg) → Fits (s.regs r) (register_type sig.params r) ≡ true) → arguments_fit s sig ≡ true
-unfolding arguments_fit
+arguments-tested : (s : State) (sig : Sig) → ((r : Reg) → Fits (s.regs r) (register_type sig.params r) ≡ true) → values_fit s sig ≡ true
+unfolding values_fit
 arguments-tested s sig h = every-from (λ r. Fits (s.regs r) (register_type sig.params r)) h
 
 -- the types of the registers after a call
@@ -148,27 +161,39 @@ back-below s t c d h = record {
 }
 
 -- the frames below a function that was called
-frames-called : (image : ImageParts) → RunsOn image → (pc next : ℕ) (c : LiveContext) (sig : Sig) (t : Ty) (vs : List Value) → Arrives image pc next (Live (after_call t c)) → signature_at image pc ≡ Some sig → FramesFit image sig.result c.slots vs → FramesFit image t [] (Ret next ∷ vs)
+frames-called : (image : ImageParts) → RunsOn image → (pc next : ℕ) (c : LiveContext) (sig : Sig) (t : Ty) (vs : List Value) → Arrives image pc next (Live (after_call t c))
+    → signature_at image pc ≡ Some sig → FramesFit image sig.result c.slots vs → FramesFit image t [] (Ret next ∷ vs)
 unfolding after_call
 frames-called image runs pc zero c sig t vs a function h = absurd (let x = (runs.spelled zero a.placed a.here).after_start in omega arith)
 frames-called image runs pc (suc n) c sig t vs a function h =
-    let above = above-live (shown image).shapes (after_call t c) (strongest_at image (suc n)) a.known in
-    (above.0, sig, above.1, arrives-signature image pc (suc n) _ sig a function, back-below (shown image).shapes t c above.0 above.2, frames-sub image sig.result c.slots above.0.slots vs above.2.slots h)
+    let above = above-live (shown image).shapes (after_call t c) (strongest_at image (suc n)) a.known in (
+      above.0,
+      sig,
+      above.1,
+      arrives-signature image pc (suc n) _ sig a function,
+      back-below
+          (shown image).shapes t c above.0 above.2,
+      frames-sub image sig.result c.slots above.0.slots vs above.2.slots h,
+    )
 
 -- a call whose arguments fit enters the function
-call-enters : (image : ImageParts) (s : State) (next to number : ℕ) (sig : Sig) → (shown image).function_at to ≡ Some number → (shown image).sig number ≡ Some sig → arguments_fit s sig ≡ true → called image next to s ≡ Some (enters next to s)
+call-enters : (image : ImageParts) (s : State) (next to number : ℕ) (sig : Sig) → (shown image).function_at to ≡ Some number → (shown image).sig number ≡ Some sig
+    → values_fit s sig ≡ true → called image next to s ≡ Some (enters next to s)
 unfolding called
 call-enters image s next to number sig e f g = rw (e, f, g) refl
 
 -- a function that is entered is typed at its first instruction
-enters-typed : (image : ImageParts) (s : State) (t : Typed image s) (next to : ℕ) (sig : Sig) → Begins image to sig → ((r : Reg) → Fits (s.regs r) (register_type sig.params r) ≡ true) → FramesFit image sig.result [] (Ret next ∷ values_of s) → Typed image (enters next to s)
+enters-typed : (image : ImageParts) (s : State) (t : Typed image s) (next to : ℕ) (sig : Sig) → Begins image to sig
+    → ((r : Reg) → Fits (s.regs r) (register_type sig.params r) ≡ true) → FramesFit image sig.result [] (Ret next ∷ values_of s) → Typed image (enters next to s)
 unfolding is_full entry plain allows
 enters-typed image s t next to sig begins fits frames = go (nat_le most_words (length (values_of s))) refl
   where
-    go : (b : Bool) → nat_le most_words (length (values_of s)) ≡ b → Typed image (if b then faulted 12 s else with_values (Ret next ∷ values_of s) (record s { place = to; known = NoCondition }))
+    go : (b : Bool) → nat_le most_words (length (values_of s)) ≡ b
+        → Typed image (if b then faulted 12 s else with_values (Ret next ∷ values_of s) (record s { place = to; known = NoCondition }))
     go true e = faulted-typed image s 12 t
     go false e = fits-typed image (entered sig) sig (with_values (Ret next ∷ values_of s) (record s { place = to; known = NoCondition })) begins.known begins.signature
-        (context-values image sig.result (entered sig) (record s { place = to; known = NoCondition }) (values_of s) (Ret next ∷ values_of s) fits (λ k allowed. absurd (grind arith)) t.stacks t.statics frames (grind (arith, nat_tests)))
+        (context-values image sig.result (entered sig) (record s { place = to; known = NoCondition }) (values_of s) (Ret next ∷ values_of s) fits
+        (λ k allowed. absurd (grind arith)) t.stacks t.statics frames (grind (arith, nat_tests)))
 
 -- rule 10: no value is a function yet
 no-call : (v : ShownImage) (c : LiveContext) (w : ℕ) (t : Ty) → Fits (Number w) t ≡ true → is_callable (call_by v c t) ≡ true → ⊥

@@ -1,5 +1,5 @@
 -- The form of images that runs so far: over numbers, without data, memory operands and calls of the Nucleus.
-use Rattle.std.specs.Prelude.{◌≡◌, ℕ, ◌+◌, ◌-◌, ◌*◌, Bool, true, false, ◌||◌, ◌==◌, List, [], ◌∷◌, ◌++◌, length, is_some, slice_get, if◌then◌else◌}
+use Rattle.std.specs.Prelude.{◌≡◌, ℕ, ◌+◌, ◌-◌, ◌*◌, Bool, true, false, ◌||◌, ◌==◌, List, [], ◌∷◌, ◌++◌, length, is_some, slice_get, Option, Some, None, if◌then◌else◌}
 use Rattle.std.specs.Option.{option_and_then}
 use Rattle.std.specs.List.{flat_map, list_any}
 use Rattle.ia32_code.specs.declared.instruction.Operand.{Operand}
@@ -105,18 +105,29 @@ code_byte i =
     52 + 64 * length i.sigs + 8 * length i.functions + 4 * length i.entries + length (flat_map class_bytes i.classes) + 8 * length i.kinds
     + 8 * length i.statics + length (flat_map array_bytes i.arrays)
 
--- the first bytes of all fields that are outside the form: the counts of classes, array kinds, statics, data arrays and
--- marks; types other than num and junk; instructions that touch memory or call the Nucleus
-unfoldable pub outside : ImageParts → List ℕ
-outside i =
+-- the counts in the header that are not 0: of classes, array kinds, statics, data arrays and marks
+unfoldable pub counts_outside : ImageParts → List ℕ
+counts_outside i =
     count_outside 24 (length i.classes) ++ count_outside 28 (length i.kinds) ++ count_outside 32 (length i.statics) ++ count_outside 36 (length i.arrays)
-    ++ count_outside 48 (length i.marks) ++ sigs_outside 52 i.sigs ++ code_outside (code_byte i) (instructions i.code)
-    ++ blocks_outside (code_byte i + length i.code) i.blocks
+    ++ count_outside 48 (length i.marks)
+
+-- types of signatures and blocks other than num and junk, and instructions that touch memory or call the Nucleus
+unfoldable pub rows_outside : ImageParts → List ℕ
+rows_outside i = sigs_outside 52 i.sigs ++ code_outside (code_byte i) (instructions i.code) ++ blocks_outside (code_byte i + length i.code) i.blocks
+
+-- the first bytes of the fields outside the form; the rows that a count tells of are not listed beside it
+unfoldable pub outside : ImageParts → List ℕ
+outside i = counts_outside i ++ rows_outside i
 
 -- the image is of the form that runs
 abbrev pub IsBuilt : ImageParts → Type 0
 IsBuilt i = outside i ≡ []
 
+-- the first of these bytes
+abbrev pub first_of : List ℕ → Option ℕ
+first_of [] = None
+first_of (at ∷ later) = Some at
+
 -- the first byte of the first field outside the form
 abbrev pub FirstOutside : ImageParts → ℕ → Type 0
-FirstOutside i at = (later : List ℕ) × (outside i ≡ at ∷ later)
+FirstOutside i at = first_of (outside i) ≡ Some at

@@ -4,11 +4,11 @@ ghost use Rattle.std.specs.List.{All, list_any};
 ghost use Rattle.tal_flow.specs.Forms.{target};
 ghost use Rattle.object_layout.specs.Areas.{code_start};
 ghost use Rattle.tal_checker.specs.Instructions.{instructions};
-ghost use Rattle.kernel_machine.specs.Built.{operands_of, is_memory, is_entry, calls_entry, is_unbuilt, is_plain, types_outside, sigs_outside, code_outside, blocks_outside, code_byte, IsBuilt, FirstOutside};
-ghost use Rattle.kernel_machine.specs.Outside.{first_of, counts_outside, HasNoData};
+ghost use Rattle.kernel_machine.specs.Built.{operands_of, is_memory, is_entry, calls_entry, is_unbuilt, is_plain, counts_outside, types_outside, sigs_outside, code_outside, blocks_outside, code_byte, rows_outside, first_of, IsBuilt, FirstOutside};
+ghost use Rattle.kernel_machine.specs.Outside.{HasNoData};
 
-use crate::machine::CODE_START;
 use ia32_code::{Decoded, Inst, Operand, decode};
+use object_layout::areas::CODE_START;
 use tal_image::{BlockPart, Image};
 use tal_types::{ImageView, Sig, Ty};
 
@@ -215,8 +215,7 @@ fn code_byte(image: &Image) -> u32
 /// The first row, or instruction, of an image that is outside the form, where no count is.
 fn rows_outside(image: &Image) -> Option<u32>
     requires { HasNoData image.now }
-    ensures { result ≡ first_of (sigs_outside 52 image.now.sigs ++ code_outside (code_byte image.now) (instructions image.now.code)
-        ++ blocks_outside (code_byte image.now + length image.now.code) image.now.blocks) }
+    ensures { result ≡ first_of (rows_outside image.now) }
 {
     image.formed();
     let at = code_byte(image);

@@ -2,6 +2,7 @@ ghost use Rattle.std.specs.Prelude.{◌≡◌, ◌≢◌, ◌≤◌, ◌<◌, �
 ghost use Rattle.ia32_code.specs.Canonical.{Canonical};
 ghost use Rattle.device_model.specs.EventFile.{InOrder};
 ghost use Rattle.object_layout.specs.Areas.{code_start};
+ghost use Rattle.tal_checker.specs.WellTyped.{WellTyped};
 ghost use Rattle.kernel_machine.specs.Built.{IsBuilt};
 ghost use Rattle.kernel_machine.specs.Machine.{MachineView, Follows, turn_of, end_of};
 ghost use Rattle.kernel_machine.specs.States.{entry_place};
@@ -12,15 +13,17 @@ use crate::ending::Ending;
 use crate::journal::Journal;
 use crate::laws::{first_is_typed, runs_go_on, turns_keep_typing};
 use crate::run_end::RunEnd;
+use crate::screen_text::CELLS;
 use crate::shown::Shown;
-use crate::stack_words::StackWords;
-use crate::stepping::advance;
+use crate::stack_words::{STACK_END, StackWords};
+use crate::stepping::{ESP, advance};
 use crate::turn::Turn;
 use device_model::Event;
 use ia32_code::laws::canonical_is_none;
 use ia32_code::{Decoded, Inst, decode};
 use ia32_step::Cpu;
 use no_memory::NoMemory;
+use object_layout::areas::CODE_START;
 use stack_states::{FlagBits, StackState};
 use std::alloc::Global;
 use std::marker::Model;
@@ -28,14 +31,8 @@ use tal_checker::Checked;
 use tal_checker::laws::accepted_runs;
 use tal_image::Image;
 
-/// The address of the first code byte.
-pub(crate) const CODE_START: u32 = 0x10_0000;
-
 /// ESP of stack 0 with its end word alone.
-const FIRST_ESP: u32 = 0x403FFC;
-
-/// How many cells the screen has.
-const CELLS: usize = 2000;
+const FIRST_ESP: u32 = STACK_END - 4;
 
 /// A cell of the screen before it is written: a space with attribute 7.
 const BLANK: u16 = 0x0720;
@@ -70,16 +67,16 @@ impl Model for Machine {
 // Where stack 0 begins.
 #[tactic(auto, unfolding(crate::specs::States::entry_place))]
 fn entry_place(image: &Image) -> u32
+    requires { WellTyped image.now }
     ensures { result ≡ entry_place image.now 0 }
 {
-    match image.function(image.entry(0).unwrap_or(0)) {
-        Some(span) => span.start,
-        None => 0,
-    }
+    // Every stack begins at a function.
+    accepted_runs();
+    let function = image.entry(0).unwrap();
+    image.function(function).unwrap().start
 }
 
 // The instruction at an address, and the length of its spelling.
-#[tactic(auto, unfolding(crate::specs::Turns::inst_at))]
 fn inst_in(image: &Image, pc: u32) -> (Inst, u8)
     requires low { code_start ≤ pc }
     requires inside { pc ≤ code_start + length image.now.code }
@@ -99,8 +96,8 @@ fn inst_in(image: &Image, pc: u32) -> (Inst, u8)
 impl Machine {
     /// A machine before its first turn: stack 0 runs at its function, with all registers 0 and all flags clear.
     ///
-    /// The events' turns are 1 to 50000000 and do not fall, and the image is of the form that runs. After `NoMemory` the
-    /// image and the events are given up.
+    /// The events' turns are 1 to 50000000 and do not fall, and the image is of the form that runs, for which
+    /// `first_outside` is the test. After `NoMemory` the image and the events are given up.
     pub fn new(alloc: Global, checked: Checked, events: Vec<Event>) -> Result<Machine, NoMemory>
         requires ordered { InOrder events.items }
         requires built { IsBuilt checked.image }
@@ -232,6 +229,7 @@ impl Shown for Machine {
     }
 
     fn state(&self, stack: u32) -> StackState {
+        // The machine's invariant, for the proof, is known once it is looked into.
         let _checked = &self.checked;
         if stack == 0 {
             StackState::Running
@@ -242,13 +240,14 @@ impl Shown for Machine {
 
     fn stack_words(&self, stack: u32) -> &[u32] {
         if stack == 0 {
-            self.stack.from(self.cpu.regs[4])
+            self.stack.from(self.cpu.regs[ESP])
         } else {
             &[]
         }
     }
 
     fn statics(&self) -> &[u32] {
+        // As in `state`.
         let _checked = &self.checked;
         &[]
     }

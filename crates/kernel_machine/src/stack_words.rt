@@ -3,14 +3,12 @@ ghost use Rattle.kernel_machine.specs.Words.{word_number};
 
 use ia32_step::Bus;
 use no_memory::NoMemory;
+use object_layout::areas::STACKS_START;
 use std::alloc::Global;
 use std::marker::Model;
 
-/// The lowest address of stack 0.
-pub(crate) const STACK_START: u32 = 0x400000;
-
 /// The address above stack 0.
-pub(crate) const STACK_END: u32 = 0x404000;
+pub(crate) const STACK_END: u32 = STACKS_START + 16384;
 
 /// The words of stack 0, from its lowest address.
 #[derive(Drop)]
@@ -50,7 +48,7 @@ impl StackWords {
         requires high { address ≤ 0x404000 }
         ensures { result.now ≡ drop (word_number address) self.now }
     {
-        let (_below, above) = self.words.split_at(((address - STACK_START) / 4) as usize);
+        let (_below, above) = self.words.split_at(((address - STACKS_START) / 4) as usize);
         above
     }
 }
@@ -63,14 +61,14 @@ impl Bus for StackWords {
     ghost word_at = { memory_of };
 
     fn mapped(&self, address: u32) -> bool {
-        STACK_START <= address && address < STACK_END && address % 4 == 0
+        STACKS_START <= address && address < STACK_END && address % 4 == 0
     }
 
     fn load(&self, address: u32) -> u32 {
-        self.words[((address - STACK_START) / 4) as usize]
+        self.words[((address - STACKS_START) / 4) as usize]
     }
 
     fn store(&mut self, address: u32, word: u32) {
-        self.words[((address - STACK_START) / 4) as usize] = word;
+        self.words[((address - STACKS_START) / 4) as usize] = word;
     }
 }

@@ -3,22 +3,23 @@ ghost use Rattle.ia32_code.specs.Canonical.{Canonical};
 ghost use Rattle.tal_flow.specs.Rules.{next_of};
 ghost use Rattle.tal_image.specs.Image.{ImageParts};
 ghost use Rattle.kernel_machine.specs.States.{State};
-ghost use Rattle.kernel_machine.specs.Words.{top, pushes, overflows, Runs, Leads, Left, Leaves, is_stack_word, memory_of, came_back, halted_by};
+ghost use Rattle.kernel_machine.specs.Words.{top, is_push, overflows, Runs, Leads, Left, Leaves, is_stack_word, memory_of, came_back, halted_by};
 
 use crate::ending::Ending;
-use crate::stack_words::{STACK_START, StackWords};
+use crate::stack_words::StackWords;
 use ia32_code::Inst;
 use ia32_step::{Bus, Cpu, Effect, exec};
+use object_layout::areas::STACKS_START;
 
 const EAX: usize = 0;
 
-const ESP: usize = 4;
+pub(crate) const ESP: usize = 4;
 
 /// The vector of the stack fault.
 const STACK_FAULT: u8 = 12;
 
-fn pushes(inst: &Inst) -> bool
-    ensures { result ≡ pushes inst.now }
+fn is_push(inst: &Inst) -> bool
+    ensures { result ≡ is_push inst.now }
 {
     matches!(inst, Inst::Push(_) | Inst::CallRel(_) | Inst::CallAt(_))
 }
@@ -27,7 +28,7 @@ fn pushes(inst: &Inst) -> bool
 fn overflows(inst: &Inst, cpu: &Cpu) -> bool
     ensures { result ≡ overflows inst.now cpu.now }
 {
-    pushes(inst) && cpu.regs[ESP] == STACK_START
+    is_push(inst) && cpu.regs[ESP] == STACKS_START
 }
 
 // Runs an instruction that has room for what it pushes. What it leaves is the caller's.
@@ -38,6 +39,7 @@ fn execute(cpu: &mut Cpu, stack: &mut StackWords, inst: &Inst, len: u8) -> Effec
     ensures { (image : ImageParts) (s t : State) → Leads image inst.now len cpu.old stack.old s t
         → Left result (next_of s.place len) cpu.new stack.new s t }
 {
+    // A fact for the proof, before and after.
     stack.whole();
     let effect = exec(cpu, stack, inst, len);
     stack.whole();
@@ -55,6 +57,7 @@ fn enter(cpu: &mut Cpu, stack: &mut StackWords, target: u32, next: u32)
     ensures before { length stack.old ≡ 4096 }
     ensures after { length stack.new ≡ 4096 }
 {
+    // A fact for the proof, before and after.
     stack.whole();
     let top = cpu.regs[ESP] - 4;
     stack.store(top, next);

@@ -5,7 +5,7 @@ use Rattle.outside.specs.FileMaps.{FileMap, Gives, Lacks}
 use Rattle.tal_image.specs.Image.{ImageParts}
 use Rattle.tal_image.specs.Laws.{OneMeaning}
 use Rattle.tal_checker.specs.WellTyped.{OneRefusal}
-use Rattle.kernel_machine.specs.Built.{IsBuilt, FirstOutside, outside}
+use Rattle.kernel_machine.specs.Built.{IsBuilt, FirstOutside, first_of, outside}
 use Rattle.verve_tool.specs.Words.{RunWords, Request, Run, Check, image_name}
 use Rattle.verve_tool.specs.Files.{image_most, events_most, IsWithin, IsTooLong}
 use Rattle.verve_tool.specs.Decided.{RunDecides, CheckDecides, ImageDecides, BytesDecide, EventsDecide, WithinDecide, ImageBytesDecide, Decides, OneDecision}
@@ -36,12 +36,13 @@ within_or_not : (most : ℕ) (bytes : List ℕ) → IsWithin most bytes → IsTo
 within_or_not most bytes w l = omega arith
 
 -- a list is not empty and with a first element at once
-no_first : (xs later : List ℕ) (at : ℕ) → xs ≡ [] → xs ≡ at ∷ later → ⊥
-no_first xs later at e f = cc
+no_first : (xs : List ℕ) (at : ℕ) → xs ≡ [] → first_of xs ≡ Some at → ⊥
+no_first [] at e f = cc
+no_first (x ∷ xs) at e f = cc
 
 -- an image has the form that runs or is first outside it somewhere, and not both
 built_or_not : (image : ImageParts) (at : ℕ) → IsBuilt image → FirstOutside image at → ⊥
-built_or_not image at b o = no_first (outside image) o.0 at b o.1
+built_or_not image at b o = no_first (outside image) at b o
 
 -- what comes of an accepted image is one status
 abbrev OneOf : (ImageParts → Status → Type 0) → Type 0
