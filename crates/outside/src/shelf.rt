@@ -9,10 +9,12 @@ use no_memory::NoMemory;
 use std::alloc::Global;
 use std::marker::Model;
 
-/// A name, and for how many bytes its file has room.
+/// Room for one file in memory.
 #[derive(Clone, Copy, Debug)]
 pub struct FileRoom<'a> {
+    /// The file's name.
     pub name: &'a str,
+    /// How many bytes the file has at most.
     pub room: usize,
 }
 

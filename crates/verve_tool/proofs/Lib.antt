@@ -1,7 +1,10 @@
 pub mod Loading
 pub mod Printing
+pub mod Decided
 pub mod Decisions
+pub mod Causes
 pub mod Exact
 pub mod StopStatuses
 pub mod Stopped
+pub mod Complaints
 pub mod WordLemmas

@@ -6,19 +6,21 @@ use Rattle.std.specs.Prelude.{not, bytes_eq}
 use Rattle.std.proofs.lemmas.Slice.Eq.{bytes_eq-Decides}
 use mathlib.Core.Bool.{true≢false}
 
--- a result is not Ok and Err at once
-apart : {T E : Type 0} (x : T) (e : E) → Ok x ≡ Err e → ⊥
-apart x e h = cc
+-- Ok and Err are different
+ok_or_err : {T E : Type 0} (x : T) (e : E) → Ok x ≡ Err e → ⊥
+ok_or_err x e h = cc
 
+-- a result is not Ok and Err at once
 pub no_err : {T E : Type 0} (r : Result T E) (x : T) (e : E) → r ≡ Ok x → r ≡ Err e → ⊥
-no_err r x e ok err = apart x e (sym ok ∙ err)
+no_err r x e ok err = ok_or_err x e (sym ok ∙ err)
 
 -- a result is Ok of one number
 pub same_ok : {E : Type 0} (r : Result ℕ E) (x y : ℕ) → r ≡ Ok x → r ≡ Ok y → x ≡ y
 same_ok r x y a b = cc
 
 -- four words are the list of them
-pub four_words : (words : List (String Global)) (a b c d : String Global) → length words ≡ 4 → a ≡ get_or words 0 a → b ≡ get_or words 1 b → c ≡ get_or words 2 c → d ≡ get_or words 3 d → words ≡ a ∷ b ∷ c ∷ d ∷ []
+pub four_words : (words : List (String Global)) (a b c d : String Global) → length words ≡ 4
+    → a ≡ get_or words 0 a → b ≡ get_or words 1 b → c ≡ get_or words 2 c → d ≡ get_or words 3 d → words ≡ a ∷ b ∷ c ∷ d ∷ []
 four_words [] a b c d len h0 h1 h2 h3 = let bad : ⊥ = omega arith in absurd bad
 four_words (w ∷ []) a b c d len h0 h1 h2 h3 = let bad : ⊥ = omega arith in absurd bad
 four_words (w ∷ x ∷ []) a b c d len h0 h1 h2 h3 = let bad : ⊥ = omega arith in absurd bad

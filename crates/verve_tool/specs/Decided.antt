@@ -1,56 +1,43 @@
--- What the contents of told files decide, as a chain of questions each of which has one answer.
-use Rattle.std.specs.Prelude.{◌≡◌, ◌≢◌, ◌⊎◌, ℕ, List, [], Option, Some}
-use Rattle.outside.specs.FileMaps.{FileMap, Gives}
+-- What told files decide, where no read fails: a status refuses the command, or a file is missing, or nothing stops it.
+use Rattle.std.specs.Prelude.{◌≡◌, ◌⊎◌, ℕ, List, Option, Some}
+use Rattle.outside.specs.FileMaps.{FileMap, Lacks}
 use Rattle.tal_image.specs.Image.{ImageParts}
-use Rattle.tal_image.specs.Formed.{ImageOf}
-use Rattle.tal_image.specs.Laws.{FirstFault}
 use Rattle.tal_image.specs.declared.fault.ImageFault.{ImageFault}
-use Rattle.tal_checker.specs.WellTyped.{WellTyped, FirstRefusal}
-use Rattle.kernel_machine.specs.Built.{IsBuilt, FirstOutside}
-use Rattle.verve_tool.specs.Words.{RunWords, Request, Run, Check, image_name}
-use Rattle.verve_tool.specs.Files.{image_most, events_most, IsWithin, IsTooLong}
+use Rattle.verve_tool.specs.Words.{Request, Run, Check, image_name}
+use Rattle.verve_tool.specs.Files.{TypedImage, Loaded, LongImage, HasLongEvents, FaultyImage, IllTyped, OutsideForm, SomeEvents, FileRead, image_most}
 use Rattle.verve_tool.specs.declared.status.Status.{Status}
-use Rattle.verve_tool.specs.declared.status.Status.TheVariants.{Done, Malformed, Refused, TooLong, NotBuilt}
+use Rattle.verve_tool.specs.declared.status.Status.TheVariants.{Malformed, Refused, TooLong, NotBuilt}
 
--- an accepted image of a run, with the bytes of the event file: it is outside the form that runs, or there are events, or it runs
-abbrev pub RunDecides : List ℕ → ImageParts → Status → Type 0
-RunDecides event_bytes image s =
-    ((at : ℕ) × FirstOutside image at × (s ≡ NotBuilt))
-    ⊎ (IsBuilt image × (((event_bytes ≢ []) × (s ≡ NotBuilt)) ⊎ ((event_bytes ≡ []) × (s ≡ Done))))
+-- what of a run is not built
+abbrev pub IsNotBuilt : Option FileMap → Request → Type 0
+IsNotBuilt told (Run run) = ((at : ℕ) × OutsideForm told run at) ⊎ SomeEvents told run
+IsNotBuilt told (Check image) = ⊥
 
--- an accepted image of a check
-abbrev pub CheckDecides : ImageParts → Status → Type 0
-CheckDecides image s = s ≡ Done
+-- the status by which the contents of the files refuse the command
+abbrev pub Refuses : Option FileMap → Request → Status → Type 0
+Refuses told request TooLong = LongImage told (image_name request) ⊎ HasLongEvents told request
+Refuses told request Malformed = (f : ImageFault) × FaultyImage told request f
+Refuses told request Refused = (address rule : ℕ) × IllTyped told request address rule
+Refuses told request NotBuilt = IsNotBuilt told request
+Refuses told request _ = ⊥
 
--- an image: a rule fails in it, or it is accepted, and then that decides
-abbrev pub ImageDecides : (ImageParts → Status → Type 0) → ImageParts → Status → Type 0
-ImageDecides Then image s = ((address rule : ℕ) × FirstRefusal image address rule × (s ≡ Refused)) ⊎ (WellTyped image × Then image s)
+-- the first file that the words name and the files lack: the image, or else a run's events, where the image was read and is
+-- not too long
+abbrev pub IsMissing : Option FileMap → Request → Type 0
+IsMissing told (Run run) = Lacks told run.image ⊎ ((bytes : List ℕ) × FileRead told run.image image_most bytes × Lacks told run.events)
+IsMissing told (Check image) = Lacks told image
 
--- the bytes of an image file: they have a first fault, or an image stands for them
-abbrev pub BytesDecide : (ImageParts → Status → Type 0) → List ℕ → Status → Type 0
-BytesDecide Then bytes s = ((f : ImageFault) × FirstFault bytes f × (s ≡ Malformed)) ⊎ ((image : ImageParts) × ImageOf bytes image × ImageDecides Then image s)
+-- nothing that the files of a command hold stops it
+abbrev pub Serves : Option FileMap → Request → Type 0
+Serves told (Run run) = (image : ImageParts) × Loaded told run image
+Serves told (Check name) = (image : ImageParts) × TypedImage told (Check name) image
 
--- the bytes of a run's image file, which are not too long: the event file is, or not
-abbrev pub EventsDecide : Option FileMap → RunWords → List ℕ → Status → Type 0
-EventsDecide told run image_bytes s = (event_bytes : List ℕ) × Gives told run.events events_most event_bytes
-    × ((IsTooLong events_most event_bytes × (s ≡ TooLong)) ⊎ (IsWithin events_most event_bytes × BytesDecide (RunDecides event_bytes) image_bytes s))
-
--- the bytes of a command's image file, which are not too long
-abbrev pub WithinDecide : Option FileMap → Request → List ℕ → Status → Type 0
-WithinDecide told (Run run) image_bytes s = EventsDecide told run image_bytes s
-WithinDecide told (Check image) image_bytes s = BytesDecide CheckDecides image_bytes s
-
--- the bytes of the image file are too long, or not
-abbrev pub ImageBytesDecide : Option FileMap → Request → List ℕ → Status → Type 0
-ImageBytesDecide told request image_bytes s =
-    (IsTooLong image_most image_bytes × (s ≡ TooLong)) ⊎ (IsWithin image_most image_bytes × WithinDecide told request image_bytes s)
-
--- the files of a command; what nothing refuses is Done
-pub record Decides (told : Option FileMap) (request : Request) (s : Status) : Type 0 where
-  pub image_bytes : List ℕ
-  pub image_read : Gives told (image_name request) image_most image_bytes
-  pub next : ImageBytesDecide told request image_bytes s
-
--- told files decide one status
-abbrev pub OneDecision : Type 0
-OneDecision = (files : FileMap) (request : Request) (s t : Status) → Decides (Some files) request s → Decides (Some files) request t → s ≡ t
+-- Told files decide one thing of a command.
+pub record OneStatus (files : FileMap) (request : Request) : Type 0 where
+  -- one status refuses it at most
+  pub one_refusal : (s t : Status) → Refuses (Some files) request s → Refuses (Some files) request t → s ≡ t
+  -- what is refused is not served, and lacks no file
+  pub refused_or_served : (s : Status) → Refuses (Some files) request s → Serves (Some files) request → ⊥
+  pub refused_or_missing : (s : Status) → Refuses (Some files) request s → IsMissing (Some files) request → ⊥
+  -- what is served lacks no file
+  pub served_or_missing : Serves (Some files) request → IsMissing (Some files) request → ⊥

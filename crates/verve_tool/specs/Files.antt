@@ -1,14 +1,13 @@
 -- What the files of a command hold, and what that decides.
-use Rattle.std.specs.Prelude.{◌≡◌, ◌≢◌, ◌<◌, ◌≤◌, ℕ, List, [], length, Option}
+use Rattle.std.specs.Prelude.{◌≡◌, ◌≢◌, ◌⊎◌, ◌<◌, ◌≤◌, ℕ, List, [], length, Option}
 use Rattle.outside.specs.FileMaps.{FileMap, Gives}
 use Rattle.tal_image.specs.Image.{ImageParts}
 use Rattle.tal_image.specs.Formed.{ImageOf}
 use Rattle.tal_image.specs.Laws.{FirstFault}
 use Rattle.tal_image.specs.declared.fault.ImageFault.{ImageFault}
-use Rattle.tal_image.specs.declared.fault.ImageFault.TheVariants as fault
 use Rattle.tal_checker.specs.WellTyped.{WellTyped, FirstRefusal}
 use Rattle.kernel_machine.specs.Built.{IsBuilt, FirstOutside}
-use Rattle.verve_tool.specs.Words.{RunWords, Request, Run, Check, image_name}
+use Rattle.verve_tool.specs.Words.{RunWords, Request, Run, Check}
 
 -- an image file has at most 4 MiB
 abbrev pub image_most : ℕ
@@ -31,6 +30,11 @@ pub record FileRead (told : Option FileMap) (name : List ℕ) (most : ℕ) (byte
   pub read : Gives told name most bytes
   pub within : IsWithin most bytes
 
+-- A command comes to read this file: the image's, or a run's events', where the image was read and is not too long.
+abbrev pub ReadAt : Option FileMap → Request → List ℕ → Type 0
+ReadAt told (Run run) name = (name ≡ run.image) ⊎ ((name ≡ run.events) × ((bytes : List ℕ) × FileRead told run.image image_most bytes))
+ReadAt told (Check image) name = name ≡ image
+
 -- the files that a command names were read, and none is too long: the image's with these bytes, and a run's events with those
 abbrev pub FilesRead : Option FileMap → Request → List ℕ → List ℕ → Type 0
 FilesRead told (Run run) image_bytes event_bytes = FileRead told run.image image_most image_bytes × FileRead told run.events events_most event_bytes
@@ -50,12 +54,13 @@ pub record Loaded (told : Option FileMap) (run : RunWords) (image : ImageParts) 
   pub built : IsBuilt image
   pub no_events : typed.event_bytes ≡ []
 
--- A file that was read is too long: the image's, or else a run's events'.
+-- the image file was read, and is too long
 pub record LongImage (told : Option FileMap) (name : List ℕ) : Type 0 where
   pub bytes : List ℕ
   pub read : Gives told name image_most bytes
   pub long : IsTooLong image_most bytes
 
+-- the image file of a run was read and is not too long, and the event file was read and is
 pub record LongEvents (told : Option FileMap) (run : RunWords) : Type 0 where
   pub image_bytes : List ℕ
   pub event_bytes : List ℕ
@@ -63,6 +68,7 @@ pub record LongEvents (told : Option FileMap) (run : RunWords) : Type 0 where
   pub read : Gives told run.events events_most event_bytes
   pub long : IsTooLong events_most event_bytes
 
+-- the event file of a run is too long; a check has none
 abbrev pub HasLongEvents : Option FileMap → Request → Type 0
 HasLongEvents told (Run run) = LongEvents told run
 HasLongEvents told (Check image) = ⊥

@@ -1,5 +1,7 @@
 -- The line on the error stream that tells what went wrong, and what a check prints.
-use Rattle.std.specs.Prelude.{ℕ, List, ◌++◌, codes, decimal}
+use Rattle.std.specs.Prelude.{◌≤◌, ℕ, List, ◌++◌, Option, codes, decimal}
+use Rattle.outside.specs.Faults.{Quiet}
+use Rattle.outside.specs.Sinks.{Gained, GainedFront}
 use Rattle.kernel_machine.specs.Report.{word_text}
 use Rattle.tal_image.specs.declared.fault.ImageFault.{ImageFault}
 use Rattle.tal_image.specs.declared.fault.ImageFault.TheVariants as fault
@@ -52,3 +54,9 @@ fault_line name fault.NoMemory = no_memory_line
 -- the first address at which a rule fails, and the least rule failing there
 abbrev pub refused_line : ℕ → ℕ → List ℕ
 refused_line address rule = codes "refused at " ++ word_text address ++ codes " rule " ++ decimal rule ++ codes "\n"
+
+-- A stream gained a front of this text, and all of it where it did not fail. The counts are those of its failures, before and after.
+pub record Says (faults faults_after : ℕ) (told told_after : Option (List ℕ)) (text : List ℕ) : Type 0 where
+  pub never_falls : faults ≤ faults_after
+  pub front : GainedFront told told_after text
+  pub whole : Quiet faults faults_after → Gained told told_after text

@@ -1,9 +1,9 @@
 -- What a command did, by its status.
 use Rattle.std.specs.Prelude.{◌≡◌, ◌≢◌, ◌≤◌, ◌⊎◌, ℕ, List, [], Bool, true, Option, Some, None, IsSome, String}
 use Rattle.std.specs.declared.alloc.Global.{Global}
-use Rattle.outside.specs.FileMaps.{FileMap, IsFront, Gives, Lacks}
+use Rattle.outside.specs.FileMaps.{FileMap, Lacks}
 use Rattle.outside.specs.Faults.{Faulted}
-use Rattle.outside.specs.Sinks.{Gained}
+use Rattle.outside.specs.Sinks.{Gained, GainedFront}
 use Rattle.tal_image.specs.Image.{ImageParts}
 use Rattle.tal_image.specs.declared.fault.ImageFault.{ImageFault}
 use Rattle.tal_image.specs.declared.fault.ImageFault.TheVariants as image_fault
@@ -13,8 +13,8 @@ use Rattle.kernel_machine.specs.Machine.{MachineView, Follows, end_of}
 use Rattle.kernel_machine.specs.Report.{ReportText}
 use Rattle.stack_states.specs.declared.journal_entry.Entry.{Entry}
 use Rattle.kernel_machine.specs.declared.ending.Ending.TheVariants as ending
-use Rattle.verve_tool.specs.Words.{RunWords, Request, Run, Check, WordsOf, NoCommand, Names, image_name}
-use Rattle.verve_tool.specs.Files.{TypedImage, Loaded, LongImage, LongEvents, HasLongEvents, FaultyImage, IllTyped, OutsideForm, SomeEvents, FileRead, image_most}
+use Rattle.verve_tool.specs.Words.{RunWords, Request, Run, Check, WordsOf, NoCommand, image_name}
+use Rattle.verve_tool.specs.Files.{ReadAt, TypedImage, Loaded, LongImage, LongEvents, FaultyImage, IllTyped, OutsideForm, SomeEvents}
 use Rattle.verve_tool.specs.Lines.{accepted_text, usage_line, read_line, write_line, long_line, no_memory_line, not_built_line, fault_line, refused_line}
 use Rattle.verve_tool.specs.declared.status.Status.{Status}
 use Rattle.verve_tool.specs.declared.status.Status.TheVariants.{Done, Usage, ReadFault, WriteFault, Malformed, Refused, TooLong, KernelFault, NoMemory, NotBuilt}
@@ -35,28 +35,33 @@ pub record Call : Type 0 where
 
 -- ---- runs
 
--- The machine that is kept has run the image of the files, which is well typed, for the turns that were asked for, or until
--- the run ended. Its journal is the call's, its run is legal, and it stands for the state of that run.
-pub record RanWhole (c : Call) (run : RunWords) : Type 0 where
-  pub image : ImageParts
-  pub loaded : Loaded c.files run image
-  pub machine : MachineView
-  pub is : c.kept ≡ Some machine
-  pub image_is : machine.image ≡ image
-  pub events_are : machine.events ≡ []
-  pub follows : Follows machine c.entries
-  pub turns : (machine.turns ≡ run.turns) ⊎ (IsSome machine.ending × (machine.turns ≤ run.turns))
+-- A machine has run its image, without events, for at most these turns, and these are the entries of its journal. The run is
+-- legal, and the machine stands for the state of that run.
+pub record RanFor (turns : ℕ) (entries : List Entry) (machine : MachineView) : Type 0 where
+  pub no_events : machine.events ≡ []
+  pub follows : Follows machine entries
+  pub within : machine.turns ≤ turns
 
--- the same, where the run may have stopped for want of memory before these turns
-pub record RanPart (c : Call) (run : RunWords) : Type 0 where
-  pub image : ImageParts
-  pub loaded : Loaded c.files run image
+-- it took all of these turns, or the run ended
+abbrev pub IsOver : ℕ → MachineView → Type 0
+IsOver turns machine = (machine.turns ≡ turns) ⊎ IsSome machine.ending
+
+-- The machine that is kept has run the image of the files, which is well typed and of the form that runs, for at most the turns
+-- that were asked for, and its journal is the call's.
+pub record RanWithin (c : Call) (run : RunWords) : Type 0 where
   pub machine : MachineView
   pub is : c.kept ≡ Some machine
-  pub image_is : machine.image ≡ image
-  pub events_are : machine.events ≡ []
-  pub follows : Follows machine c.entries
-  pub turns : machine.turns ≤ run.turns
+  pub loaded : Loaded c.files run machine.image
+  pub ran : RanFor run.turns c.entries machine
+
+-- the same, and the run is over
+pub record RanWhole (c : Call) (run : RunWords) : Type 0 where
+  pub within : RanWithin c run
+  pub over : IsOver run.turns within.machine
+
+-- the run of the typed machine that the kept machine stands for
+abbrev pub typed_run : (c : Call) (run : RunWords) → RanWhole c run → RunView
+typed_run c run whole = whole.within.ran.follows.run
 
 -- the report of the typed machine's run
 abbrev pub text_of : RunView → List ℕ
@@ -67,18 +72,18 @@ pub record Printed (c : Call) : Type 0 where
   pub run : RunWords
   pub words : WordsOf c.words (Run run)
   pub ran : RanWhole c run
-  pub text : Gained c.out c.out_after (text_of ran.follows.run)
+  pub text : Gained c.out c.out_after (text_of (typed_run c run ran))
 
 -- the run did not end by a kernel fault
 pub record RunDone (c : Call) : Type 0 where
   pub printed : Printed c
-  pub no_fault : (vector : ℕ) → printed.ran.follows.run.state.ending ≢ Some (ending.KernelFault vector)
+  pub no_fault : (vector : ℕ) → (typed_run c printed.run printed.ran).state.ending ≢ Some (ending.KernelFault vector)
 
 -- the run ended by a kernel fault
 pub record KernelFaultOf (c : Call) (line : List ℕ) : Type 0 where
   pub printed : Printed c
   pub vector : ℕ
-  pub fault : printed.ran.follows.run.state.ending ≡ Some (ending.KernelFault vector)
+  pub fault : (typed_run c printed.run printed.ran).state.ending ≡ Some (ending.KernelFault vector)
   pub line_is : line ≡ []
 
 -- the image ran, and writing the report failed after a front of it
@@ -86,9 +91,7 @@ pub record RunUnwritten (c : Call) : Type 0 where
   pub run : RunWords
   pub words : WordsOf c.words (Run run)
   pub ran : RanWhole c run
-  pub part : List ℕ
-  pub front : IsFront part (text_of ran.follows.run)
-  pub text : Gained c.out c.out_after part
+  pub text : GainedFront c.out c.out_after (text_of (typed_run c run ran))
 
 -- ---- checks
 
@@ -112,9 +115,7 @@ pub record CheckUnwritten (c : Call) : Type 0 where
   pub words : WordsOf c.words (Check name)
   pub image : ImageParts
   pub typed : TypedImage c.files (Check name) image
-  pub part : List ℕ
-  pub front : IsFront part accepted_text
-  pub text : Gained c.out c.out_after part
+  pub text : GainedFront c.out c.out_after accepted_text
   pub unrun : Unrun c
 
 -- ---- the other statuses
@@ -135,13 +136,13 @@ pub record UsageOf (c : Call) (line : List ℕ) : Type 0 where
   pub idle : Idle c
   pub line_is : line ≡ usage_line
 
--- A read failed, of a file that the words name; over steady files it is missing.
+-- A read failed, of a file that the command comes to read; over steady files it is missing.
 pub record ReadFaultOf (c : Call) (line : List ℕ) : Type 0 where
   pub request : Request
   pub words : WordsOf c.words request
   pub fault : Faulted c.reads c.reads_after
   pub name : List ℕ
-  pub named : Names request name
+  pub named : ReadAt c.files request name
   pub missing : c.steady ≡ true → Lacks c.files name
   pub idle : Idle c
   pub line_is : line ≡ read_line name
@@ -193,7 +194,7 @@ pub record NoMemoryOf (c : Call) (line : List ℕ) : Type 0 where
   pub request : Request
   pub words : WordsOf c.words request
   pub silent : c.out_after ≡ c.out
-  pub left : Unrun c ⊎ ((run : RunWords) × (request ≡ Run run) × RanPart c run)
+  pub left : Unrun c ⊎ ((run : RunWords) × (request ≡ Run run) × RanWithin c run)
   pub line_is : line ≡ no_memory_line
 
 -- what each status tells, with the line that goes to the error stream
@@ -208,24 +209,3 @@ Outcome c TooLong line = TooLongOf c line
 Outcome c KernelFault line = KernelFaultOf c line
 Outcome c NoMemory line = NoMemoryOf c line
 Outcome c NotBuilt line = NotBuiltOf c line
-
--- ---- what told files decide, where no read fails
-
--- what of a run is not built
-abbrev pub IsNotBuilt : Option FileMap → Request → Type 0
-IsNotBuilt told (Run run) = ((at : ℕ) × OutsideForm told run at) ⊎ SomeEvents told run
-IsNotBuilt told (Check image) = ⊥
-
--- the status that the contents of the files call for, where that is a refusal
-abbrev pub Refuses : Option FileMap → Request → Status → Type 0
-Refuses told request TooLong = LongImage told (image_name request) ⊎ HasLongEvents told request
-Refuses told request Malformed = (f : ImageFault) × FaultyImage told request f
-Refuses told request Refused = (address rule : ℕ) × IllTyped told request address rule
-Refuses told request NotBuilt = IsNotBuilt told request
-Refuses told request _ = ⊥
-
--- the first file that the words name and the files lack: the image, or else a run's events, where the image was read and is
--- not too long
-abbrev pub IsMissing : Option FileMap → Request → Type 0
-IsMissing told (Run run) = Lacks told run.image ⊎ ((bytes : List ℕ) × FileRead told run.image image_most bytes × Lacks told run.events)
-IsMissing told (Check image) = Lacks told image

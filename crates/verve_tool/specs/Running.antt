@@ -1,7 +1,6 @@
 -- What the code reads from the words, and what a run leaves.
-use Rattle.std.specs.Prelude.{◌≡◌, ◌≤◌, ◌⊎◌, ℕ, List, [], IsSome}
+use Rattle.std.specs.Prelude.{◌≡◌, ℕ, List, []}
 use Rattle.tal_image.specs.Image.{ImageParts}
-use Rattle.kernel_machine.specs.Machine.{MachineView, Follows}
 use Rattle.stack_states.specs.declared.journal_entry.Entry.{Entry}
 use Rattle.kernel_machine.specs.declared.run_end.RunEnd.{RunEnd}
 use Rattle.kernel_machine.specs.declared.run_end.RunEnd.TheVariants as end
@@ -13,6 +12,7 @@ use Rattle.verve_tool.specs.declared.words.Command.TheVariants as command
 use Rattle.verve_tool.specs.declared.runs.Left.{Left}
 use Rattle.verve_tool.specs.declared.runs.Left.TheVariants.{Finished, Short, NoMachine}
 use Rattle.verve_tool.specs.Words.{RunWords, Request, Run, Check}
+use Rattle.verve_tool.specs.Outcome.{RanFor, IsOver}
 
 -- the run that a command asks for
 abbrev pub run_of : RunCommand → RunWords
@@ -23,24 +23,10 @@ abbrev pub request_of : Command → Request
 request_of (command.Run run) = Run (run_of run)
 request_of (command.Check image) = Check image.now
 
--- the machine has run the image for the turns, or until the run ended
-pub record Ran (image : ImageParts) (turns : ℕ) (entries : List Entry) (machine : MachineView) : Type 0 where
-  pub image_is : machine.image ≡ image
-  pub events_are : machine.events ≡ []
-  pub follows : Follows machine entries
-  pub turns_are : (machine.turns ≡ turns) ⊎ (IsSome machine.ending × (machine.turns ≤ turns))
-
--- the machine has run the image for at most these turns
-pub record RanShort (image : ImageParts) (turns : ℕ) (entries : List Entry) (machine : MachineView) : Type 0 where
-  pub image_is : machine.image ≡ image
-  pub events_are : machine.events ≡ []
-  pub follows : Follows machine entries
-  pub turns_within : machine.turns ≤ turns
-
--- what a run of an image leaves
+-- what a run of an image leaves: a machine whose run is over, one that may have stopped before, or none
 abbrev pub Leaves : ImageParts → ℕ → List Entry → Left → Type 0
-Leaves image turns entries (Finished machine) = Ran image turns entries machine
-Leaves image turns entries (Short machine) = RanShort image turns entries machine
+Leaves image turns entries (Finished machine) = (machine.image ≡ image) × RanFor turns entries machine × IsOver turns machine
+Leaves image turns entries (Short machine) = (machine.image ≡ image) × RanFor turns entries machine
 Leaves image turns entries NoMachine = entries ≡ []
 
 -- the status of a run that was printed

@@ -9,8 +9,8 @@ use Rattle.tal_image.specs.declared.fault.ImageFault.{ImageFault}
 use Rattle.tal_image.specs.declared.fault.ImageFault.TheVariants as fault
 use Rattle.tal_checker.specs.WellTyped.{WellTyped, FirstRefusal}
 use Rattle.kernel_machine.specs.Built.{IsBuilt, FirstOutside}
-use Rattle.verve_tool.specs.Words.{RunWords, Request, Run, Check, Names, image_name}
-use Rattle.verve_tool.specs.Files.{LongImage, LongEvents, FaultyImage, IllTyped, OutsideForm, SomeEvents, IsTooLong}
+use Rattle.verve_tool.specs.Words.{RunWords, Request, Run, image_name}
+use Rattle.verve_tool.specs.Files.{ReadAt, LongImage, LongEvents, FaultyImage, IllTyped, OutsideForm, SomeEvents, IsTooLong}
 use Rattle.verve_tool.specs.Lines.{usage_line, read_line, write_line, long_line, no_memory_line, not_built_line, fault_line, refused_line}
 use Rattle.verve_tool.specs.declared.status.Status.{Status}
 use Rattle.verve_tool.specs.declared.status.Status.TheVariants as status
@@ -57,14 +57,14 @@ StopsRead told steady reads reads_after name most (Long n) = (n.now ≡ name) ×
 StopsRead told steady reads reads_after name most NoMemory = Unit {0}
 StopsRead told steady reads reads_after name most _ = ⊥
 
--- a fault of the bytes of an image file; want of memory tells nothing of them
-abbrev pub FaultOf : List ℕ → ImageFault → Type 0
-FaultOf bytes fault.NoMemory = Unit {0}
-FaultOf bytes f = FirstFault bytes f
+-- this holds of the fault, or memory was wanting, which tells nothing of the file
+abbrev pub FaultOrNoMemory : (ImageFault → Type 0) → ImageFault → Type 0
+FaultOrNoMemory Holds fault.NoMemory = Unit {0}
+FaultOrNoMemory Holds f = Holds f
 
 -- why no image of the bytes of the file of this name is accepted
 abbrev pub StopsBytes : List ℕ → List ℕ → Stop → Type 0
-StopsBytes bytes name (Image n f) = (n.now ≡ name) × FaultOf bytes f
+StopsBytes bytes name (Image n f) = (n.now ≡ name) × FaultOrNoMemory (FirstFault bytes) f
 StopsBytes bytes name (Refused address rule) = (image : ImageParts) × ImageOf bytes image × FirstRefusal image address rule
 StopsBytes bytes name NoMemory = Unit {0}
 StopsBytes bytes name _ = ⊥
@@ -80,11 +80,6 @@ abbrev pub StopsRunBytes : List ℕ → List ℕ → RunWords → Stop → Type 
 StopsRunBytes image_bytes event_bytes run s =
     StopsBytes image_bytes run.image s ⊎ ((image : ImageParts) × ImageOf image_bytes image × WellTyped image × StopsForm image event_bytes run s)
 
--- a fault of the image file; want of memory tells nothing of it
-abbrev pub FileFault : Option FileMap → Request → ImageFault → Type 0
-FileFault told request fault.NoMemory = Unit {0}
-FileFault told request f = FaultyImage told request f
-
 -- a file is too long: the image's, or a run's events'
 abbrev pub TooLongFile : Option FileMap → Request → List ℕ → Type 0
 TooLongFile told request name =
@@ -93,9 +88,9 @@ TooLongFile told request name =
 
 -- why the files of a command gave nothing to run or to accept
 abbrev pub StopsLoad : Option FileMap → Bool → ℕ → ℕ → Request → Stop → Type 0
-StopsLoad told steady reads reads_after request (Read n) = Names request n.now × Faulted reads reads_after × (steady ≡ true → Lacks told n.now)
+StopsLoad told steady reads reads_after request (Read n) = ReadAt told request n.now × Faulted reads reads_after × (steady ≡ true → Lacks told n.now)
 StopsLoad told steady reads reads_after request (Long n) = TooLongFile told request n.now
-StopsLoad told steady reads reads_after request (Image n f) = (n.now ≡ image_name request) × FileFault told request f
+StopsLoad told steady reads reads_after request (Image n f) = (n.now ≡ image_name request) × FaultOrNoMemory (FaultyImage told request) f
 StopsLoad told steady reads reads_after request (Refused address rule) = IllTyped told request address rule
 StopsLoad told steady reads reads_after request (Form n at) = (run : RunWords) × (request ≡ Run run) × OutsideForm told run at × (n.now ≡ run.image)
 StopsLoad told steady reads reads_after request (Events n) = (run : RunWords) × (request ≡ Run run) × SomeEvents told run × (n.now ≡ run.events)

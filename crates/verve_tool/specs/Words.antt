@@ -1,5 +1,5 @@
 -- The words of a command.
-use Rattle.std.specs.Prelude.{◌≡◌, ◌≢◌, ◌≤◌, ◌⊎◌, ℕ, List, [], ◌∷◌, map, codes, decimal, String, string_bytes}
+use Rattle.std.specs.Prelude.{◌≡◌, ◌≢◌, ◌≤◌, ℕ, List, [], ◌∷◌, map, codes, decimal, String, string_bytes}
 use Rattle.std.specs.declared.alloc.Global.{Global}
 
 -- `run IMAGE EVENTS TURNS`: the names of the two files, and how many turns at most
@@ -39,8 +39,3 @@ NoCommand words = (request : Request) → WordsOf words request → ⊥
 abbrev pub image_name : Request → List ℕ
 image_name (Run run) = run.image
 image_name (Check image) = image
-
--- the names of the files that are read
-abbrev pub Names : Request → List ℕ → Type 0
-Names (Run run) name = (name ≡ run.image) ⊎ (name ≡ run.events)
-Names (Check image) name = name ≡ image

@@ -2,17 +2,18 @@
 ghost use Rattle.std.specs.Prelude.{◌≡◌, ◌≤◌, ◌<◌, ◌⊎◌, ℕ, List, [], Some, MatchResult, IfErr, IsErr};
 ghost use Rattle.outside.specs.FileMaps.{FileMap};
 ghost use Rattle.outside.specs.Faults.{Quiet};
-ghost use Rattle.outside.specs.Sinks.{Gained};
+ghost use Rattle.outside.specs.Sinks.{Gained, GainedFront};
 ghost use Rattle.tal_image.specs.Image.{ImageParts};
 ghost use Rattle.verve_tool.specs.Words.{RunWords, Request, Run, Check, WordsOf, NoCommand};
 ghost use Rattle.verve_tool.specs.Files.{TypedImage, Loaded};
-ghost use Rattle.verve_tool.specs.Outcome.{Call, Outcome, Refuses, IsMissing};
+ghost use Rattle.verve_tool.specs.Outcome.{Call, Outcome};
+ghost use Rattle.verve_tool.specs.Decided.{Refuses, IsMissing};
 ghost use Rattle.verve_tool.specs.Stops.{status_of, line_of, IsUnread, IsUnwritten};
 ghost use Rattle.verve_tool.specs.declared.status.Status.{Status};
 
 use crate::checks::act_check;
 use crate::complaint::complain;
-use crate::laws::one_decision;
+use crate::laws::one_status;
 use crate::runs::act_run;
 use crate::status::Status;
 use crate::stop::Stop;
@@ -61,11 +62,14 @@ fn act<'a, F: Files, K: Sink>(
 }
 
 /// Does what the words of a command line, without the program's own name, say: `run IMAGE EVENTS TURNS` runs the image of
-/// one file over the events of another for so many turns at most, and puts the report into `out` in one piece;
-/// `check IMAGE` puts `accepted` into `out` where the image of a file is well typed.
+/// one file over the events of another for so many turns at most, from 1 to 50000000, and puts the report into `out` in one
+/// piece; `check IMAGE` puts `accepted` into `out` where the image of a file is well typed. An image file has at most 4 MiB,
+/// an event file 32 MiB.
 ///
-/// What stops it goes to `err` as one line, for which no memory is taken; a failure of `err` changes nothing. The journal is
-/// cleared first, and is then that of the run in this call; the machine that ran is kept.
+/// [`Status`] says for each answer when it comes. What stops the command goes to `err` as one line, for which no memory is
+/// taken; a failure of `err` changes nothing but the line, of which `err` then has a front. The journal is cleared first, and
+/// is then that of the run in this call. The machine that ran is kept after `Done`, `WriteFault` and `KernelFault` of a run;
+/// after `NoMemory` it is kept, or none is and nothing ran; after any other answer, and after a check, none is.
 pub fn verve<F: Files, K: Sink, E: Sink>(
     alloc: Global,
     words: &[String],
@@ -88,7 +92,8 @@ pub fn verve<F: Files, K: Sink, E: Sink>(
       out_after = K.told out.new;
       entries = journal.new.entries;
       kept = kept.new;
-    } in (line : List ℕ) × Outcome call result line × (Quiet (E.faults err.old) (E.faults err.new) → Gained (E.told err.old) (E.told err.new) line) }
+    } in (line : List ℕ) × Outcome call result line × GainedFront (E.told err.old) (E.told err.new) line
+        × (Quiet (E.faults err.old) (E.faults err.new) → Gained (E.told err.old) (E.told err.new) line) }
 
     // When each status comes. Want of memory may come in place of each but Usage.
     ensures usage { NoCommand words.now → result ≡ Status.Usage }
@@ -115,8 +120,9 @@ pub fn verve<F: Files, K: Sink, E: Sink>(
         → (E.told err.new ≡ E.told err.old) × (E.faults err.new ≡ E.faults err.old) }
     ensures reads_never_fall { F.read_faults files.old ≤ F.read_faults files.new }
     ensures puts_never_fall { K.faults out.old ≤ K.faults out.new }
+    ensures complaints_never_fall { E.faults err.old ≤ E.faults err.new }
 {
-    one_decision();
+    one_status();
     match act(alloc, words, files, out, journal, kept) {
         Ok(status) => status,
         Err(stop) => {

@@ -1,11 +1,9 @@
 // What a stopped command tells on the error stream: one line, put in pieces, for which no memory is taken.
 ghost use Rattle.std.specs.Prelude.{◌≡◌, ◌<◌, [], ◌∷◌, ◌++◌};
 ghost use Rattle.std.specs.List.{flat_map};
-ghost use Rattle.outside.specs.Faults.{Quiet};
-ghost use Rattle.outside.specs.Sinks.{Gained};
 ghost use Rattle.kernel_machine.specs.Report.{word_text};
 ghost use Rattle.tal_image.specs.declared.fault.ImageFault.{ImageFault};
-ghost use Rattle.verve_tool.specs.Lines.{file_line, bad_line, not_built_line, fault_line, refused_line};
+ghost use Rattle.verve_tool.specs.Lines.{Says, file_line, bad_line, not_built_line, fault_line, refused_line};
 ghost use Rattle.verve_tool.specs.Stops.{line_of};
 
 use crate::stop::Stop;
@@ -14,10 +12,9 @@ use kernel_machine::word_digits;
 use outside::Sink;
 use tal_image::ImageFault;
 
-// Puts these pieces, up to the first that is not taken.
+// Puts these pieces, up to the first that is not taken: so the stream has a front of them, and no later piece behind a gap.
 fn say<E: Sink>(err: &mut E, pieces: &[&[u8]])
-    ensures { Quiet (E.faults err.old) (E.faults err.new)
-        → Gained (E.told err.old) (E.told err.new) (flat_map (λ p. p.now) pieces.now) }
+    ensures { Says (E.faults err.old) (E.faults err.new) (E.told err.old) (E.told err.new) (flat_map (λ p. p.now) pieces.now) }
 {
     for piece in pieces {
         if err.put(piece).is_err() {
@@ -27,8 +24,7 @@ fn say<E: Sink>(err: &mut E, pieces: &[&[u8]])
 }
 
 fn say_place<E: Sink>(err: &mut E, name: &str, at: u32, what: &[u8])
-    ensures { Quiet (E.faults err.old) (E.faults err.new)
-        → Gained (E.told err.old) (E.told err.new) (file_line name.now at what.now) }
+    ensures { Says (E.faults err.old) (E.faults err.new) (E.told err.old) (E.told err.new) (file_line name.now at what.now) }
 {
     let mut number = Buffer::new();
     let at = number.format(at);
@@ -39,8 +35,7 @@ fn say_place<E: Sink>(err: &mut E, name: &str, at: u32, what: &[u8])
 }
 
 fn say_bad<E: Sink>(err: &mut E, name: &str, at: u32, condition: u32)
-    ensures { Quiet (E.faults err.old) (E.faults err.new)
-        → Gained (E.told err.old) (E.told err.new) (bad_line name.now at condition) }
+    ensures { Says (E.faults err.old) (E.faults err.new) (E.told err.old) (E.told err.new) (bad_line name.now at condition) }
 {
     let mut number = Buffer::new();
     let at = number.format(at);
@@ -61,8 +56,7 @@ fn say_bad<E: Sink>(err: &mut E, name: &str, at: u32, condition: u32)
 }
 
 fn say_not_built<E: Sink>(err: &mut E, name: &str, at: u32)
-    ensures { Quiet (E.faults err.old) (E.faults err.new)
-        → Gained (E.told err.old) (E.told err.new) (not_built_line name.now at) }
+    ensures { Says (E.faults err.old) (E.faults err.new) (E.told err.old) (E.told err.new) (not_built_line name.now at) }
 {
     let mut number = Buffer::new();
     let at = number.format(at);
@@ -79,8 +73,7 @@ fn say_not_built<E: Sink>(err: &mut E, name: &str, at: u32)
 }
 
 fn say_fault<E: Sink>(err: &mut E, name: &str, fault: ImageFault)
-    ensures { Quiet (E.faults err.old) (E.faults err.new)
-        → Gained (E.told err.old) (E.told err.new) (fault_line name.now fault) }
+    ensures { Says (E.faults err.old) (E.faults err.new) (E.told err.old) (E.told err.new) (fault_line name.now fault) }
 {
     match fault {
         ImageFault::Magic => say_place(err, name, 0, b" magic\n"),
@@ -93,8 +86,7 @@ fn say_fault<E: Sink>(err: &mut E, name: &str, fault: ImageFault)
 }
 
 fn say_refused<E: Sink>(err: &mut E, address: u32, rule: u8)
-    ensures { Quiet (E.faults err.old) (E.faults err.new)
-        → Gained (E.told err.old) (E.told err.new) (refused_line address rule) }
+    ensures { Says (E.faults err.old) (E.faults err.new) (E.told err.old) (E.told err.new) (refused_line address rule) }
 {
     let mut number = Buffer::new();
     let rule = number.format(rule);
@@ -112,8 +104,7 @@ fn say_refused<E: Sink>(err: &mut E, address: u32, rule: u8)
 
 // Puts the line that tells why the command stopped. A failure of the stream changes nothing else.
 pub(crate) fn complain<E: Sink>(err: &mut E, stop: &Stop<'_>)
-    ensures { Quiet (E.faults err.old) (E.faults err.new)
-        → Gained (E.told err.old) (E.told err.new) (line_of stop.now) }
+    ensures { Says (E.faults err.old) (E.faults err.new) (E.told err.old) (E.told err.new) (line_of stop.now) }
 {
     match *stop {
         Stop::Usage => say(err, &[b"usage\n"]),

@@ -6,7 +6,7 @@
 //
 // `Outcome` (in specs/) says for each status what of the words, the files and the run it tells, and which line goes to the
 // error stream. That a run is done says that the report is the typed machine's; that a check is done says that the image is
-// well typed. `Refuses`, `Loaded` and `TypedImage` say of told files which status they call for.
+// well typed. `Refuses`, `IsMissing` and `Serves` say of told files what they decide, and `OneStatus` that it is one thing.
 #![tactic(auto)]
 
 mod checks;

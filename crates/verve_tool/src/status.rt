@@ -1,22 +1,24 @@
+// How a command ended, and the number by which the program tells it.
 ghost use Rattle.std.specs.Prelude.{◌≡◌};
 ghost use Rattle.verve_tool.specs.Number.{number_of};
 
-/// How a command ended.
+/// How a command ended. Of several causes the first is told: the image file is read before the event file, and both before
+/// what they hold is looked at.
 #[derive(Clone, Copy, Debug, PartialEq, Eq)]
 pub enum Status {
-    /// The command did its work.
+    /// The command did its work: the image is accepted, or the run was made and its report written.
     Done,
     /// The words are no command.
     Usage,
-    /// A file was not read.
+    /// A file was not read: it is missing, or a read failed.
     ReadFault,
-    /// The text was not written.
+    /// The work was done, and its text was not written whole.
     WriteFault,
     /// No image stands for the image file.
     Malformed,
     /// The image is not well typed.
     Refused,
-    /// A file is longer than its limit.
+    /// A file is longer than its limit: 4 MiB for an image, 32 MiB for events.
     TooLong,
     /// The run ended by a fault in the kernel, and the text was written.
     KernelFault,

@@ -1,3 +1,4 @@
+// What stops a command, with what is told of it.
 ghost use Rattle.std.specs.Prelude.{◌≡◌};
 ghost use Rattle.verve_tool.specs.Stops.{status_of};
 

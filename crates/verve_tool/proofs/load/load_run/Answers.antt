@@ -2,7 +2,7 @@ use Rattle.std.proofs.Common.{◌≡◌, ◌<◌, arith}
 use Rattle.verve_tool.specs.Words.{Run}
 use Rattle.verve_tool.specs.Files.{FilesRead}
 use Rattle.verve_tool.specs.Running.{run_of}
-use Rattle.verve_tool.proofs.Loading.{stops-events, run-loaded, run-stopped}
+use Rattle.verve_tool.proofs.Loading.{stops_events, run_loaded, run_stopped}
 use Rattle.verve_tool.proofs.load.load_run.Goals as goal
 
 -- reading the image's file raised no count
@@ -13,7 +13,7 @@ quiet g c =
 
 pub returns-in-Err-read_file-clause-stopped : goal.returns-in-Err-read_file-clause-stopped
 returns-in-Err-read_file-clause-stopped g c =
-    stops-events _ _ _ _ (run_of c.args.run) c.in-Ok.bytes.items _ c.in-Ok.ensures.bytes c.in-Ok.ensures.within
+    stops_events _ _ _ _ (run_of c.args.run) c.in-Ok.bytes.items _ (record { read = c.in-Ok.ensures.bytes; within = c.in-Ok.ensures.within })
     (rw (c.read_file.ensures.told, c.read_file.ensures.steady, ← quiet g c) at c.in-Err-read_file.ensures.stopped)
 
 -- both files were read
@@ -24,7 +24,9 @@ both g c = rw (c.deref.ensures.value, c.deref-2.ensures.value) (
 )
 
 pub returns-clause-loaded : goal.returns-clause-loaded
-returns-clause-loaded g c = run-loaded _ _ _ _ c.accept_run.result (both g c) c.accept_run.ensures.stands c.accept_run.ensures.well_typed c.accept_run.ensures.built c.accept_run.ensures.no_events
+returns-clause-loaded g c =
+    run_loaded _ _ _ _ c.accept_run.result (both g c) c.accept_run.ensures.stands c.accept_run.ensures.well_typed
+    c.accept_run.ensures.built c.accept_run.ensures.no_events
 
 pub returns-clause-stopped : goal.returns-clause-stopped
-returns-clause-stopped g c = run-stopped _ _ _ _ _ _ _ c.accept_run.result (both g c) c.accept_run.ensures.stopped
+returns-clause-stopped g c = run_stopped _ _ _ _ _ _ _ c.accept_run.result (both g c) c.accept_run.ensures.stopped

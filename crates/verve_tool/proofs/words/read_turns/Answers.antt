@@ -2,7 +2,8 @@ use Rattle.std.proofs.Common.{◌≡◌, sym, ◌∙◌, arith}
 use Rattle.std.proofs.lemmas.Fmt.{parse-decimal}
 use Rattle.verve_tool.proofs.WordLemmas.{no_err, same_ok, told_apart}
 use Rattle.verve_tool.proofs.words.read_turns.Goals as goal
-use Rattle.verve_tool.proofs.words.read_turns.Goals.{then-number-eq0-via-then-number-eq0, then-number-eq0-via-else-number-eq0+then-number-gt-MOST_TURNS, then-number-eq0-via-else-number-eq0+else-number-gt-MOST_TURNS+then-ne}
+use Rattle.verve_tool.proofs.words.read_turns.Goals.{then-number-eq0-via-then-number-eq0, then-number-eq0-via-else-number-eq0+then-number-gt-MOST_TURNS}
+use Rattle.verve_tool.proofs.words.read_turns.Goals.{then-number-eq0-via-else-number-eq0+else-number-gt-MOST_TURNS+then-ne}
 
 pub returns-in_default : goal.returns-in_default
 returns-in_default c n low high e =
@@ -14,5 +15,6 @@ returns-then-number-eq0 c n low high e =
     elim c.then-number-eq0.branch [
       | then-number-eq0-via-then-number-eq0 w ↦ omega (arith, w.if-number-eq0.true, same)
       | then-number-eq0-via-else-number-eq0+then-number-gt-MOST_TURNS w ↦ omega (arith, w.if-number-gt-MOST_TURNS.true, same)
-      | then-number-eq0-via-else-number-eq0+else-number-gt-MOST_TURNS+then-ne w ↦ told_apart _ _ _ (w.format.ensures.text ∙ rw same (sym e)) w.if-ne.true w.ne.ensures
+      | then-number-eq0-via-else-number-eq0+else-number-gt-MOST_TURNS+then-ne w ↦
+          told_apart _ _ _ (w.format.ensures.text ∙ rw same (sym e)) w.if-ne.true w.ne.ensures
     ]
