@@ -1,7 +1,7 @@
 // Whole commands over files and sinks in memory: the texts that they print, and what stops them.
 use super::*;
 use kernel_machine::Journal;
-use outside::{FailingCall, FailingSink, FileRoom, Files, MemoryFiles, MemorySink};
+use outside::{FailingCall, FailingFiles, FailingSink, FileRoom, Files, MemoryFiles, MemorySink};
 use std::alloc::{AllocError, Global};
 use std::test::Fail;
 
@@ -387,6 +387,60 @@ fn files_that_are_not_read(rt: HostRuntime) -> Result<(), Fail> {
 }
 
 #[test]
+fn the_image_is_read_before_the_events(rt: HostRuntime) -> Result<(), Fail> {
+    let alloc = rt.alloc();
+    let words: &[&str] = &["run", "i", "e", "10"];
+    let missing = command(alloc, words, None, None)?;
+    assert_eq!(rt; missing.status, Status::ReadFault);
+    assert!(rt; missing.err.as_slice() == b"read i\n".as_slice());
+    let image = vec![in alloc; 0u8; 4194305]?;
+    let long = command(alloc, words, Some(&image), None)?;
+    assert_eq!(rt; long.status, Status::TooLong);
+    assert!(rt; long.err.as_slice() == b"long i\n".as_slice());
+    Ok(())
+}
+
+#[test]
+fn a_read_fails(rt: HostRuntime) -> Result<(), Fail> {
+    let alloc = rt.alloc();
+    let image = image_of(alloc, &SEVEN)?;
+    let rooms = [
+        FileRoom {
+            name: "i",
+            room: image.len(),
+        },
+        FileRoom { name: "e", room: 0 },
+    ];
+    // The two writes are the first two calls.
+    for (call, line) in [(3, "read i\n"), (4, "read e\n")] {
+        let fails = [FailingCall { call, through: 0 }];
+        let mut files = FailingFiles::new(alloc, &rooms, &fails)?;
+        files.write("i", &image)?;
+        files.write("e", b"")?;
+        let mut out = MemorySink::new(alloc, 10)?;
+        let mut err = MemorySink::new(alloc, 100)?;
+        let mut journal = Journal::new(alloc);
+        let mut kept = None;
+        let words = words_of(alloc, &["run", "i", "e", "10"])?;
+        let status = verve(
+            alloc,
+            &words,
+            &mut files,
+            &mut out,
+            &mut err,
+            &mut journal,
+            &mut kept,
+        );
+        assert_eq!(rt; status, Status::ReadFault, "{line}");
+        assert!(rt; out.bytes().is_empty(), "{line}");
+        assert!(rt; err.bytes() == line.as_bytes(), "{line}");
+        assert!(rt; kept.is_none(), "{line}");
+        assert_eq!(rt; files.read_faults(), 1, "{line}");
+    }
+    Ok(())
+}
+
+#[test]
 fn words_that_are_no_command(rt: HostRuntime) -> Result<(), Fail> {
     let alloc = rt.alloc();
     let image = image_of(alloc, &SEVEN)?;
@@ -460,6 +514,35 @@ fn the_put_fails(rt: HostRuntime) -> Result<(), Fail> {
             "{told}"
         );
     }
+    Ok(())
+}
+
+#[test]
+fn the_line_fails(rt: HostRuntime) -> Result<(), Fail> {
+    let alloc = rt.alloc();
+    let mut files = MemoryFiles::new(alloc, &[])?;
+    // The line is put in pieces, of which the second fails in its midst.
+    let fails = [FailingCall {
+        call: 2,
+        through: 3,
+    }];
+    let mut out = MemorySink::new(alloc, 10)?;
+    let mut err = FailingSink::new(alloc, 100, &fails)?;
+    let mut journal = Journal::new(alloc);
+    let mut kept = None;
+    let words = words_of(alloc, &["check", "image"])?;
+    let status = verve(
+        alloc,
+        &words,
+        &mut files,
+        &mut out,
+        &mut err,
+        &mut journal,
+        &mut kept,
+    );
+    assert_eq!(rt; status, Status::ReadFault);
+    assert!(rt; err.bytes() == b"read ima".as_slice());
+    assert!(rt; out.bytes().is_empty());
     Ok(())
 }
 
