@@ -9,7 +9,8 @@ use std::process::ExitCode;
 use std::{env, io};
 use verve_tool::{Status, verve};
 
-// The words after the program's own name. Where one of them is not text they are no command, as no words are.
+// The words after the program's own name. Where one of them is not text they are no command, as no words are; the only other
+// failure is want of memory.
 fn read_words(rt: HostRuntime, alloc: Global) -> Result<Vec<String>, NoMemory> {
     let mut words = Vec::new(alloc);
     match env::args(&rt) {
