@@ -4,7 +4,7 @@ use Rattle.std.specs.Prelude.{Result, Ok, Err, IfOk, IfErr}
 use Rattle.outside.specs.FileMaps.{FileMap}
 use Rattle.tal_image.specs.Image.{ImageParts}
 use Rattle.tal_image.specs.Formed.{ImageOf}
-use Rattle.tal_image.specs.Laws.{FirstFault}
+use Rattle.tal_image.specs.Fields.{FirstFault}
 use Rattle.tal_image.specs.declared.fault.ImageFault.{ImageFault}
 use Rattle.tal_image.specs.declared.fault.ImageFault.TheVariants as fault
 use Rattle.tal_checker.specs.WellTyped.{WellTyped}
