@@ -9,6 +9,7 @@ use Rattle.object_layout.specs.declared.laying.LaidClass.{LaidClass}
 use Rattle.object_layout.specs.declared.laying.Inherited.{Inherited}
 use Rattle.object_layout.specs.Classes.{ShapesView, parent, own_fields, lineage, Fields, Methods, signatures, signatures_of}
 use Rattle.object_layout.specs.Faults.{first_below, class_fault, has_earlier_parent, keeps_methods, is_front}
+use Rattle.object_layout.specs.Laws.{LineageLaws}
 use Rattle.object_layout.specs.Layout.{IsLaid, IsInherited}
 use Rattle.object_layout.proofs.Lineages.{IsEarlierBelow, lineage-root, lineage-under}
 use Rattle.object_layout.proofs.Sound.{first_below-none, class-sound, earlier-fact}
@@ -120,3 +121,12 @@ inherited-under s c p laid above before e l h deeper lineage_is fields_is method
       named = subst (λ (ms : List ℕ). (k d : ℕ) → k < length ms → get_or ms k d < length s.funs) (sym methods_is) (methods-named s p laid sound.named h);
       kept = kept-under s c p above.methods.now e (methods-laid s p laid h ∙ sym methods_is);
     }
+
+-- lineages and fields, by those of the parent
+pub lineage-laws : (s : ShapesView) → LineageLaws s
+lineage-laws s = record {
+  root = lineage-root s;
+  root_fields = fields-root s;
+  under = λ h c p l e. lineage-under s (length s.classes) c p (record { earlier = h }) l e;
+  under_fields = λ h c p l e. fields-under s c p (record { earlier = λ k q m g. h k q (omega arith) g }) e;
+}

@@ -10,7 +10,7 @@ use Rattle.object_layout.specs.declared.faults.ShapeFault.TheVariants.{NoMemory}
 use Rattle.object_layout.specs.declared.laying.LaidClass.{LaidClass}
 use Rattle.object_layout.specs.Classes.{ShapesView}
 use Rattle.object_layout.specs.Faults.{first_below, first_fault, class_fault, kind_fault}
-use Rattle.object_layout.specs.Layout.{rows_of, IsLaid, IsLaidBefore, IsLaidOut}
+use Rattle.object_layout.specs.Layout.{kept_rows, IsLaid, IsLaidBefore, IsLaidOut}
 use Rattle.object_layout.proofs.Sound.{first_below-zero, first_below-more, first_below-found}
 
 -- The rows that are laid out, one after another.
@@ -74,9 +74,9 @@ same_views : (s t : ShapesView) → s.classes ≡ t.classes → s.kinds ≡ t.ki
 same_views s t a b d e = λ i. record { classes = a i; kinds = b i; funs = d i; sigs = e i }
 
 -- what is kept shows the rows that were given
-pub rows_of-kept : (s : ShapesView) (a : Inside) → IsLaidBefore s a.classes.items (length s.classes) → a.kinds.items ≡ s.kinds → a.funs.items ≡ s.funs
-    → a.sigs ≡ s.sigs → rows_of a ≡ s
-rows_of-kept s a h kinds funs sigs = same_views (rows_of a) s (rows-laid s a.classes.items h) kinds funs sigs
+pub kept_rows-kept : (s : ShapesView) (a : Inside) → IsLaidBefore s a.classes.items (length s.classes) → a.kinds.items ≡ s.kinds → a.funs.items ≡ s.funs
+    → a.sigs ≡ s.sigs → kept_rows a ≡ s
+kept_rows-kept s a h kinds funs sigs = same_views (kept_rows a) s (rows-laid s a.classes.items h) kinds funs sigs
 
 -- neither classes nor kinds have a fault
 pub no_fault : (s : ShapesView) → first_below (length s.classes) (class_fault s) ≡ None → None ≡ first_below (length s.kinds) (kind_fault s) → first_fault s ≡ None
@@ -95,7 +95,7 @@ unfolding first_fault
 kinds-fault s x e f = rw e (sym f)
 
 -- what is kept is a table
-pub laid_out : (s : ShapesView) (a : Inside) → IsLaidBefore s a.classes.items (length s.classes) → rows_of a ≡ s → first_fault s ≡ None → IsLaidOut a
+pub laid_out : (s : ShapesView) (a : Inside) → IsLaidBefore s a.classes.items (length s.classes) → kept_rows a ≡ s → first_fault s ≡ None → IsLaidOut a
 laid_out s a h e sound = record {
   sound = subst (λ v. first_fault v ≡ None) (sym e) sound;
   each = λ c class g. subst (λ v. IsLaid v c class) (sym e) (h.each c class g);

@@ -102,6 +102,10 @@ is_reference (Fun g) = false
 unfoldable pub descriptor : FieldTy → List ℕ
 descriptor t = (if is_reference t then 1 else 0) ∷ 0 ∷ 0 ∷ 0 ∷ []
 
+-- a word of the descriptor of kind k, if there is such a kind and such a word
+unfoldable pub descriptor_word : ShapesView → ℕ → ℕ → Option ℕ
+descriptor_word s k word = option_and_then (λ t. slice_get (descriptor t) word) (Element s k)
+
 -- the words, and 0 after them up to n words
 unfoldable pub padded : ℕ → List ℕ → List ℕ
 padded n words = words ++ replicate (n - length words) 0

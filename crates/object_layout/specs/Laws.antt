@@ -1,7 +1,7 @@
-use Rattle.std.specs.Prelude.{◌≡◌, ℕ, ◌+◌, ◌<◌, ◌≤◌, ◌⊎◌, true, length, Some}
+use Rattle.std.specs.Prelude.{◌≡◌, ℕ, ◌+◌, ◌<◌, ◌≤◌, ◌⊎◌, true, [], ◌∷◌, ◌++◌, length, None, Some}
 use Rattle.object_layout.specs.declared.rows.FieldTy.{FieldTy}
 use Rattle.object_layout.specs.Areas.{table_address}
-use Rattle.object_layout.specs.Classes.{ShapesView, Depth, Fields, Methods, Below, field_at, slot_at, table_word}
+use Rattle.object_layout.specs.Classes.{ShapesView, parent, own_fields, lineage, Depth, Fields, Methods, Below, field_at, slot_at, table_word}
 
 -- What holds of classes: they are few trees, and a class keeps what stands above it where it stands.
 pub record ClassLaws (s : ShapesView) : Type 0 where
@@ -20,3 +20,15 @@ pub record ClassLaws (s : ShapesView) : Type 0 where
   -- a class's table tells at a class's depth whether it is below it
   pub display : (c d : ℕ) → Below s c d ≡ true → table_word s c (3 + Depth s d) ≡ Some (table_address d)
   pub displayed : (c d : ℕ) → c < length s.classes → d < length s.classes → table_word s c (3 + Depth s d) ≡ Some (table_address d) → Below s c d ≡ true
+
+-- each parent is an earlier class
+abbrev pub ParentsEarlier : ShapesView → Type 0
+ParentsEarlier s = (c p : ℕ) → c < length s.classes → parent s c ≡ Some p → p < c
+
+-- A root stands alone with its own fields; any other class, where parents are earlier classes, stands behind its
+-- parent's lineage and has its own fields behind its parent's.
+pub record LineageLaws (s : ShapesView) : Type 0 where
+  pub root : (c : ℕ) → parent s c ≡ None → lineage s c ≡ c ∷ []
+  pub root_fields : (c : ℕ) → parent s c ≡ None → Fields s c ≡ own_fields s c
+  pub under : ParentsEarlier s → (c p : ℕ) → c < length s.classes → parent s c ≡ Some p → lineage s c ≡ lineage s p ++ c ∷ []
+  pub under_fields : ParentsEarlier s → (c p : ℕ) → c < length s.classes → parent s c ≡ Some p → Fields s c ≡ Fields s p ++ own_fields s c

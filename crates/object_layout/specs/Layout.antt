@@ -9,8 +9,8 @@ use Rattle.object_layout.specs.Faults.{first_fault, first_below, class_fault, ha
 -- How a `Shapes` keeps its rows.
 
 -- the rows that are kept
-abbrev pub rows_of : Inside → ShapesView
-rows_of a = record { classes = map (λ (c : LaidClass). c.row) a.classes.items; kinds = a.kinds.items; funs = a.funs.items; sigs = a.sigs }
+abbrev pub kept_rows : Inside → ShapesView
+kept_rows a = record { classes = map (λ (c : LaidClass). c.row) a.classes.items; kinds = a.kinds.items; funs = a.funs.items; sigs = a.sigs }
 
 -- the rows that a table is made of
 abbrev pub given : Rows → ShapesView
@@ -28,8 +28,8 @@ pub record IsLaid (s : ShapesView) (c : ℕ) (laid : LaidClass) : Type 0 where
 
 -- the rows have no fault, and each class is laid out
 pub record IsLaidOut (a : Inside) : Type 0 where
-  pub sound : first_fault (rows_of a) ≡ None
-  pub each : (c : ℕ) (laid : LaidClass) → slice_get a.classes.items c ≡ Some laid → IsLaid (rows_of a) c laid
+  pub sound : first_fault (kept_rows a) ≡ None
+  pub each : (c : ℕ) (laid : LaidClass) → slice_get a.classes.items c ≡ Some laid → IsLaid (kept_rows a) c laid
 
 -- the rows before row c have no fault, and are laid out
 pub record IsLaidBefore (s : ShapesView) (laid : List LaidClass) (c : ℕ) : Type 0 where

@@ -25,15 +25,15 @@ impl Model for Shapes {
 
     ghost Value = { ShapesView };
 
-    ghost use Rattle.object_layout.specs.Layout.{rows_of, IsLaidOut};
+    ghost use Rattle.object_layout.specs.Layout.{kept_rows, IsLaidOut};
 
-    ghost view = { rows_of };
+    ghost view = { kept_rows };
 
     ghost invariant = { IsLaidOut };
 }
 
 impl Shapes {
-    ghost use Rattle.object_layout.specs.Classes.{Below, field_at, slot_at, Element, Need, table_word, fun_row, Methods, IsShape, ShapesView};
+    ghost use Rattle.object_layout.specs.Classes.{Below, field_at, slot_at, Element, Need, table_word, descriptor_word, fun_row, Methods, IsShape, ShapesView};
     ghost use Rattle.object_layout.specs.Faults.{first_fault};
     ghost use Rattle.object_layout.specs.Laws.{ClassLaws};
     ghost use Rattle.object_layout.specs.Layout.{IsLaid};
@@ -178,6 +178,20 @@ impl Shapes {
     {
         let row = self.kinds.get(k as usize)?;
         Some(row.element)
+    }
+
+    /// Word `word` of the descriptor of kind `k`; none where there is no such kind, and above word 3.
+    #[tactic(auto, unfolding(crate::specs::Classes::descriptor, crate::specs::Classes::descriptor_word))]
+    pub fn descriptor_word(&self, k: u32, word: u32) -> Option<u32>
+        ensures value { result ≡ descriptor_word self.now k word }
+        ensures there { IsSome result ↔ ((k < length self.now.kinds) × (word < 4)) }
+    {
+        let element = self.element_of(k)?;
+        match word {
+            0 => Some(u32::from(element.is_reference())),
+            1..4 => Some(0),
+            _ => None,
+        }
     }
 }
 

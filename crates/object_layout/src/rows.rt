@@ -18,6 +18,21 @@ pub enum FieldTy {
     Fun(u32),
 }
 
+impl FieldTy {
+    ghost use Rattle.object_layout.specs.Classes.{is_reference};
+
+    /// Whether values of the type refer to objects or arrays.
+    #[tactic(auto, unfolding(crate::specs::Classes::is_reference))]
+    pub fn is_reference(self) -> bool
+        ensures { result ≡ is_reference self }
+    {
+        match self {
+            FieldTy::Ref(_) | FieldTy::ArrRef(_) => true,
+            FieldTy::Num | FieldTy::Fun(_) => false,
+        }
+    }
+}
+
 /// The types of a class's own fields, in their order. Contracts see it as a list.
 #[derive(Drop)]
 pub struct FieldList {

@@ -1,7 +1,7 @@
 use Rattle.std.proofs.Common.{inr, refl}
 use Rattle.std.proofs.lemmas.Result.{err_from_is_err_and}
 use Rattle.object_layout.specs.declared.look_ups.Shapes.TheInside.{Inside}
-use Rattle.object_layout.proofs.LaidRows.{classes-fault, kinds-fault, no_fault, rows_of-kept, laid_out}
+use Rattle.object_layout.proofs.LaidRows.{classes-fault, kinds-fault, no_fault, kept_rows-kept, laid_out}
 use Rattle.object_layout.proofs.look_ups.Shapes.of.Goals as goal
 
 pub returns-in_err-laid-clause-refused : goal.returns-in_err-laid-clause-refused
@@ -15,12 +15,12 @@ returns-in-Some-clause-refused c = inr (kinds-fault _ _ c.in_ok-laid.ensures.ok.
 pub invariant_of-result : goal.invariant_of-result
 invariant_of-result c =
     let a : Inside = record { classes = c.in_ok-laid.laid; kinds = c.in_ok-from_slice.field-0; funs = c.in_ok-from_slice-2.field-0; sigs = c.args.sigs } in
-    let same = rows_of-kept _ a c.in_ok-laid.ensures.ok c.in_ok-from_slice.ensures.items c.in_ok-from_slice-2.ensures.items refl in
+    let same = kept_rows-kept _ a c.in_ok-laid.ensures.ok c.in_ok-from_slice.ensures.items c.in_ok-from_slice-2.ensures.items refl in
     laid_out _ a c.in_ok-laid.ensures.ok same (no_fault _ c.in_ok-laid.ensures.ok.sound c.in_default.ensures)
 
 pub returns-clause-accepted : goal.returns-clause-accepted
 returns-clause-accepted c =
     let a : Inside = record { classes = c.in_ok-laid.laid; kinds = c.in_ok-from_slice.field-0; funs = c.in_ok-from_slice-2.field-0; sigs = c.args.sigs } in (
       no_fault _ c.in_ok-laid.ensures.ok.sound c.in_default.ensures,
-      rows_of-kept _ a c.in_ok-laid.ensures.ok c.in_ok-from_slice.ensures.items c.in_ok-from_slice-2.ensures.items refl,
+      kept_rows-kept _ a c.in_ok-laid.ensures.ok c.in_ok-from_slice.ensures.items c.in_ok-from_slice-2.ensures.items refl,
     )
