@@ -1,10 +1,10 @@
 use Rattle.std.proofs.Common.{◌≡◌, ◌≢◌, ℕ, ◌+◌, ◌<◌, ◌%◌, ◌⊎◌, inl, inr, List, [], ◌∷◌, length, get_or, get_or-set_other, get_or-set_same, arith, refl, sym, ◌∙◌, ap, subst}
 use Rattle.std.proofs.Math.ListN.{set}
+use Rattle.std.proofs.lemmas.Bool.{cases_eq}
 use Rattle.heap_words.specs.Headers.{size_at}
 use Rattle.heap_words.specs.Blocks.{Begins}
-use Rattle.heap_words.proofs.Places.{begins-row}
-use Rattle.heap_words.proofs.Writes.{same_place}
-use Rattle.free_index.specs.Classes.{class_of}
+use Rattle.heap_words.specs.Laws.{BlockLaws}
+use Rattle.free_index.specs.Classes.{class_of_size}
 use Rattle.free_index.specs.Lists.{In, Once, Chain, ClassList, AreListed}
 use Rattle.free_index.specs.Steps.{Inserted}
 
@@ -85,65 +85,65 @@ abbrev pub More : (ℕ → Type 0) → ℕ → ℕ → Type 0
 More Listed i j = Listed j ⊎ (j ≡ i)
 
 -- putting a block in front of the list of its class lists it, and leaves the other lists
-pub listed-insert : (u v heads : List ℕ) (Listed : ℕ → Type 0) (i : ℕ) → ((j : ℕ) → Listed j → Begins u j) → AreListed u Listed heads → Begins u i
-    → (Listed i → ⊥) → length heads ≡ 32 → class_of (size_at u i) < 32 → Inserted u v i (get_or heads (class_of (size_at u i)) 0)
-    → AreListed v (More Listed i) (set heads (class_of (size_at u i)) (i + 1))
-listed-insert u v heads Listed i begins lists b n size below p class h = choose (same_place class (class_of (size_at u i)))
+pub listed-insert : BlockLaws → (u v heads : List ℕ) (Listed : ℕ → Type 0) (i : ℕ) → ((j : ℕ) → Listed j → Begins u j) → AreListed u Listed heads → Begins u i
+    → (Listed i → ⊥) → length heads ≡ 32 → class_of_size (size_at u i) < 32 → Inserted u v i (get_or heads (class_of_size (size_at u i)) 0)
+    → AreListed v (More Listed i) (set heads (class_of_size (size_at u i)) (i + 1))
+listed-insert laws u v heads Listed i begins lists b n size below p class h = choose (cases_eq class (class_of_size (size_at u i)))
   where
     row : (j : ℕ) → Listed j → j % 4 ≡ 0
-    row j l = begins-row u j (begins j l)
+    row j l = laws.places.row u j (begins j l)
 
-    mine : ClassList u Listed (class_of (size_at u i)) (get_or heads (class_of (size_at u i)) 0)
-    mine = lists (class_of (size_at u i)) below
+    mine : ClassList u Listed (class_of_size (size_at u i)) (get_or heads (class_of_size (size_at u i)) 0)
+    mine = lists (class_of_size (size_at u i)) below
 
-    headed : (g : ℕ) → get_or heads (class_of (size_at u i)) 0 ≡ g + 1 → In g mine.list
+    headed : (g : ℕ) → get_or heads (class_of_size (size_at u i)) 0 ≡ g + 1 → In g mine.list
     headed g e = first_of u mine.list 0 _ g mine.chain e
 
     sizes : (j : ℕ) → Begins u j → size_at v j ≡ size_at u j
     sizes j d = p.blocks.sizes j d
 
-    classes : (j : ℕ) → Begins u j → class_of (size_at v j) ≡ class_of (size_at u j)
-    classes j d = ap class_of (sizes j d)
+    classes : (j : ℕ) → Begins u j → class_of_size (size_at v j) ≡ class_of_size (size_at u j)
+    classes j d = ap class_of_size (sizes j d)
 
     begun : (j : ℕ) → More Listed i j → Begins u j
     begun j (inl l) = begins j l
     begun j (inr e) = subst (Begins u) (sym e) b
 
-    front : ClassList v (More Listed i) (class_of (size_at u i)) (i + 1)
+    front : ClassList v (More Listed i) (class_of_size (size_at u i)) (i + 1)
     front = record {
       list = i ∷ mine.list;
-      chain = (refl, p.back, rw p.link (chain-pushed u v mine.list i _ p (begins-row u i b) (λ j m. row j (mine.each j m).0) (λ m. n (mine.each i m).0) mine.once mine.chain));
+      chain = (refl, p.back, rw p.link (chain-pushed u v mine.list i _ p (laws.places.row u i b) (λ j m. row j (mine.each j m).0) (λ m. n (mine.each i m).0) mine.once mine.chain));
       once = (λ m. n (mine.each i m).0, mine.once);
       each = λ j m. each j m;
       all = λ j l e. all j l e;
     }
       where
-        each : (j : ℕ) → (j ≡ i) ⊎ In j mine.list → More Listed i j × (class_of (size_at v j) ≡ class_of (size_at u i))
+        each : (j : ℕ) → (j ≡ i) ⊎ In j mine.list → More Listed i j × (class_of_size (size_at v j) ≡ class_of_size (size_at u i))
         each j (inl e) = (inr e, rw e (classes i b))
         each j (inr m) = let l = mine.each j m in (inl l.0, classes j (begins j l.0) ∙ l.1)
 
-        all : (j : ℕ) → Listed j ⊎ (j ≡ i) → class_of (size_at v j) ≡ class_of (size_at u i) → (j ≡ i) ⊎ In j mine.list
+        all : (j : ℕ) → Listed j ⊎ (j ≡ i) → class_of_size (size_at v j) ≡ class_of_size (size_at u i) → (j ≡ i) ⊎ In j mine.list
         all j (inr e) q = inl e
         all j (inl l) q = inr (mine.all j l (sym (classes j (begins j l)) ∙ q))
 
-    aside : class ≢ class_of (size_at u i) → ClassList u Listed class (get_or heads class 0) → ClassList v (More Listed i) class (get_or heads class 0)
+    aside : class ≢ class_of_size (size_at u i) → ClassList u Listed class (get_or heads class 0) → ClassList v (More Listed i) class (get_or heads class 0)
     aside d old = record {
       list = old.list;
-      chain = chain-aside u v old.list i _ _ p (begins-row u i b) (λ j m. row j (old.each j m).0) (λ m. n (old.each i m).0) other old.chain;
+      chain = chain-aside u v old.list i _ _ p (laws.places.row u i b) (λ j m. row j (old.each j m).0) (λ m. n (old.each i m).0) other old.chain;
       once = old.once;
       each = λ j m. let l = old.each j m in (inl l.0, classes j (begins j l.0) ∙ l.1);
       all = λ j l e. all j l e;
     }
       where
-        other : (g : ℕ) → get_or heads (class_of (size_at u i)) 0 ≡ g + 1 → (g % 4 ≡ 0) × (In g old.list → ⊥)
+        other : (g : ℕ) → get_or heads (class_of_size (size_at u i)) 0 ≡ g + 1 → (g % 4 ≡ 0) × (In g old.list → ⊥)
         other g e = let l = mine.each g (headed g e) in (row g l.0, λ m. d (sym (old.each g m).1 ∙ l.1))
 
-        all : (j : ℕ) → Listed j ⊎ (j ≡ i) → class_of (size_at v j) ≡ class → In j old.list
+        all : (j : ℕ) → Listed j ⊎ (j ≡ i) → class_of_size (size_at v j) ≡ class → In j old.list
         all j (inl l) q = old.all j l (sym (classes j (begins j l)) ∙ q)
         all j (inr e) q = absurd (d (sym q ∙ rw e (classes i b)))
 
-    choose : (class ≡ class_of (size_at u i)) ⊎ (class ≢ class_of (size_at u i)) → ClassList v (More Listed i) class (get_or (set heads (class_of (size_at u i)) (i + 1)) class 0)
+    choose : (class ≡ class_of_size (size_at u i)) ⊎ (class ≢ class_of_size (size_at u i)) → ClassList v (More Listed i) class (get_or (set heads (class_of_size (size_at u i)) (i + 1)) class 0)
     choose (inl e) =
-        let l : class_of (size_at u i) < length heads = rw size below in
-        rw (e, get_or-set_same heads (class_of (size_at u i)) (i + 1) 0 l) front
-    choose (inr d) = rw (get_or-set_other heads (class_of (size_at u i)) class (i + 1) 0 d) (aside d (lists class h))
+        let l : class_of_size (size_at u i) < length heads = rw size below in
+        rw (e, get_or-set_same heads (class_of_size (size_at u i)) (i + 1) 0 l) front
+    choose (inr d) = rw (get_or-set_other heads (class_of_size (size_at u i)) class (i + 1) 0 d) (aside d (lists class h))

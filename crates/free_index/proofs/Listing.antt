@@ -1,10 +1,10 @@
 use Rattle.std.proofs.Common.{◌≡◌, ◌≢◌, ℕ, ◌+◌, ◌<◌, ◌%◌, ◌⊎◌, inl, inr, List, [], ◌∷◌, length, get_or, get_or-set_other, get_or-set_same, arith, refl, sym, ◌∙◌, ap, subst}
 use Rattle.std.proofs.Math.ListN.{set}
+use Rattle.std.proofs.lemmas.Bool.{cases_eq}
 use Rattle.heap_words.specs.Headers.{size_at}
 use Rattle.heap_words.specs.Blocks.{Begins, IsFree}
-use Rattle.heap_words.proofs.Places.{begins-row}
-use Rattle.heap_words.proofs.Writes.{same_place}
-use Rattle.free_index.specs.Classes.{class_of}
+use Rattle.heap_words.specs.Laws.{BlockLaws}
+use Rattle.free_index.specs.Classes.{class_of_size}
 use Rattle.free_index.specs.Lists.{In, Chain, ClassList, AreListed}
 use Rattle.free_index.specs.Steps.{Removed, NewFirst, Unheaded, Names}
 use Rattle.free_index.proofs.SizeClasses.{class-most}
@@ -16,15 +16,15 @@ abbrev pub Fewer : (ℕ → Type 0) → ℕ → ℕ → Type 0
 Fewer Listed i j = Listed j × (j ≢ i)
 
 -- taking a block out of the list of its class leaves all others listed
-pub listed-remove : (u v heads heads' : List ℕ) (Listed : ℕ → Type 0) (i : ℕ) → ((j : ℕ) → Listed j → Begins u j) → AreListed u Listed heads → Listed i
-    → length heads ≡ 32 → Removed u v i → Unheaded u heads heads' i (class_of (size_at u i)) → AreListed v (Fewer Listed i) heads'
-listed-remove u v heads heads' Listed i begins lists here size r h class below = choose (same_place class mine)
+pub listed-remove : BlockLaws → (u v heads heads' : List ℕ) (Listed : ℕ → Type 0) (i : ℕ) → ((j : ℕ) → Listed j → Begins u j) → AreListed u Listed heads → Listed i
+    → length heads ≡ 32 → Removed u v i → Unheaded u heads heads' i (class_of_size (size_at u i)) → AreListed v (Fewer Listed i) heads'
+listed-remove laws u v heads heads' Listed i begins lists here size r h class below = choose (cases_eq class mine)
   where
     mine : ℕ
-    mine = class_of (size_at u i)
+    mine = class_of_size (size_at u i)
 
     row : (j : ℕ) → Listed j → j % 4 ≡ 0
-    row j l = begins-row u j (begins j l)
+    row j l = laws.places.row u j (begins j l)
 
     old : ClassList u Listed mine (get_or heads mine 0)
     old = lists mine (class-most (size_at u i))
@@ -32,8 +32,8 @@ listed-remove u v heads heads' Listed i begins lists here size r h class below =
     member : In i old.list
     member = old.all i here refl
 
-    classes : (j : ℕ) → Begins u j → class_of (size_at v j) ≡ class_of (size_at u j)
-    classes j d = ap class_of (r.blocks.sizes j d)
+    classes : (j : ℕ) → Begins u j → class_of_size (size_at v j) ≡ class_of_size (size_at u j)
+    classes j d = ap class_of_size (r.blocks.sizes j d)
 
     before : (p : ℕ) → get_or u (i + 2) 0 ≡ p + 1 → In p old.list × (get_or u (p + 1) 0 ≡ i + 1)
     before p e = cases (back_in u old.list 0 _ i p old.chain member e)
@@ -94,7 +94,7 @@ listed-remove u v heads heads' Listed i begins lists here size r h class below =
     })
       where
         apart : (j g : ℕ) → In j other.list → In g old.list → j ≢ g
-        apart j g m q e = d (sym (other.each j m).1 ∙ (ap (λ k. class_of (size_at u k)) e ∙ (old.each g q).1))
+        apart j g m q e = d (sym (other.each j m).1 ∙ (ap (λ k. class_of_size (size_at u k)) e ∙ (old.each g q).1))
 
         links : (j : ℕ) → In j other.list → get_or v (j + 1) 0 ≡ get_or u (j + 1) 0
         links j m = r.others (j + 1) (λ p e. differ j p 1 (apart j p m (before p e).0)) (λ g e. rows j g (row j (other.each j m).0) (row g (old.each g (after g e)).0))
@@ -114,8 +114,8 @@ listed-change u v heads L M lists links backs sizes forth back class below = rec
   list = old.list;
   chain = chain-others u v old.list 0 _ (λ j m. links j (old.each j m).0) (λ j m. backs j (old.each j m).0) old.chain;
   once = old.once;
-  each = λ j m. let l = old.each j m in (forth j l.0, ap class_of (sizes j l.0) ∙ l.1);
-  all = λ j m e. let l = back j m in old.all j l (sym (ap class_of (sizes j l)) ∙ e);
+  each = λ j m. let l = old.each j m in (forth j l.0, ap class_of_size (sizes j l.0) ∙ l.1);
+  all = λ j m e. let l = back j m in old.all j l (sym (ap class_of_size (sizes j l)) ∙ e);
 }
   where
     old : ClassList u L class (get_or heads class 0)
@@ -132,16 +132,16 @@ head-other u heads L class i lists below n e = let old = lists class below in n 
 -- the neighbours of a listed block
 pub next-names : (u heads : List ℕ) (i : ℕ) → AreListed u (IsFree u) heads → IsFree u i → Names u (get_or u (i + 1) 0)
 next-names u heads i lists f p e =
-    let old = lists (class_of (size_at u i)) (class-most (size_at u i)) in
+    let old = lists (class_of_size (size_at u i)) (class-most (size_at u i)) in
     (old.each p (link_in u old.list 0 _ p i old.chain (old.all i f refl) e)).0
 
 -- the back link of a listed block names a free block
 pub back-names : (u heads : List ℕ) (i : ℕ) → AreListed u (IsFree u) heads → IsFree u i → Names u (get_or u (i + 2) 0)
 back-names u heads i lists f p e = cases (back_in u old.list 0 _ i p old.chain (old.all i f refl) e)
   where
-    old : ClassList u (IsFree u) (class_of (size_at u i)) (get_or heads (class_of (size_at u i)) 0)
-    old = lists (class_of (size_at u i)) (class-most (size_at u i))
+    old : ClassList u (IsFree u) (class_of_size (size_at u i)) (get_or heads (class_of_size (size_at u i)) 0)
+    old = lists (class_of_size (size_at u i)) (class-most (size_at u i))
 
-    cases : ((0 ≡ p + 1) × (get_or heads (class_of (size_at u i)) 0 ≡ i + 1)) ⊎ (In p old.list × (get_or u (p + 1) 0 ≡ i + 1)) → IsFree u p
+    cases : ((0 ≡ p + 1) × (get_or heads (class_of_size (size_at u i)) 0 ≡ i + 1)) ⊎ (In p old.list × (get_or u (p + 1) 0 ≡ i + 1)) → IsFree u p
     cases (inl q) = let z = q.0 in absurd (omega arith)
     cases (inr q) = (old.each p q.0).0

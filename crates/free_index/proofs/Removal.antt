@@ -1,5 +1,5 @@
 use Rattle.std.proofs.Common.{◌≡◌, ◌≢◌, ℕ, ◌+◌, ◌%◌, ◌⊎◌, inl, inr, List, [], ◌∷◌, get_or, arith, refl, sym, ◌∙◌, ap, subst}
-use Rattle.heap_words.proofs.Writes.{same_place}
+use Rattle.std.proofs.lemmas.Bool.{cases_eq}
 use Rattle.free_index.specs.Lists.{In, Once, Chain}
 use Rattle.free_index.specs.Steps.{Removed, NewFirst}
 use Rattle.free_index.proofs.Chains.{rows, differ, once-rest, chain-others, first_of}
@@ -12,7 +12,7 @@ pub data Without (i : ℕ) : List ℕ → List ℕ → Type 0 where
 -- a member can be taken out of a list
 pub taken_out : (i : ℕ) (list : List ℕ) → In i list → (rest : List ℕ) × Without i list rest
 taken_out i [] m = absurd m
-taken_out i (x ∷ xs) m = choose (same_place x i) m (taken_out i xs)
+taken_out i (x ∷ xs) m = choose (cases_eq x i) m (taken_out i xs)
   where
     put : (x ≢ i) → (rest : List ℕ) × Without i xs rest → (rest : List ℕ) × Without i (x ∷ xs) rest
     put n (rest, w) = (x ∷ rest, there x xs rest n w)

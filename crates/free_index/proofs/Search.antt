@@ -1,9 +1,9 @@
 use Rattle.std.proofs.Common.{◌≡◌, ◌≢◌, ℕ, ◌+◌, ◌-◌, ◌<◌, ◌≤◌, ◌⊎◌, inl, inr, List, [], ◌∷◌, length, get_or, zero, suc, arith, refl, ap, subst}
+use Rattle.std.proofs.lemmas.Bool.{cases_eq}
 use Rattle.heap_words.specs.Headers.{size_at}
-use Rattle.heap_words.specs.Blocks.{IsFree, Formed}
-use Rattle.heap_words.proofs.Writes.{same_place}
-use Rattle.free_index.specs.Classes.{class_of}
-use Rattle.free_index.specs.Free.{NoneFits}
+use Rattle.heap_words.specs.Blocks.{IsFree, FormedHeap}
+use Rattle.free_index.specs.Classes.{class_of_size}
+use Rattle.free_index.specs.Free.{NoneSuffices}
 use Rattle.free_index.specs.Lists.{In, Once, Chain, ClassList, AreListed}
 use Rattle.free_index.specs.Steps.{NoneOfClass, Searching, links_from}
 use Rattle.free_index.proofs.Removal.{Without, taken_out, without_in, without_not, once_without}
@@ -18,7 +18,7 @@ length-without i _ _ (there x xs ys n w) = ap suc (length-without i xs ys w)
 -- a number is in a list or not
 member : (n : ℕ) (xs : List ℕ) → In n xs ⊎ (In n xs → ⊥)
 member n [] = inr (λ m. m)
-member n (x ∷ xs) = choose (same_place n x) (member n xs)
+member n (x ∷ xs) = choose (cases_eq n x) (member n xs)
   where
     neither : n ≢ x → (In n xs → ⊥) → (n ≡ x) ⊎ In n xs → ⊥
     neither d f (inl e) = d e
@@ -90,7 +90,7 @@ pub search-step : (u : List ℕ) (class need link : ℕ) → Searching u class n
 search-step u class need link s h = go s.rest s.chain s.free s.seen s.few
   where
     go : (xs : List ℕ) → Chain u s.before link xs → ((i : ℕ) → In i xs → IsFree u i)
-        → ((i : ℕ) → IsFree u i → class_of (size_at u i) ≡ class → In i xs ⊎ (size_at u i < need)) → length xs ≤ length u
+        → ((i : ℕ) → IsFree u i → class_of_size (size_at u i) ≡ class → In i xs ⊎ (size_at u i < need)) → length xs ≤ length u
         → SearchStep u class need link
     go [] c f g n = absurd (omega arith)
     go (x ∷ xs) c f g n = record {
@@ -111,7 +111,7 @@ search-step u class need link s h = go s.rest s.chain s.free s.seen s.few
 pub searching-none : (u : List ℕ) (class need link : ℕ) → Searching u class need link → link ≡ 0 → NoneOfClass u class need
 searching-none u class need link s h = go s.rest s.chain s.seen
   where
-    go : (xs : List ℕ) → Chain u s.before link xs → ((i : ℕ) → IsFree u i → class_of (size_at u i) ≡ class → In i xs ⊎ (size_at u i < need)) → NoneOfClass u class need
+    go : (xs : List ℕ) → Chain u s.before link xs → ((i : ℕ) → IsFree u i → class_of_size (size_at u i) ≡ class → In i xs ⊎ (size_at u i < need)) → NoneOfClass u class need
     go [] c g i f e = out (g i f e)
       where
         out : In i [] ⊎ (size_at u i < need) → size_at u i < need
@@ -120,17 +120,17 @@ searching-none u class need link s h = go s.rest s.chain s.seen
     go (x ∷ xs) c g i f e = let q = c.0 in absurd (omega arith)
 
 -- no class from the need's own on has a block
-pub none-fits : (u : List ℕ) (need : ℕ) → ((class : ℕ) → class_of need ≤ class → class < 32 → NoneOfClass u class need) → NoneFits u need
-none-fits u need h i f = choose (order (class_of need) (class_of (size_at u i))) (order need (size_at u i))
+pub none-fits : (u : List ℕ) (need : ℕ) → ((class : ℕ) → class_of_size need ≤ class → class < 32 → NoneOfClass u class need) → NoneSuffices u need
+none-fits u need h i f = choose (order (class_of_size need) (class_of_size (size_at u i))) (order need (size_at u i))
   where
     order : (m n : ℕ) → (m ≤ n) ⊎ (n < m)
     order m n = grind arith
 
-    choose : (class_of need ≤ class_of (size_at u i)) ⊎ (class_of (size_at u i) < class_of need) → (need ≤ size_at u i) ⊎ (size_at u i < need) → size_at u i < need
+    choose : (class_of_size need ≤ class_of_size (size_at u i)) ⊎ (class_of_size (size_at u i) < class_of_size need) → (need ≤ size_at u i) ⊎ (size_at u i < need) → size_at u i < need
     choose p (inr l) = l
-    choose (inl l) (inl m) = h (class_of (size_at u i)) l (class-most (size_at u i)) i f refl
+    choose (inl l) (inl m) = h (class_of_size (size_at u i)) l (class-most (size_at u i)) i f refl
     choose (inr l) (inl m) = let q = class-mono need (size_at u i) m in absurd (omega arith)
 
 -- no block is larger than the heap
-pub none-large : (u : List ℕ) (need : ℕ) → Formed u → length u < need → NoneFits u need
+pub none-large : (u : List ℕ) (need : ℕ) → FormedHeap u → length u < need → NoneSuffices u need
 none-large u need f l i g = let w = (f.whole i g.begins).within in omega arith

@@ -3,11 +3,11 @@ use Rattle.heap_words.specs.Headers.{size_at}
 use Rattle.heap_words.specs.Blocks.{Begins, Block, IsFree, IsUsed, SameBlocks, free_block, used_block}
 
 -- no free block has `need` words
-abbrev pub NoneFits : List ℕ → ℕ → Type 0
-NoneFits words need = (i : ℕ) → IsFree words i → size_at words i < need
+abbrev pub NoneSuffices : List ℕ → ℕ → Type 0
+NoneSuffices words need = (i : ℕ) → IsFree words i → size_at words i < need
 
 -- a free block of at least `need` words begins at i
-pub record Fits (words : List ℕ) (need i : ℕ) : Type 0 where
+pub record Suffices (words : List ℕ) (need i : ℕ) : Type 0 where
   pub free : IsFree words i
   pub enough : need ≤ size_at words i
 
@@ -18,7 +18,7 @@ taken_blocks i need size =
 
 -- the free block at i became a used one of `need` words, with a free rest behind it where one is left
 pub record Taken (before after : List ℕ) (need i : ℕ) : Type 0 where
-  pub fitted : Fits before need i
+  pub fitted : Suffices before need i
   pub used : IsUsed after i
   pub exact : size_at after i ≡ need
   pub rest : need < size_at before i → IsFree after (i + need) × (need + size_at after (i + need) ≡ size_at before i)

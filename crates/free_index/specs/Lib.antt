@@ -1,4 +1,5 @@
 pub mod Classes
 pub mod Free
+pub mod Laws
 pub mod Lists
 pub mod Steps

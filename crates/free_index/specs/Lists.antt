@@ -1,7 +1,7 @@
 use Rattle.std.specs.Prelude.{◌≡◌, ◌≢◌, ℕ, ◌+◌, ◌<◌, ◌⊎◌, List, [], ◌∷◌, length, slice_index}
 use Rattle.heap_words.specs.Headers.{size_at}
 use Rattle.heap_words.specs.Blocks.{IsFree}
-use Rattle.free_index.specs.Classes.{class_of}
+use Rattle.free_index.specs.Classes.{class_of_size}
 
 -- a place is in a list
 abbrev pub In : ℕ → List ℕ → Type 0
@@ -24,8 +24,8 @@ pub record ClassList (words : List ℕ) (Listed : ℕ → Type 0) (class head : 
   pub list : List ℕ
   pub chain : Chain words 0 head list
   pub once : Once list
-  pub each : (i : ℕ) → In i list → Listed i × (class_of (size_at words i) ≡ class)
-  pub all : (i : ℕ) → Listed i → class_of (size_at words i) ≡ class → In i list
+  pub each : (i : ℕ) → In i list → Listed i × (class_of_size (size_at words i) ≡ class)
+  pub all : (i : ℕ) → Listed i → class_of_size (size_at words i) ≡ class → In i list
 
 -- the listed blocks stand in the lists of their classes
 abbrev pub AreListed : List ℕ → (ℕ → Type 0) → List ℕ → Type 0
@@ -38,8 +38,8 @@ pub record FreeLists (heads words : List ℕ) : Type 0 where
 
 -- wherever the heads stand for the free blocks, none has the class
 abbrev pub IsEmptyClass : List ℕ → ℕ → Type 0
-IsEmptyClass heads class = (words : List ℕ) → FreeLists heads words → (i : ℕ) → IsFree words i → class_of (size_at words i) ≢ class
+IsEmptyClass heads class = (words : List ℕ) → FreeLists heads words → (i : ℕ) → IsFree words i → class_of_size (size_at words i) ≢ class
 
 -- wherever the heads stand for the free blocks, the block at i is free, has the class and is the first of its list
-abbrev pub IsFirst : List ℕ → ℕ → ℕ → Type 0
-IsFirst heads class i = (words : List ℕ) → FreeLists heads words → IsFree words i × (class_of (size_at words i) ≡ class) × (slice_index words (i + 2) ≡ 0)
+abbrev pub IsFirstOfClass : List ℕ → ℕ → ℕ → Type 0
+IsFirstOfClass heads class i = (words : List ℕ) → FreeLists heads words → IsFree words i × (class_of_size (size_at words i) ≡ class) × (slice_index words (i + 2) ≡ 0)

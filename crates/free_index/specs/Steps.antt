@@ -1,7 +1,7 @@
 use Rattle.std.specs.Prelude.{◌≡◌, ◌≢◌, ℕ, ◌+◌, ◌<◌, ◌≤◌, ◌⊎◌, List, length, slice_index, slice_set, zero, suc}
 use Rattle.heap_words.specs.Headers.{size_at}
 use Rattle.heap_words.specs.Blocks.{Begins, IsFree, SameBlocks}
-use Rattle.free_index.specs.Classes.{class_of}
+use Rattle.free_index.specs.Classes.{class_of_size}
 use Rattle.free_index.specs.Free.{OnlyLinks}
 use Rattle.free_index.specs.Lists.{In, Chain, AreListed}
 
@@ -45,7 +45,7 @@ pub record Rebuilding (before after : List ℕ) (at : ℕ) (heads : List ℕ) : 
 
 -- no free block of a class has `need` words
 abbrev pub NoneOfClass : List ℕ → ℕ → ℕ → Type 0
-NoneOfClass words class need = (i : ℕ) → IsFree words i → class_of (size_at words i) ≡ class → size_at words i < need
+NoneOfClass words class need = (i : ℕ) → IsFree words i → class_of_size (size_at words i) ≡ class → size_at words i < need
 
 -- the blocks of a class before `link` have fewer than `need` words
 pub record Searching (words : List ℕ) (class need link : ℕ) : Type 0 where
@@ -53,7 +53,7 @@ pub record Searching (words : List ℕ) (class need link : ℕ) : Type 0 where
   pub before : ℕ
   pub chain : Chain words before link rest
   pub free : (i : ℕ) → In i rest → IsFree words i
-  pub seen : (i : ℕ) → IsFree words i → class_of (size_at words i) ≡ class → In i rest ⊎ (size_at words i < need)
+  pub seen : (i : ℕ) → IsFree words i → class_of_size (size_at words i) ≡ class → In i rest ⊎ (size_at words i < need)
   pub few : length rest ≤ length words
 
 -- how many links lead on from a link, at most n. A link is one more than its block's place, so the block's

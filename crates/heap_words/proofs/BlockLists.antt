@@ -3,7 +3,8 @@ use Rattle.std.proofs.lemmas.Bool.Decides.{nat_tests}
 use Rattle.std.specs.List.{Contains}
 use Rattle.std.proofs.lemmas.List.Elements.{Contains-append_right}
 use Rattle.heap_words.specs.Headers.{size_at, used_at}
-use Rattle.heap_words.specs.Blocks.{Block, block_at, blocks_from, Blocks, Begins, IsBlock, Formed, Tiles, Replaces, SameBlocks}
+use Rattle.heap_words.specs.Blocks.{Block, block_at, blocks_from, Blocks, Begins, IsBlock, FormedHeap, Tiles, Replaces, SameBlocks}
+use Rattle.heap_words.specs.Laws.{Differs}
 use Rattle.heap_words.proofs.Places.{begins-first, begins-next, begins-ind}
 
 -- the blocks from a place on
@@ -56,11 +57,11 @@ at-next words i b = go (order (i + size_at words i) (length words))
     go (inr l) = inr l
 
 -- a heap begins with a block
-at-first : (words : List ℕ) → Formed words → AtBlock words 0
+at-first : (words : List ℕ) → FormedHeap words → AtBlock words 0
 at-first words f = inl (begins-first words (let l = f.least in omega arith))
 
 -- how many blocks are read at most does not matter, where that is enough
-fuel : (words : List ℕ) → Formed words → (n m i : ℕ) → AtBlock words i → length words ≤ i + n → length words ≤ i + m → blocks_from n words i ≡ blocks_from m words i
+fuel : (words : List ℕ) → FormedHeap words → (n m i : ℕ) → AtBlock words i → length words ≤ i + n → length words ≤ i + m → blocks_from n words i ≡ blocks_from m words i
 fuel words f n m i (inr l) h g = step-out words n i l ∙ sym (step-out words m i l)
 fuel words f zero m i (inl b) h g = let l = b.inside in absurd (omega arith)
 fuel words f (suc n) zero i (inl b) h g = let l = b.inside in absurd (omega arith)
@@ -70,7 +71,7 @@ fuel words f (suc n) (suc m) i (inl b) h g =
     rw (step-in words n i b.inside, step-in words m i b.inside, e) refl
 
 -- the first block of the rest, and the rest behind it
-pub rest-block : (words : List ℕ) (i : ℕ) → Formed words → Begins words i → rest words i ≡ block_at words i ∷ rest words (i + size_at words i)
+pub rest-block : (words : List ℕ) (i : ℕ) → FormedHeap words → Begins words i → rest words i ≡ block_at words i ∷ rest words (i + size_at words i)
 rest-block words i f b = fuel words f (length words) (suc (length words)) i (inl b) (omega arith) (omega arith) ∙ step-in words (length words) i b.inside
 
 -- nothing stands behind the end
@@ -78,7 +79,7 @@ pub rest-end : (words : List ℕ) (i : ℕ) → length words ≤ i → rest word
 rest-end words i l = step-out words (length words) i l
 
 -- the list tiles the heap
-tiles-from : (words : List ℕ) → Formed words → (n i : ℕ) → AtBlock words i → i ≤ length words → length words ≤ i + n → Tiles i (blocks_from n words i) (length words)
+tiles-from : (words : List ℕ) → FormedHeap words → (n i : ℕ) → AtBlock words i → i ≤ length words → length words ≤ i + n → Tiles i (blocks_from n words i) (length words)
 tiles-from words f n i (inr l) h g = rw (step-out words n i l) (omega arith)
 tiles-from words f zero i (inl b) h g = let l = b.inside in absurd (omega arith)
 tiles-from words f (suc n) i (inl b) h g =
@@ -87,7 +88,7 @@ tiles-from words f (suc n) i (inl b) h g =
     rw (step-in words n i b.inside) (refl, p, tiles-from words f n (i + size_at words i) (at-next words i b) w.within (omega arith))
 
 -- the list tiles the heap from its first word to its end
-pub tiles : (words : List ℕ) → Formed words → Tiles 0 (Blocks words) (length words)
+pub tiles : (words : List ℕ) → FormedHeap words → Tiles 0 (Blocks words) (length words)
 tiles words f = tiles-from words f (length words) 0 (at-first words f) (omega arith) (omega arith)
 
 -- up to a block the lists of two heaps are the same
@@ -102,7 +103,7 @@ longer : (front back all : List Block) (b : Block) → all ≡ front ++ (b ∷ b
 longer front back all b e = e ∙ sym (append_assoc front (b ∷ []) back)
 
 -- where the headers below a block are the same
-pub fronts : (u v : List ℕ) (i : ℕ) → Formed u → Formed v → length v ≡ length u → Begins u i → ((j : ℕ) → Begins u j → j < i → block_at v j ≡ block_at u j) → SameFront u v i
+pub fronts : (u v : List ℕ) (i : ℕ) → FormedHeap u → FormedHeap v → length v ≡ length u → Begins u i → ((j : ℕ) → Begins u j → j < i → block_at v j ≡ block_at u j) → SameFront u v i
 fronts u v i f g n b h = begins-ind u P base step i b h
   where
     P : ℕ → Type 0
@@ -144,16 +145,8 @@ pub same-block : (u v : List ℕ) (j : ℕ) → size_at v j ≡ size_at u j → 
 same-block u v j s t = rw (s, t) refl
 
 -- heaps with the same headers have the same list
-pub same-list : (u v : List ℕ) → Formed u → SameBlocks u v → ((j : ℕ) → Begins u j → used_at v j ≡ used_at u j) → Blocks v ≡ Blocks u
+pub same-list : (u v : List ℕ) → FormedHeap u → SameBlocks u v → ((j : ℕ) → Begins u j → used_at v j ≡ used_at u j) → Blocks v ≡ Blocks u
 same-list u v f s h = same-rest u v 0 s.size (at-first u f) (λ j b l. same-block u v j (s.sizes j b) (h j b))
-
--- two heaps whose headers differ in the block at i alone
-pub record Differs (u v : List ℕ) (i : ℕ) : Type 0 where
-  pub formed : Formed u
-  pub formed_after : Formed v
-  pub size : length v ≡ length u
-  pub begins : Begins u i
-  pub others : (j : ℕ) → Begins u j → j ≢ i → block_at v j ≡ block_at u j
 
 -- a block before i is not that at i, and neither is one behind its end
 below : (i j : ℕ) → j < i → j ≢ i
@@ -211,7 +204,7 @@ holds-first : (b : Block) (xs : List Block) → Contains (b ∷ xs) b
 holds-first b xs = (zero, omega arith, refl)
 
 -- what stands in the list from a block on is a block of the heap
-listed-from : (words : List ℕ) (b : Block) → Formed words → (n i : ℕ) → AtBlock words i → Contains (blocks_from n words i) b → IsBlock words b
+listed-from : (words : List ℕ) (b : Block) → FormedHeap words → (n i : ℕ) → AtBlock words i → Contains (blocks_from n words i) b → IsBlock words b
 listed-from words b f n i (inr l) c = absurd (holds-none b (rw (step-out words n i l) at c))
 listed-from words b f zero i (inl d) c = absurd (holds-none b (rw (read-none words i) at c))
 listed-from words b f (suc n) i (inl d) c = go (rw (step-in words n i d.inside) at c) (listed-from words b f n (i + size_at words i) (at-next words i d))
@@ -221,11 +214,11 @@ listed-from words b f (suc n) i (inl d) c = go (rw (step-in words n i d.inside) 
     go (suc k, l, e) r = r (k, omega arith, e)
 
 -- what stands in the list is a block of the heap
-pub listed-block : (words : List ℕ) (b : Block) → Formed words → Contains (Blocks words) b → IsBlock words b
+pub listed-block : (words : List ℕ) (b : Block) → FormedHeap words → Contains (Blocks words) b → IsBlock words b
 listed-block words b f c = listed-from words b f (length words) 0 (at-first words f) c
 
 -- each block of the heap stands in the list
-pub block-listed : (words : List ℕ) (b : Block) → Formed words → IsBlock words b → Contains (Blocks words) b
+pub block-listed : (words : List ℕ) (b : Block) → FormedHeap words → IsBlock words b → Contains (Blocks words) b
 block-listed words b f i =
     let s = fronts words words b.place f f refl i.begins (λ j d l. refl) in
     let e : block_at words b.place ≡ b = rw (← i.size, ← i.used) refl in

@@ -1,11 +1,12 @@
 use Rattle.std.proofs.Common.{◌≡◌, ◌≢◌, ℕ, ◌+◌, ◌-◌, ◌<◌, ◌≤◌, ◌%◌, ◌⊎◌, inl, inr, List, [], ◌∷◌, length, get_or, get_or-set_other, get_or-set_same, arith, refl, sym, ◌∙◌, ap, subst}
 use Rattle.std.proofs.Math.ListN.{set, length-set}
+use Rattle.std.proofs.lemmas.Bool.{cases_eq}
 use Rattle.heap_words.specs.Headers.{size_of, size_at}
-use Rattle.heap_words.specs.Blocks.{Block, Begins, IsWhole, IsFree, Formed, Splits, Replaces, Blocks, block_at, free_block}
+use Rattle.heap_words.specs.Blocks.{Block, Begins, IsWhole, IsFree, FormedHeap, Splits, Replaces, Blocks, block_at, free_block}
+use Rattle.heap_words.specs.Laws.{Differs}
 use Rattle.heap_words.proofs.HeaderLaws.{size-mod, whole-size, whole-free}
 use Rattle.heap_words.proofs.Places.{apart, begins-first, begins-next, begins-ind}
-use Rattle.heap_words.proofs.Writes.{same_place}
-use Rattle.heap_words.proofs.BlockLists.{Differs, replaces-two, replaces-back}
+use Rattle.heap_words.proofs.BlockLists.{replaces-two, replaces-back}
 
 -- what one block is cut into
 pub record Cut (u v : List ℕ) (i need : ℕ) : Type 0 where
@@ -50,7 +51,7 @@ splits-cut u v i need c = record { kept = kept; added = added; each = λ j b. be
     step j b d g (inr n) = same_next j n b d g
 
     kept : (j : ℕ) → Begins u j → Begins v j
-    kept j b = begins-ind u (Begins v) (λ g. begins-first v (let l = c.size in omega arith)) (λ j b d g. step j b d g (same_place j i)) j b
+    kept j b = begins-ind u (Begins v) (λ g. begins-first v (let l = c.size in omega arith)) (λ j b d g. step j b d g (cases_eq j i)) j b
 
     added : Begins v (i + need)
     added = middle (kept i c.begins)
@@ -79,11 +80,11 @@ splits-cut u v i need c = record { kept = kept; added = added; each = λ j b. be
     by_place j b g (inr n) = after_other j b n g
 
     next : (j : ℕ) → P j → j + size_at v j < length v → P (j + size_at v j)
-    next j (inl b) g = by_place j b g (same_place j i)
+    next j (inl b) g = by_place j b g (cases_eq j i)
     next j (inr e) g = after_rest j e g
 
 -- a cut leaves a heap
-pub formed-cut : (u v : List ℕ) (i need : ℕ) → Cut u v i need → Formed u → Formed v
+pub formed-cut : (u v : List ℕ) (i need : ℕ) → Cut u v i need → FormedHeap u → FormedHeap v
 formed-cut u v i need c f = record { whole = λ j b. whole j ((splits-cut u v i need c).each j b); rows = rw c.size f.rows; least = rw c.size f.least; most = rw c.size f.most }
   where
     other : (j : ℕ) → Begins u j → j ≢ i → IsWhole v j
@@ -100,7 +101,7 @@ formed-cut u v i need c f = record { whole = λ j b. whole j ((splits-cut u v i 
     kept j b (inr n) = other j b n
 
     whole : (j : ℕ) → Begins u j ⊎ (j ≡ i + need) → IsWhole v j
-    whole j (inl b) = kept j b (same_place j i)
+    whole j (inl b) = kept j b (cases_eq j i)
     whole j (inr e) =
         let r = c.rest in
         rw e (record { positive = let l = c.less in omega arith; within = let w = c.within in rw c.size (omega arith) })
@@ -114,10 +115,10 @@ pub record Joined (u v : List ℕ) (i : ℕ) : Type 0 where
   pub others : (j : ℕ) → j ≢ i → size_at v j ≡ size_at u j
 
 -- a join read backwards is a cut
-pub cut-joined : (u v : List ℕ) (i : ℕ) → Formed u → Joined u v i → Cut v u i (size_at u i)
+pub cut-joined : (u v : List ℕ) (i : ℕ) → FormedHeap u → Joined u v i → Cut v u i (size_at u i)
 cut-joined u v i f c = record {
   size = sym c.size;
-  begins = begins-ind u (λ j. j ≤ i → Begins v j) (λ g _. begins-first v (let l = c.size in omega arith)) (λ j b d g h. step j b d g h (same_place j i)) i c.begins (omega arith);
+  begins = begins-ind u (λ j. j ≤ i → Begins v j) (λ g _. begins-first v (let l = c.size in omega arith)) (λ j b d g h. step j b d g h (cases_eq j i)) i c.begins (omega arith);
   within = let w = second.within in rw (c.sum, c.size) (omega arith);
   some = front.positive;
   less = let p = second.positive in rw c.sum (omega arith);
@@ -139,9 +140,9 @@ cut-joined u v i f c = record {
     step j b d g h (inr n) = moved v _ _ (ap (λ s. j + s) (c.others j n)) (begins-next v j (d (omega arith)) (let e = c.others j n in let l = c.size in omega arith))
 
 -- a join leaves a heap
-pub formed-joined : (u v : List ℕ) (i : ℕ) → Joined u v i → Formed u → Formed v
+pub formed-joined : (u v : List ℕ) (i : ℕ) → Joined u v i → FormedHeap u → FormedHeap v
 formed-joined u v i c f =
-    record { whole = λ j b. whole j b ((splits-cut v u i _ cut).kept j b) (same_place j i); rows = rw c.size f.rows; least = rw c.size f.least; most = rw c.size f.most }
+    record { whole = λ j b. whole j b ((splits-cut v u i _ cut).kept j b) (cases_eq j i); rows = rw c.size f.rows; least = rw c.size f.least; most = rw c.size f.most }
   where
     cut : Cut v u i (size_at u i)
     cut = cut-joined u v i f c
@@ -196,12 +197,12 @@ split-words u i need l s = record {
 
 -- a split by its writes
 pub record SplitFacts (u v : List ℕ) (i need : ℕ) : Type 0 where
-  pub formed : Formed v
+  pub formed : FormedHeap v
   pub splits : Splits u v (i + need)
   pub replaces : Replaces (Blocks u) (Blocks v) (free_block i (size_at u i) ∷ []) (free_block i need ∷ free_block (i + need) (size_at u i - need) ∷ [])
 
 -- what holds after the two writes of a split
-pub split-facts : (u : List ℕ) (i need : ℕ) → Formed u → IsFree u i → need % 4 ≡ 0 → 0 < need → need < size_at u i → SplitFacts u (split_words u i need) i need
+pub split-facts : (u : List ℕ) (i need : ℕ) → FormedHeap u → IsFree u i → need % 4 ≡ 0 → 0 < need → need < size_at u i → SplitFacts u (split_words u i need) i need
 split-facts u i need f free r s l = record { formed = formed; splits = splits; replaces = subst P front (subst Q rest (subst R (free-block u i free) replaced)) }
   where
     within : i + size_at u i ≤ length u
@@ -225,7 +226,7 @@ split-facts u i need f free r s l = record { formed = formed; splits = splits; r
     cut : Cut u (split_words u i need) i need
     cut = record { size = w.size; begins = free.begins; within = within; some = s; less = l; front = front_size; rest = sum; others = λ j n m. ap size_of (w.others j n m) }
 
-    formed : Formed (split_words u i need)
+    formed : FormedHeap (split_words u i need)
     formed = formed-cut u _ i need cut f
 
     splits : Splits u (split_words u i need) (i + need)
@@ -250,9 +251,9 @@ split-facts u i need f free r s l = record { formed = formed; splits = splits; r
     R b = Replaces (Blocks u) (Blocks (split_words u i need)) (b ∷ []) (block_at (split_words u i need) i ∷ block_at (split_words u i need) (i + need) ∷ [])
 
 -- the same with the words and the size as the code has them
-pub split-made : (u w : List ℕ) (i need s : ℕ) → w ≡ u → Formed w → IsFree u i → need % 4 ≡ 0 → 0 < need → need < size_at u i → s ≡ size_at u i
+pub split-made : (u w : List ℕ) (i need s : ℕ) → w ≡ u → FormedHeap w → IsFree u i → need % 4 ≡ 0 → 0 < need → need < size_at u i → s ≡ size_at u i
     → SplitFacts u (set (set w (i + need) (s - need)) i need) i need
-split-made u w i need s e f free r p l g = rw (e, g) (split-facts u i need (subst Formed e f) free r p l)
+split-made u w i need s e f free r p l g = rw (e, g) (split-facts u i need (subst FormedHeap e f) free r p l)
 
 -- the write of a join
 abbrev pub join_words : List ℕ → ℕ → List ℕ
@@ -260,14 +261,14 @@ join_words u i = set u i (size_at u i + size_at u (i + size_at u i))
 
 -- a join by its write
 pub record JoinFacts (u v : List ℕ) (i : ℕ) : Type 0 where
-  pub formed : Formed v
+  pub formed : FormedHeap v
   pub splits : Splits v u (i + size_at u i)
   pub replaces : Replaces (Blocks u) (Blocks v)
       (free_block i (size_at u i) ∷ free_block (i + size_at u i) (size_at u (i + size_at u i)) ∷ [])
       (free_block i (size_at u i + size_at u (i + size_at u i)) ∷ [])
 
 -- what holds after the write of a join
-pub join-facts : (u : List ℕ) (i : ℕ) → Formed u → IsFree u i → IsFree u (i + size_at u i) → JoinFacts u (join_words u i) i
+pub join-facts : (u : List ℕ) (i : ℕ) → FormedHeap u → IsFree u i → IsFree u (i + size_at u i) → JoinFacts u (join_words u i) i
 join-facts u i f free next =
     record {
       formed = formed;
@@ -298,7 +299,7 @@ join-facts u i f free next =
     cut : Cut (join_words u i) u i (size_at u i)
     cut = cut-joined u _ i f joined
 
-    formed : Formed (join_words u i)
+    formed : FormedHeap (join_words u i)
     formed = formed-joined u _ i joined f
 
     differs : Differs (join_words u i) u i
@@ -317,5 +318,5 @@ join-facts u i f free next =
     R b = Replaces (Blocks (join_words u i)) (Blocks u) (b ∷ []) (block_at u i ∷ block_at u (i + size_at u i) ∷ [])
 
 -- the same with the words and the sizes as the code has them
-pub join-made : (u w : List ℕ) (i s m : ℕ) → w ≡ u → Formed w → IsFree u i → IsFree u (i + size_at u i) → s ≡ size_at u i → m ≡ size_at u (i + s) → JoinFacts u (set w i (s + m)) i
-join-made u w i s m e f free next g h = rw (e, h, g) (join-facts u i (subst Formed e f) free next)
+pub join-made : (u w : List ℕ) (i s m : ℕ) → w ≡ u → FormedHeap w → IsFree u i → IsFree u (i + size_at u i) → s ≡ size_at u i → m ≡ size_at u (i + s) → JoinFacts u (set w i (s + m)) i
+join-made u w i s m e f free next g h = rw (e, h, g) (join-facts u i (subst FormedHeap e f) free next)

@@ -4,3 +4,4 @@ pub mod BlockLists
 pub mod Writes
 pub mod Cuts
 pub mod NewHeap
+pub mod BlockLaws

@@ -1,13 +1,13 @@
 use Rattle.std.proofs.Common.{◌≡◌, ℕ, ◌+◌, ◌<◌, ◌≤◌, ◌%◌, List, [], ◌∷◌, length, get_or, get_or-set_same, arith, refl, sym, ◌∙◌, subst}
 use Rattle.std.proofs.Math.ListN.{set, length-set}
 use Rattle.heap_words.specs.Headers.{size_at}
-use Rattle.heap_words.specs.Blocks.{Begins, IsWhole, Formed, IsFree, Blocks, free_block}
+use Rattle.heap_words.specs.Blocks.{Begins, IsWhole, FormedHeap, IsFree, Blocks, free_block}
 use Rattle.heap_words.proofs.HeaderLaws.{whole-size, whole-free}
 use Rattle.heap_words.proofs.Places.{begins-first, begins-ind}
 use Rattle.heap_words.proofs.BlockLists.{rest, rest-block, rest-end}
 
 -- words whose first one is their number are one block
-pub formed-one : (u : List ℕ) → length u % 4 ≡ 0 → 64 ≤ length u → length u ≤ 4194304 → get_or u 0 0 ≡ length u → Formed u × Begins u 0
+pub formed-one : (u : List ℕ) → length u % 4 ≡ 0 → 64 ≤ length u → length u ≤ 4194304 → get_or u 0 0 ≡ length u → FormedHeap u × Begins u 0
 formed-one u r p m e =
     (record { whole = λ i b. whole i (begins-ind u (λ i. i ≡ 0) (λ _. refl) (λ i _ h g. absurd (past i h g)) i b); rows = r; least = p; most = m }, begins-first u (omega arith))
   where
@@ -22,7 +22,7 @@ formed-one u r p m e =
 
 -- a new heap: its first word is its size
 pub record NewHeap (u : List ℕ) (n : ℕ) : Type 0 where
-  pub formed : Formed (set u 0 n)
+  pub formed : FormedHeap (set u 0 n)
   pub free : IsFree (set u 0 n) 0
   pub listed : Blocks (set u 0 n) ≡ free_block 0 n ∷ []
 
@@ -36,7 +36,7 @@ new-heap u n e r l m = record { formed = both.0; free = free; listed = rest-bloc
     word : get_or (set u 0 n) 0 0 ≡ n
     word = get_or-set_same u 0 n 0 (omega arith)
 
-    both : Formed (set u 0 n) × Begins (set u 0 n) 0
+    both : FormedHeap (set u 0 n) × Begins (set u 0 n) 0
     both = formed-one (set u 0 n) (rw size r) (rw size l) (rw size m) (word ∙ sym size)
 
     free : IsFree (set u 0 n) 0

@@ -1,18 +1,16 @@
 use Rattle.std.proofs.Common.{◌≡◌, ◌≢◌, ℕ, ◌+◌, ◌<◌, ◌≤◌, ◌%◌, ◌⊎◌, inl, inr, Bool, List, [], ◌∷◌, length, get_or, get_or-set_other, get_or-set_same, arith, refl, sym, ap, subst}
 use Rattle.std.proofs.Math.ListN.{set, length-set}
+use Rattle.std.proofs.lemmas.Bool.{cases_eq}
 use Rattle.heap_words.specs.Headers.{header_word, size_of, size_at, used_of, used_at}
-use Rattle.heap_words.specs.Blocks.{Begins, IsWhole, Formed, SameBlocks, Replaces, Blocks, block_at}
+use Rattle.heap_words.specs.Blocks.{Begins, IsWhole, FormedHeap, SameBlocks, Replaces, Blocks, block_at}
+use Rattle.heap_words.specs.Laws.{Differs, Room}
 use Rattle.heap_words.proofs.HeaderLaws.{size-mod, size-kept, used-written}
 use Rattle.heap_words.proofs.Places.{same-blocks, begins-row}
-use Rattle.heap_words.proofs.BlockLists.{Differs, replaces-one, same-list}
-
--- places are the same or not
-pub same_place : (i j : ℕ) → (i ≡ j) ⊎ (i ≢ j)
-same_place i j = grind arith
+use Rattle.heap_words.proofs.BlockLists.{replaces-one, same-list}
 
 -- a write that keeps the size of a block that begins there
 pub same-set : (u : List ℕ) (i w : ℕ) → (Begins u i → size_of w ≡ size_at u i) → SameBlocks u (set u i w)
-same-set u i w h = same-blocks u (set u i w) (length-set u i w) (λ j b. choose j b (same_place j i))
+same-set u i w h = same-blocks u (set u i w) (length-set u i w) (λ j b. choose j b (cases_eq j i))
   where
     choose : (j : ℕ) → Begins u j → (j ≡ i) ⊎ (j ≢ i) → size_at (set u i w) j ≡ size_at u j
     choose j b (inl e) =
@@ -22,7 +20,7 @@ same-set u i w h = same-blocks u (set u i w) (length-set u i w) (λ j b. choose 
     choose j b (inr g) = ap size_of (get_or-set_other u i j w 0 g)
 
 -- blocks that stay keep the words a heap
-pub formed-same : (u v : List ℕ) → SameBlocks u v → Formed u → Formed v
+pub formed-same : (u v : List ℕ) → SameBlocks u v → FormedHeap u → FormedHeap v
 formed-same u v s f = record { whole = λ i b. whole i (s.back i b); rows = rw s.size f.rows; least = rw s.size f.least; most = rw s.size f.most }
   where
     whole : (i : ℕ) → Begins u i → IsWhole v i
@@ -30,18 +28,12 @@ formed-same u v s f = record { whole = λ i b. whole i (s.back i b); rows = rw s
         let w = f.whole i b in
         record { positive = rw (s.sizes i b) w.positive; within = rw (s.sizes i b, s.size) w.within }
 
--- what every block has
-pub record Room (u : List ℕ) (i : ℕ) : Type 0 where
-  pub four : 4 ≤ size_at u i
-  pub within : i + size_at u i ≤ length u
-  pub row : i % 4 ≡ 0
-
 -- and back
 pub same-back : (u v : List ℕ) → SameBlocks u v → SameBlocks v u
 same-back u v s = record { size = sym s.size; forth = s.back; back = s.forth; sizes = λ i b. sym (s.sizes i (s.back i b)) }
 
 -- a block has at least four words, and they are within the heap
-pub room : (u : List ℕ) (i : ℕ) → Formed u → Begins u i → Room u i
+pub room : (u : List ℕ) (i : ℕ) → FormedHeap u → Begins u i → Room u i
 room u i f b = record { four = four (size_at u i) (size-mod _) w.positive; within = w.within; row = begins-row u i b }
   where
     w : IsWhole u i
@@ -51,8 +43,8 @@ room u i f b = record { four = four (size_at u i) (size-mod _) w.positive; withi
     four a h g = omega arith
 
 -- the same by the words that a heap keeps
-pub room-inside : (u w : List ℕ) (i : ℕ) → w ≡ u → Formed w → Begins u i → Room u i
-room-inside u w i e f b = room u i (subst Formed e f) b
+pub room-inside : (u w : List ℕ) (i : ℕ) → w ≡ u → FormedHeap w → Begins u i → Room u i
+room-inside u w i e f b = room u i (subst FormedHeap e f) b
 
 -- no block begins one word behind another's begin
 pub off_row : (u : List ℕ) (i j : ℕ) → Begins u i → Begins u j → j ≢ i + 1
@@ -66,16 +58,16 @@ off_row_2 u i j b d e =
     omega arith
 
 -- a write beside the headers leaves the list of blocks
-pub aside-list : (u : List ℕ) (i w : ℕ) → Formed u → ((j : ℕ) → Begins u j → i ≢ j) → Blocks (set u i w) ≡ Blocks u
+pub aside-list : (u : List ℕ) (i w : ℕ) → FormedHeap u → ((j : ℕ) → Begins u j → i ≢ j) → Blocks (set u i w) ≡ Blocks u
 aside-list u i w f h =
     same-list u (set u i w) f (same-set u i w (λ b. absurd (h i b refl))) (λ j b. ap used_of (get_or-set_other u i j w 0 (λ e. h j b (sym e))))
 
 -- a link that is written leaves the list of blocks
-pub link-list : (u : List ℕ) (i w : ℕ) → Formed u → Begins u i → Blocks (set u (i + 1) w) ≡ Blocks u
+pub link-list : (u : List ℕ) (i w : ℕ) → FormedHeap u → Begins u i → Blocks (set u (i + 1) w) ≡ Blocks u
 link-list u i w f b = aside-list u (i + 1) w f (λ j d e. off_row u i j b d (sym e))
 
 -- and so does a back link
-pub back-list : (u : List ℕ) (i w : ℕ) → Formed u → Begins u i → Blocks (set u (i + 2) w) ≡ Blocks u
+pub back-list : (u : List ℕ) (i w : ℕ) → FormedHeap u → Begins u i → Blocks (set u (i + 2) w) ≡ Blocks u
 back-list u i w f b = aside-list u (i + 2) w f (λ j d e. off_row_2 u i j b d (sym e))
 
 -- the header of a block, written again with these bits
@@ -91,7 +83,7 @@ other-block : (u : List ℕ) (i j w : ℕ) → j ≢ i → block_at (set u i w) 
 other-block u i j w n = let e = get_or-set_other u i j w 0 n in rw e refl
 
 -- in the list the block has the use that was written
-pub reheaded-list : (u : List ℕ) (i : ℕ) (used marked : Bool) → Formed u → Begins u i
+pub reheaded-list : (u : List ℕ) (i : ℕ) (used marked : Bool) → FormedHeap u → Begins u i
     → Replaces (Blocks u) (Blocks (reheaded u i used marked)) (block_at u i ∷ []) (record { place = i; size = size_at u i; used = used } ∷ [])
 reheaded-list u i used marked f b =
     let s = reheaded-same u i used marked in
@@ -106,8 +98,8 @@ reheaded-list u i used marked f b =
     subst (λ b. Replaces (Blocks u) (Blocks (reheaded u i used marked)) (block_at u i ∷ []) (b ∷ [])) (rw (s.sizes i b, used-written u i used marked b.inside) refl) r
 
 -- only the mark changes
-pub remarked-list : (u : List ℕ) (i : ℕ) (marked : Bool) → Formed u → Begins u i → Blocks (reheaded u i (used_at u i) marked) ≡ Blocks u
-remarked-list u i marked f b = same-list u (reheaded u i (used_at u i) marked) f (reheaded-same u i (used_at u i) marked) (λ j _. used j (same_place j i))
+pub remarked-list : (u : List ℕ) (i : ℕ) (marked : Bool) → FormedHeap u → Begins u i → Blocks (reheaded u i (used_at u i) marked) ≡ Blocks u
+remarked-list u i marked f b = same-list u (reheaded u i (used_at u i) marked) f (reheaded-same u i (used_at u i) marked) (λ j _. used j (cases_eq j i))
   where
     used : (j : ℕ) → (j ≡ i) ⊎ (j ≢ i) → used_at (reheaded u i (used_at u i) marked) j ≡ used_at u j
     used j (inl e) = rw e (used-written u i (used_at u i) marked b.inside)

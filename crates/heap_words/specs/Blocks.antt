@@ -75,7 +75,7 @@ pub record IsWhole (words : List ℕ) (i : ℕ) : Type 0 where
   pub within : i + size_at words i ≤ length words
 
 -- the words are a heap: 64 to 4194304 of them, a multiple of 4, that are whole blocks up to their end
-pub record Formed (words : List ℕ) : Type 0 where
+pub record FormedHeap (words : List ℕ) : Type 0 where
   pub whole : (i : ℕ) → Begins words i → IsWhole words i
   pub rows : length words % 4 ≡ 0
   pub least : 64 ≤ length words

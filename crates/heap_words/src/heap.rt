@@ -1,7 +1,7 @@
 // The heap and its calls.
 ghost use Rattle.std.specs.Prelude.{◌≡◌, ◌<◌, ◌≤◌, ◌+◌, ◌-◌, ◌%◌, ℕ, length, IfOk, slice_index, slice_set, MatchOption, replicate, [], ◌∷◌};
 ghost use Rattle.heap_words.specs.Headers.{header_word, size_of, size_at, used_at, marked_at};
-ghost use Rattle.heap_words.specs.Blocks.{Begins, IsFree, Formed, IsObjectWord, Splits, SameBlocks, Replaces, Blocks, block_at, free_block};
+ghost use Rattle.heap_words.specs.Blocks.{Begins, IsFree, FormedHeap, IsObjectWord, Splits, SameBlocks, Replaces, Blocks, block_at, free_block};
 
 use crate::header::{header, marked_in, size_in, used_in};
 use no_memory::NoMemory;
@@ -17,13 +17,13 @@ pub struct Heap {
 
 impl Model for Heap {
     ghost use Rattle.std.specs.Prelude.{List, ℕ};
-    ghost use Rattle.heap_words.specs.Blocks.{Formed};
+    ghost use Rattle.heap_words.specs.Blocks.{FormedHeap};
 
     ghost Value = { List ℕ };
 
     ghost view = { λ h. h.words.items };
 
-    ghost invariant = { λ h. Formed h.words.items };
+    ghost invariant = { λ h. FormedHeap h.words.items };
 }
 
 impl Heap {
@@ -35,7 +35,7 @@ impl Heap {
         requires rows { words % 4 ≡ 0 }
         ensures words { IfOk result (λ h. h ≡ slice_set (replicate words 0) 0 words) }
         ensures blocks { IfOk result (λ h. Blocks h ≡ free_block 0 words ∷ []) }
-        ensures formed { IfOk result (λ h. Formed h) }
+        ensures formed { IfOk result (λ h. FormedHeap h) }
         ensures free { IfOk result (λ h. IsFree h 0) }
     {
         let mut all = vec![in alloc; 0u32; words as usize]?;
@@ -46,7 +46,7 @@ impl Heap {
     /// The number of words.
     pub fn size(&self) -> u32
         ensures size { result ≡ length self.now }
-        ensures formed { Formed self.now }
+        ensures formed { FormedHeap self.now }
     {
         self.words.len() as u32
     }
@@ -64,7 +64,7 @@ impl Heap {
         requires { Begins self.now i }
         ensures size { result ≡ size_at self.now i }
         ensures rows { result % 4 ≡ 0 }
-        ensures formed { Formed self.now }
+        ensures formed { FormedHeap self.now }
     {
         size_in(self.words[i as usize])
     }
@@ -90,7 +90,7 @@ impl Heap {
         requires { Begins self.now i }
         ensures next { MatchOption result (i + size_at self.now i ≡ length self.now)
             (λ j. (j ≡ i + size_at self.now i) × Begins self.now j) }
-        ensures formed { Formed self.now }
+        ensures formed { FormedHeap self.now }
     {
         let next = i + self.block_size(i);
         if next < self.size() { Some(next) } else { None }
@@ -103,7 +103,7 @@ impl Heap {
         ensures words { self.new ≡ slice_set self.old i w }
         ensures blocks { Blocks self.new ≡ Blocks self.old }
         ensures same { SameBlocks self.old self.new }
-        ensures formed { Formed self.new }
+        ensures formed { FormedHeap self.new }
     {
         self.put(i, w);
     }
@@ -115,7 +115,7 @@ impl Heap {
         ensures blocks { Replaces (Blocks self.old) (Blocks self.new) (block_at self.old i ∷ [])
             (record { place = i; size = size_at self.old i; used = used } ∷ []) }
         ensures same { SameBlocks self.old self.new }
-        ensures formed { Formed self.new }
+        ensures formed { FormedHeap self.new }
         ensures used { used_at self.new i ≡ used }
         ensures marked { marked_at self.new i ≡ marked_at self.old i }
     {
@@ -130,7 +130,7 @@ impl Heap {
         ensures words { self.new ≡ slice_set self.old i (header_word (size_at self.old i) (used_at self.old i) marked) }
         ensures blocks { Blocks self.new ≡ Blocks self.old }
         ensures same { SameBlocks self.old self.new }
-        ensures formed { Formed self.new }
+        ensures formed { FormedHeap self.new }
         ensures used { used_at self.new i ≡ used_at self.old i }
         ensures marked { marked_at self.new i ≡ marked }
     {
@@ -143,7 +143,7 @@ impl Heap {
     pub fn link(&self, i: u32) -> u32
         requires { Begins self.now i }
         ensures link { result ≡ slice_index self.now (i + 1) }
-        ensures formed { Formed self.now }
+        ensures formed { FormedHeap self.now }
     {
         // The heap's words are formed, which the place's proof needs.
         let _words = &self.words;
@@ -156,7 +156,7 @@ impl Heap {
         ensures words { self.new ≡ slice_set self.old (i + 1) w }
         ensures blocks { Blocks self.new ≡ Blocks self.old }
         ensures same { SameBlocks self.old self.new }
-        ensures formed { Formed self.new }
+        ensures formed { FormedHeap self.new }
     {
         // The heap's words are formed, which the place's proof needs.
         let _words = &self.words;
@@ -169,7 +169,7 @@ impl Heap {
         ensures words { self.new ≡ slice_set self.old (i + 2) w }
         ensures blocks { Blocks self.new ≡ Blocks self.old }
         ensures same { SameBlocks self.old self.new }
-        ensures formed { Formed self.new }
+        ensures formed { FormedHeap self.new }
     {
         // The heap's words are formed, which the place's proof needs.
         let _words = &self.words;
@@ -187,7 +187,7 @@ impl Heap {
         ensures blocks { Replaces (Blocks self.old) (Blocks self.new) (free_block i (size_at self.old i) ∷ [])
             (free_block i need ∷ free_block (i + need) (size_at self.old i - need) ∷ []) }
         ensures begins { Splits self.old self.new (i + need) }
-        ensures formed { Formed self.new }
+        ensures formed { FormedHeap self.new }
     {
         let size = self.block_size(i);
         self.words[(i + need) as usize] = size - need;
@@ -205,7 +205,7 @@ impl Heap {
             (free_block i (size_at self.old i) ∷ free_block next (size_at self.old next) ∷ [])
             (free_block i (size_at self.old i + size_at self.old next) ∷ []) }
         ensures begins { Splits self.new self.old (i + size_at self.old i) }
-        ensures formed { Formed self.new }
+        ensures formed { FormedHeap self.new }
     {
         let size = self.block_size(i);
         let more = self.block_size(i + size);
@@ -218,8 +218,8 @@ impl Heap {
         requires size { Begins self.old i → size_of w ≡ size_at self.old i }
         ensures words { self.new ≡ slice_set self.old i w }
         ensures same { SameBlocks self.old self.new }
-        ensures formed_before { Formed self.old }
-        ensures formed { Formed self.new }
+        ensures formed_before { FormedHeap self.old }
+        ensures formed { FormedHeap self.new }
     {
         self.words[i as usize] = w;
     }

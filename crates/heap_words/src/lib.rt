@@ -2,7 +2,7 @@
 // for used and bit 1 for marked; its second word is a link; in a free block the third word is the back link.
 //
 // `Heap` keeps its words a list of blocks up to their end exactly (`specs/Blocks.antt`: `Blocks`,
-// `Formed`), and contracts see a heap as its list of words. Each call says what becomes of the list of blocks
+// `FormedHeap`), and contracts see a heap as its list of words. Each call says what becomes of the list of blocks
 // and of every other word. `laws` ties that list to the places at which blocks begin.
 #![tactic(auto)]
 

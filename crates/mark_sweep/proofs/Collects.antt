@@ -1,13 +1,15 @@
 use Rattle.std.proofs.Common.{◌≡◌, ℕ, ◌+◌, ◌<◌, ◌≤◌, ◌↔◌, inl, inr, List, length, get_or, arith, sym, ◌∙◌, ap, subst}
 use Rattle.heap_words.specs.Headers.{size_of, used_of, size_at}
-use Rattle.heap_words.specs.Blocks.{Begins, IsFree, IsUsed, Formed}
+use Rattle.heap_words.specs.Blocks.{Begins, IsFree, IsUsed, FormedHeap}
+use Rattle.heap_words.specs.Laws.{BlockLaws}
 use Rattle.mark_sweep.specs.Reached.{IsGood, Reached, AllGood}
 use Rattle.mark_sweep.specs.Objects.{IsReference}
 use Rattle.mark_sweep.specs.Reached.Reached.{listed, named}
 use Rattle.mark_sweep.specs.Marking.{MarksReached}
+use Rattle.mark_sweep.specs.Collections.{Collects}
 use Rattle.mark_sweep.specs.Swept.{Kept, KeepsUsed, Swept, NoNeighbours}
 use Rattle.free_index.specs.Free.{OnlyLinks}
-use Rattle.free_index.proofs.LinkChanges.{used-only, free-only-back, only-headers, only-words}
+use Rattle.free_index.specs.Laws.{LinkLaws}
 use Rattle.object_layout.specs.Classes.{ShapesView}
 use Rattle.mark_sweep.proofs.Keeping.{kept-sym, kept-trans, word_kept, used-kept, reached-used, reference-kept, object-kept}
 
@@ -19,13 +21,13 @@ reached-kept shapes u v list i a (named j k _ r q e h) =
     named j k i (reached-kept shapes u v list j a r) (reference-kept shapes u v j k a b q) (word_kept u v j k a b q.within ∙ e) (used-kept u v i a h)
 
 -- good words stay good
-good-kept : (shapes : ShapesView) (u v : List ℕ) (w : ℕ) → Formed u → Kept u v → IsGood shapes u w → IsGood shapes v w
-good-kept shapes u v w f a (inl l) = inl l
-good-kept shapes u v w f a (inr (i, e, o)) = inr (i, e, object-kept shapes u v i f a o)
+good-kept : BlockLaws → (shapes : ShapesView) (u v : List ℕ) (w : ℕ) → FormedHeap u → Kept u v → IsGood shapes u w → IsGood shapes v w
+good-kept laws shapes u v w f a (inl l) = inl l
+good-kept laws shapes u v w f a (inr (i, e, o)) = inr (i, e, object-kept laws shapes u v i f a o)
 
 -- all that is good stays good
-pub all-good-kept : (shapes : ShapesView) (u v list : List ℕ) → Formed u → Kept u v → AllGood shapes u list → AllGood shapes v list
-all-good-kept shapes u v list f a g = record { roots = λ w m. good-kept shapes u v w f a (g.roots w m); fields = fields }
+pub all-good-kept : BlockLaws → (shapes : ShapesView) (u v list : List ℕ) → FormedHeap u → Kept u v → AllGood shapes u list → AllGood shapes v list
+all-good-kept laws shapes u v list f a g = record { roots = λ w m. good-kept laws shapes u v w f a (g.roots w m); fields = fields }
   where
     back : Kept v u
     back = kept-sym u v a
@@ -33,22 +35,16 @@ all-good-kept shapes u v list f a g = record { roots = λ w m. good-kept shapes 
     fields : (j k : ℕ) → Reached shapes v list j → IsReference shapes v j k → IsGood shapes v (get_or v (j + 2 + k) 0)
     fields j k r q =
         let b = (reached-used shapes v list j r).begins in
-        rw (sym (word_kept v u j k back b q.within)) (good-kept shapes u v _ f a (g.fields j k (reached-kept shapes v u list j back r) (reference-kept shapes v u j k back b q)))
-
--- what a whole collection leaves
-pub record Collects (shapes : ShapesView) (u list v : List ℕ) : Type 0 where
-  pub used : (i : ℕ) → IsUsed v i ↔ Reached shapes u list i
-  pub sizes : (i : ℕ) → IsUsed v i → size_at v i ≡ size_at u i
-  pub words : (i k : ℕ) → IsUsed v i → i + 2 ≤ k → k < i + size_at u i → get_or v k 0 ≡ get_or u k 0
-  pub size : length v ≡ length u
+        rw (sym (word_kept v u j k back b q.within)) (good-kept laws shapes u v _ f a (g.fields j k (reached-kept shapes v u list j back r) (reference-kept shapes v u j k back b q)))
 
 -- a collection by its four passes
-pub collects : (shapes : ShapesView) (list a b c d e : List ℕ) → Kept a b → MarksReached shapes b list c → Swept c d → Formed d → KeepsUsed d e → Collects shapes a list e
-collects shapes list a b c d e k m s f n = record {
+pub collects : (shapes : ShapesView) (list a b c d e : List ℕ) → Kept a b → MarksReached shapes b list c → Swept c d → FormedHeap d → KeepsUsed d e → NoNeighbours e → Collects shapes a list e
+collects shapes list a b c d e k m s f n p = record {
   used = λ i. (λ h. sound i h, λ r. all i r);
   sizes = λ i h. sizes i h;
   words = words;
   size = n.size ∙ (s.blocks.size ∙ (m.kept.blocks.size ∙ k.blocks.size));
+  apart = p;
 }
   where
     ac : Kept a c
@@ -86,14 +82,14 @@ collects shapes list a b c d e k m s f n = record {
         n.words i (n.back i h) k (omega arith) (rw (middle i h) g) ∙ (s.words i k x l (rw (front i h) g) ∙ ac.words i k (ac.blocks.back i x) l g)
 
 -- links and back links of free blocks tell nothing of the blocks
-pub keeps-only : (u v : List ℕ) → Formed u → OnlyLinks u v → KeepsUsed u v
-keeps-only u v f o = record { size = o.blocks.size; forth = λ i h. used-only u v i o h; back = λ i h. back i h; words = λ i h k l g. only-words u v i k f o h l g }
+pub keeps-only : LinkLaws → (u v : List ℕ) → FormedHeap u → OnlyLinks u v → KeepsUsed u v
+keeps-only links u v f o = record { size = o.blocks.size; forth = λ i h. links.used u v i o h; back = λ i h. back i h; words = λ i h k l g. links.words u v i k f o h l g }
   where
     back : (i : ℕ) → IsUsed v i → IsUsed u i
-    back i h = let b = o.blocks.back i h.begins in record { begins = b; used = sym (ap used_of (only-headers u v i o b)) ∙ h.used }
+    back i h = let b = o.blocks.back i h.begins in record { begins = b; used = sym (ap used_of (links.header u v i o b)) ∙ h.used }
 
 -- a change of links brings no free neighbours
-pub apart-only : (u v : List ℕ) → OnlyLinks u v → NoNeighbours u → NoNeighbours v
-apart-only u v o n i f g =
-    let b = free-only-back u v i o f in
-    n i b (subst (λ s. IsFree u (i + s)) (o.blocks.sizes i b.begins) (free-only-back u v _ o g))
+pub apart-only : LinkLaws → (u v : List ℕ) → OnlyLinks u v → NoNeighbours u → NoNeighbours v
+apart-only links u v o n i f g =
+    let b = links.free u v i o f in
+    n i b (subst (λ s. IsFree u (i + s)) (o.blocks.sizes i b.begins) (links.free u v _ o g))

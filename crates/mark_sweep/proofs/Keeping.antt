@@ -1,10 +1,9 @@
 use Rattle.std.proofs.Common.{◌≡◌, ◌≢◌, ℕ, ◌+◌, ◌<◌, ◌≤◌, ◌⊎◌, inl, inr, true, false, List, length, get_or, get_or-set_other, get_or-set_same, arith, refl, sym, ◌∙◌, ap}
 use Rattle.std.proofs.Math.ListN.{set}
+use Rattle.std.proofs.lemmas.Bool.{cases_eq, cases_order}
 use Rattle.heap_words.specs.Headers.{used_of, marked_of, size_at, used_at, marked_at}
-use Rattle.heap_words.specs.Blocks.{Begins, Formed, SameBlocks, IsUsed}
-use Rattle.heap_words.proofs.Places.{apart}
-use Rattle.heap_words.proofs.Writes.{off_row, same_place, room}
-use Rattle.free_index.proofs.TakenBlocks.{inside_other}
+use Rattle.heap_words.specs.Blocks.{Begins, FormedHeap, SameBlocks, IsUsed}
+use Rattle.heap_words.specs.Laws.{BlockLaws}
 use Rattle.mark_sweep.specs.Objects.{IsObject, IsReference}
 use Rattle.mark_sweep.specs.Reached.{Reached}
 use Rattle.mark_sweep.specs.Reached.Reached.{listed, named}
@@ -46,8 +45,8 @@ kept-sym u v a = record {
 }
 
 -- the header at i changes, but for its size and the bit for used
-pub kept-header : (u v : List ℕ) (i x : ℕ) → v ≡ set u i x → SameBlocks u v → Begins u i → used_at v i ≡ used_at u i → Kept u v
-kept-header u v i x e s b h = record { blocks = s; used = λ j d. used j (same_place j i); words = λ j k d l g. word j k d l g (same_place j i) }
+pub kept-header : BlockLaws → (u v : List ℕ) (i x : ℕ) → v ≡ set u i x → SameBlocks u v → Begins u i → used_at v i ≡ used_at u i → Kept u v
+kept-header laws u v i x e s b h = record { blocks = s; used = λ j d. used j (cases_eq j i); words = λ j k d l g. word j k d l g (cases_eq j i) }
   where
     used : (j : ℕ) → (j ≡ i) ⊎ (j ≢ i) → used_at v j ≡ used_at u j
     used j (inl q) = rw q h
@@ -58,42 +57,47 @@ kept-header u v i x e s b h = record { blocks = s; used = λ j d. used j (same_p
 
     word : (j k : ℕ) → Begins u j → j + 2 ≤ k → k < j + size_at u j → (j ≡ i) ⊎ (j ≢ i) → get_or v k 0 ≡ get_or u k 0
     word j k d l g (inl q) = other k (λ m. omega arith)
-    word j k d l g (inr n) = other k (inside_other u i j k b d n (omega arith) g)
+    word j k d l g (inr n) = other k (laws.places.separate u i j k b d n (omega arith) g)
+
+-- no block begins at another's link
+off_row : BlockLaws → (u : List ℕ) (i j : ℕ) → Begins u i → Begins u j → j ≢ i + 1
+off_row laws u i j b d e = let p = laws.places.row u i b in let q = laws.places.row u j d in omega arith
+
+-- the first four words of a block are within the heap
+pub word_inside : BlockLaws → (u : List ℕ) (i d : ℕ) → FormedHeap u → Begins u i → d < 4 → i + d < length u
+word_inside laws u i d f b h = let r = laws.places.room u i f b in let a = r.four in let c = r.within in omega arith
 
 -- the link of a block is not in another block
-pub link_apart : (u : List ℕ) (i j k : ℕ) → Formed u → Begins u i → Begins u j → j ≢ i → j ≤ k → k < j + size_at u j → k ≢ i + 1
-link_apart u i j k f b d n l h e = choose (order i j)
+pub link_apart : BlockLaws → (u : List ℕ) (i j k : ℕ) → FormedHeap u → Begins u i → Begins u j → j ≢ i → j ≤ k → k < j + size_at u j → k ≢ i + 1
+link_apart laws u i j k f b d n l h e = choose (cases_order i j)
   where
-    order : (m n : ℕ) → (m < n) ⊎ ((m ≡ n) ⊎ (n < m))
-    order m n = grind arith
-
-    choose : (i < j) ⊎ ((i ≡ j) ⊎ (j < i)) → ⊥
-    choose (inl g) = let a = apart u i j b d g in let p = (f.whole i b).positive in off_row u i j b d (omega arith)
-    choose (inr (inl g)) = n (sym g)
-    choose (inr (inr g)) = let a = apart u j i d b g in omega arith
+    choose : (i ≡ j) ⊎ ((i < j) ⊎ (j < i)) → ⊥
+    choose (inl g) = n (sym g)
+    choose (inr (inl g)) = let a = laws.places.apart u i j b d g in let p = (f.whole i b).positive in off_row laws u i j b d (omega arith)
+    choose (inr (inr g)) = let a = laws.places.apart u j i d b g in omega arith
 
 -- a link that is written keeps the words of objects
-pub kept-link : (u v : List ℕ) (i x : ℕ) → v ≡ set u (i + 1) x → SameBlocks u v → Formed u → Begins u i → Kept u v
-kept-link u v i x e s f b = record { blocks = s; used = λ j d. ap used_of (other j (off_row u i j b d)); words = λ j k d l g. word j k d l g (same_place j i) }
+pub kept-link : BlockLaws → (u v : List ℕ) (i x : ℕ) → v ≡ set u (i + 1) x → SameBlocks u v → FormedHeap u → Begins u i → Kept u v
+kept-link laws u v i x e s f b = record { blocks = s; used = λ j d. ap used_of (other j (off_row laws u i j b d)); words = λ j k d l g. word j k d l g (cases_eq j i) }
   where
     other : (k : ℕ) → k ≢ i + 1 → get_or v k 0 ≡ get_or u k 0
     other k n = rw e (get_or-set_other u (i + 1) k x 0 n)
 
     word : (j k : ℕ) → Begins u j → j + 2 ≤ k → k < j + size_at u j → (j ≡ i) ⊎ (j ≢ i) → get_or v k 0 ≡ get_or u k 0
     word j k d l g (inl q) = other k (λ m. omega arith)
-    word j k d l g (inr n) = other k (link_apart u i j k f b d n (omega arith) g)
+    word j k d l g (inr n) = other k (link_apart laws u i j k f b d n (omega arith) g)
 
 -- a mark and a link: v is u marked at i, w is v linked at i
-pub pushed : (u v w : List ℕ) (i x first : ℕ) → Formed u → Begins u i → marked_at u i ≡ false → v ≡ set u i x → SameBlocks u v
-    → used_at v i ≡ used_at u i → marked_at v i ≡ true → w ≡ set v (i + 1) first → SameBlocks v w → Formed v → Pushed u w i first
-pushed u v w i x first f b m e s h t d r g = record {
+pub pushed : BlockLaws → (u v w : List ℕ) (i x first : ℕ) → FormedHeap u → Begins u i → marked_at u i ≡ false → v ≡ set u i x → SameBlocks u v
+    → used_at v i ≡ used_at u i → marked_at v i ≡ true → w ≡ set v (i + 1) first → SameBlocks v w → FormedHeap v → Pushed u w i first
+pushed laws u v w i x first f b m e s h t d r g = record {
   begins = b;
   white = m;
-  kept = kept-trans u v w (kept-header u v i x e s b h) (kept-link v w i first d r g (s.forth i b));
-  black = ap marked_of (after i (off_row u i i b b)) ∙ t;
-  others = λ j k n. ap marked_of (after j (off_row u i j b k) ∙ before j n);
+  kept = kept-trans u v w (kept-header laws u v i x e s b h) (kept-link laws v w i first d r g (s.forth i b));
+  black = ap marked_of (after i (off_row laws u i i b b)) ∙ t;
+  others = λ j k n. ap marked_of (after j (off_row laws u i j b k) ∙ before j n);
   link = rw d (get_or-set_same v (i + 1) first 0 (rw s.size inside));
-  links = λ j k n. after (j + 1) (λ q. n (omega arith)) ∙ before (j + 1) (λ q. off_row u j i k b (sym q));
+  links = λ j k n. after (j + 1) (λ q. n (omega arith)) ∙ before (j + 1) (λ q. off_row laws u j i k b (sym q));
 }
   where
     after : (k : ℕ) → k ≢ i + 1 → get_or w k 0 ≡ get_or v k 0
@@ -103,7 +107,7 @@ pushed u v w i x first f b m e s h t d r g = record {
     before k n = rw e (get_or-set_other u i k x 0 n)
 
     inside : i + 1 < length u
-    inside = let q = room u i f b in let a = q.four in let c = q.within in omega arith
+    inside = let q = laws.places.room u i f b in let a = q.four in let c = q.within in omega arith
 
 -- used blocks stay used
 pub used-kept : (u v : List ℕ) (i : ℕ) → Kept u v → IsUsed u i → IsUsed v i
@@ -120,7 +124,7 @@ reached-used shapes u list i (named j k _ r g m h) = h
 
 -- the same words of an object are references
 pub reference-kept : (shapes : ShapesView) (u v : List ℕ) (j k : ℕ) → Kept u v → Begins u j → IsReference shapes u j k → IsReference shapes v j k
-reference-kept shapes u v j k a b r = record { behind = r.behind; within = rw (a.blocks.sizes j b) r.within; refers = rw (table, second) r.refers }
+reference-kept shapes u v j k a b r = record { behind = r.behind; within = rw (a.blocks.sizes j b) r.within; holds_reference = rw (table, second) r.holds_reference }
   where
     four : 3 < size_at u j
     four = let w = r.within in let h = r.behind in omega arith
@@ -132,12 +136,12 @@ reference-kept shapes u v j k a b r = record { behind = r.behind; within = rw (a
     second = a.words j (j + 3) b (omega arith) (omega (arith, four))
 
 -- an object stays
-pub object-kept : (shapes : ShapesView) (u v : List ℕ) (i : ℕ) → Formed u → Kept u v → IsObject shapes u i → IsObject shapes v i
-object-kept shapes u v i f a o =
+pub object-kept : BlockLaws → (shapes : ShapesView) (u v : List ℕ) (i : ℕ) → FormedHeap u → Kept u v → IsObject shapes u i → IsObject shapes v i
+object-kept laws shapes u v i f a o =
     record { used = used-kept u v i a o.used; there = rw table o.there; named = rw table o.named; exact = rw (a.blocks.sizes i o.used.begins, table, second) o.exact }
   where
     four : 4 ≤ size_at u i
-    four = (room u i f o.used.begins).four
+    four = (laws.places.room u i f o.used.begins).four
 
     table : get_or v (i + 2) 0 ≡ get_or u (i + 2) 0
     table = a.words i (i + 2) o.used.begins (omega arith) (omega (arith, four))

@@ -5,5 +5,6 @@ pub mod Scanning
 pub mod Sweeps
 pub mod Collects
 pub mod Totals
-pub mod GoodWords
 pub mod ObjectWords
+pub mod Gaps
+pub mod Addresses

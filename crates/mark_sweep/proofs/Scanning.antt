@@ -1,8 +1,8 @@
 use Rattle.std.proofs.Common.{◌≡◌, ℕ, ◌+◌, ◌-◌, ◌<◌, ◌≤◌, inl, inr, true, false, List, get_or, arith, sym, ◌∙◌, subst}
 use Rattle.heap_words.specs.Headers.{size_at}
-use Rattle.heap_words.specs.Blocks.{Begins, Formed}
+use Rattle.heap_words.specs.Blocks.{Begins, FormedHeap}
 use Rattle.object_layout.specs.Classes.{ShapesView}
-use Rattle.mark_sweep.specs.Objects.{address, shape_named, refers, IsReference}
+use Rattle.mark_sweep.specs.Objects.{address, shape_named, holds_reference, IsReference}
 use Rattle.mark_sweep.specs.Reached.{Reached, AllGood}
 use Rattle.mark_sweep.specs.Reached.Reached.{named}
 use Rattle.mark_sweep.specs.Swept.{Kept}
@@ -16,18 +16,18 @@ placed-kept u v w k (inl l) = inl l
 placed-kept u v w k (inr (i, e, b)) = inr (i, e, k.blocks.forth i b)
 
 -- a scan begins behind the word that names the shape
-pub scanning-first : (shapes : ShapesView) (v : List ℕ) (at next : ℕ) → Formed v → Scanning shapes v at next 1 v next
+pub scanning-first : (shapes : ShapesView) (v : List ℕ) (at next : ℕ) → FormedHeap v → Scanning shapes v at next 1 v next
 scanning-first shapes v at next f = record { kept = kept-refl v; formed = f; scanned = λ u list a g r s. (s, omega arith) }
 
 -- what the code's test says
 pub reference-here : (shapes : ShapesView) (u : List ℕ) (at k table second : ℕ) → table ≡ get_or u (at + 2) 0 → second ≡ get_or u (at + 3) 0 → 1 ≤ k
-    → k + 2 < size_at u at → refers shapes (shape_named table) second k ≡ true → IsReference shapes u at k
-reference-here shapes u at k table second e f l m h = record { behind = l; within = m; refers = rw (← e, ← f) h }
+    → k + 2 < size_at u at → holds_reference shapes (shape_named table) second k ≡ true → IsReference shapes u at k
+reference-here shapes u at k table second e f l m h = record { behind = l; within = m; holds_reference = rw (← e, ← f) h }
 
 -- and where it fails the word is no reference
 pub no-reference-here : (shapes : ShapesView) (u : List ℕ) (at k table second : ℕ) → table ≡ get_or u (at + 2) 0 → second ≡ get_or u (at + 3) 0
-    → refers shapes (shape_named table) second k ≡ false → IsReference shapes u at k → ⊥
-no-reference-here shapes u at k table second e f h r = let t : refers shapes (shape_named table) second k ≡ true = rw (e, f) r.refers in cc
+    → holds_reference shapes (shape_named table) second k ≡ false → IsReference shapes u at k → ⊥
+no-reference-here shapes u at k table second e f h r = let t : holds_reference shapes (shape_named table) second k ≡ true = rw (e, f) r.holds_reference in cc
 
 -- the reference word that the scan stands at
 pub scanning-placed : (shapes : ShapesView) (u v : List ℕ) (at next k first w : ℕ) → Scanning shapes u at next k v first → Begins u at
@@ -36,7 +36,7 @@ scanning-placed shapes u v at next k first w c b r p e = rw (e, word_kept u v at
 
 -- it is marked
 pub scanning-step : (shapes : ShapesView) (o v v' : List ℕ) (at next k first first' w : ℕ) → Scanning shapes o at next k v first → Begins o at
-    → IsReference shapes o at k → w ≡ get_or v (at + 2 + k) 0 → Marks v v' w first first' → Formed v' → Scanning shapes o at next (k + 1) v' first'
+    → IsReference shapes o at k → w ≡ get_or v (at + 2 + k) 0 → Marks v v' w first first' → FormedHeap v' → Scanning shapes o at next (k + 1) v' first'
 scanning-step shapes o v v' at next k first first' w c b r e m f =
     record { kept = kept-trans o v v' c.kept (marks-kept v v' w first first' m); formed = f; scanned = λ u list a g h s. step u list a h (c.scanned u list a g h s) s.state.kept }
   where
@@ -76,7 +76,7 @@ scanning-skip shapes o v at next k first c b n = record { kept = c.kept; formed 
 -- the scan is over
 pub scanning-last : (shapes : ShapesView) (o v : List ℕ) (at next k first end : ℕ) → Scanning shapes o at next k v first → Begins o at → size_at o at ≤ end + 2 → end ≤ k
     →
-    (u list : List ℕ) → AllGood shapes u list → Formed u → Reached shapes u list at → Scanned shapes u list at 1 o next → Waits shapes u list v first ×
+    (u list : List ℕ) → AllGood shapes u list → FormedHeap u → Reached shapes u list at → Scanned shapes u list at 1 o next → Waits shapes u list v first ×
     (left v first ≤ left o next)
 scanning-last shapes o v at next k first end c b e h u list a g r s = over (c.scanned u list a g r s)
   where

@@ -1,13 +1,14 @@
 use Rattle.std.proofs.Common.{◌≡◌, ◌≢◌, ℕ, ◌+◌, ◌-◌, ◌/◌, ◌<◌, ◌≤◌, ◌⊎◌, inl, inr, true, false, List, [], ◌∷◌, length, get_or, zero, suc, arith, refl, sym, ◌∙◌, ap, subst}
+use Rattle.std.proofs.lemmas.Bool.{cases_eq}
 use Rattle.heap_words.specs.Headers.{size_at, marked_at}
-use Rattle.heap_words.specs.Blocks.{Begins, Formed, IsUsed}
-use Rattle.heap_words.proofs.Writes.{same_place}
+use Rattle.heap_words.specs.Blocks.{Begins, FormedHeap, IsUsed}
 use Rattle.mark_sweep.specs.Reached.{IsGood, Reached, AllGood}
 use Rattle.free_index.specs.Lists.{In}
 use Rattle.mark_sweep.specs.Objects.{address, IsReference}
 use Rattle.mark_sweep.specs.Reached.Reached.{listed, named}
 use Rattle.mark_sweep.specs.Swept.{Kept}
-use Rattle.mark_sweep.specs.Marking.{Pushed, Marks, IsBlack, IsPlaced, IsMarked, Linked, State, MarksReached, Rooted, Scanned, Listing, whites, links_from, left}
+use Rattle.mark_sweep.specs.Marking.{Pushed, Marks, IsBlack, IsPlaced, IsMarked, Linked, MarkedSoFar, MarksReached, Rooted, Scanned, Listing, whites, left}
+use Rattle.free_index.specs.Steps.{links_from}
 use Rattle.object_layout.specs.Classes.{ShapesView}
 use Rattle.mark_sweep.proofs.Keeping.{kept-refl, kept-trans, reached-used}
 use Rattle.mark_sweep.proofs.Counting.{whites-push, whites-most}
@@ -41,7 +42,7 @@ linked-same u v (i ∷ list) first h l = (l.0, rw (h i (inl refl)) (linked-same 
 
 -- a marked block stays marked when another is pushed
 pub black-push : (u v : List ℕ) (i j first : ℕ) → Pushed u v i first → IsBlack u j → IsBlack v j
-black-push u v i j first p b = choose (same_place j i)
+black-push u v i j first p b = choose (cases_eq j i)
   where
     choose : (j ≡ i) ⊎ (j ≢ i) → IsBlack v j
     choose (inl e) = record { begins = p.kept.blocks.forth j b.begins; marked = rw e p.black }
@@ -61,15 +62,15 @@ pushed-links : (v w list : List ℕ) (first i : ℕ) → Pushed v w i first → 
 pushed-links v w list first i p g l = (refl, rw p.link (linked-same v w list first (λ j m. let b = g j m in p.links j b.begins (black_not v i j p.white b)) l))
 
 -- what is known of marking after a block was pushed
-pub state-push : (shapes : ShapesView) (u list : List ℕ) (at n : ℕ) (v w : List ℕ) (first i : ℕ) → Formed v → State shapes u list at n v first
-    → Pushed v w i first → Reached shapes u list i → State shapes u list at n w (i + 1)
+pub state-push : (shapes : ShapesView) (u list : List ℕ) (at n : ℕ) (v w : List ℕ) (first i : ℕ) → FormedHeap v → MarkedSoFar shapes u list at n v first
+    → Pushed v w i first → Reached shapes u list i → MarkedSoFar shapes u list at n w (i + 1)
 state-push shapes u list at n v w first i f s p r = record {
   waiting = i ∷ s.waiting;
   linked = pushed-links v w s.waiting first i p (λ j m. s.grey j m) s.linked;
   grey = λ j m. grey j m;
   kept = kept-trans u v w s.kept p.kept;
-  sound = λ j b m. sound j b m (same_place j i);
-  closed = λ j b m. closed j b m (same_place j i);
+  sound = λ j b m. sound j b m (cases_eq j i);
+  closed = λ j b m. closed j b m (cases_eq j i);
   total = let l = whites-push v w i first f p in let t = s.total in omega arith;
 }
   where
@@ -113,7 +114,7 @@ left-linked : (u v list : List ℕ) (first : ℕ) → Linked v first list → wh
 left-linked u v list first l h n = ap (λ k. whites v + k) (links-linked v list (length v) first l (omega arith))
 
 -- a pushed block takes one that had no mark
-left-push : (shapes : ShapesView) (u list : List ℕ) (at n : ℕ) (v w : List ℕ) (first i : ℕ) → Formed v → State shapes u list at n v first
+left-push : (shapes : ShapesView) (u list : List ℕ) (at n : ℕ) (v w : List ℕ) (first i : ℕ) → FormedHeap v → MarkedSoFar shapes u list at n v first
     → Pushed v w i first → left w (i + 1) ≤ left v first
 left-push shapes u list at n v w first i f s p =
     let l = whites-push v w i first f p in
@@ -126,13 +127,13 @@ left-push shapes u list at n v w first i f s p =
 
 -- what a marked word leaves
 pub record Steps (shapes : ShapesView) (u list : List ℕ) (at n : ℕ) (v v' : List ℕ) (w first first' : ℕ) : Type 0 where
-  pub state : State shapes u list at n v' first'
+  pub state : MarkedSoFar shapes u list at n v' first'
   pub marked : IsMarked v' w
   pub grows : (x : ℕ) → IsMarked v x → IsMarked v' x
   pub less : left v' first' ≤ left v first
 
 -- what is known of marking after a word was marked
-pub state-step : (shapes : ShapesView) (u list : List ℕ) (at n : ℕ) (v v' : List ℕ) (w first first' : ℕ) → Formed v → State shapes u list at n v first
+pub state-step : (shapes : ShapesView) (u list : List ℕ) (at n : ℕ) (v v' : List ℕ) (w first first' : ℕ) → FormedHeap v → MarkedSoFar shapes u list at n v first
     → ((i : ℕ) → w ≡ address i → Reached shapes u list i) → Marks v v' w first first'
     → Steps shapes u list at n v v' w first first'
 state-step shapes u list at n v v' w first first' f s r (inl k) = rw (k.same, k.front) (record { state = s; marked = k.marked; grows = λ x m. m; less = omega arith })
@@ -144,7 +145,7 @@ state-step shapes u list at n v v' w first first' f s r (inr (i, p)) = rw p.fron
 })
 
 -- nothing is marked
-pub state-first : (shapes : ShapesView) (u list : List ℕ) → ((i : ℕ) → Begins u i → marked_at u i ≡ false) → State shapes u list (length u) 0 u 0
+pub state-first : (shapes : ShapesView) (u list : List ℕ) → ((i : ℕ) → Begins u i → marked_at u i ≡ false) → MarkedSoFar shapes u list (length u) 0 u 0
 state-first shapes u list h = record {
   waiting = [];
   linked = refl;
@@ -156,8 +157,8 @@ state-first shapes u list h = record {
 }
 
 -- one more word of the block that is scanned
-pub state-next : (shapes : ShapesView) (u list : List ℕ) (at n : ℕ) (v : List ℕ) (first : ℕ) → State shapes u list at n v first
-    → (IsReference shapes u at n → IsMarked v (get_or u (at + 2 + n) 0)) → State shapes u list at (n + 1) v first
+pub state-next : (shapes : ShapesView) (u list : List ℕ) (at n : ℕ) (v : List ℕ) (first : ℕ) → MarkedSoFar shapes u list at n v first
+    → (IsReference shapes u at n → IsMarked v (get_or u (at + 2 + n) 0)) → MarkedSoFar shapes u list at (n + 1) v first
 state-next shapes u list at n v first s h = record {
   waiting = s.waiting;
   linked = s.linked;
@@ -177,11 +178,11 @@ state-next shapes u list at n v first s h = record {
     closed : (j : ℕ) → In j s.waiting ⊎ ((k : ℕ) → IsReference shapes u j k → (j ≡ at → k < n) → IsMarked v (get_or u (j + 2 + k) 0))
         → In j s.waiting ⊎ ((k : ℕ) → IsReference shapes u j k → (j ≡ at → k < n + 1) → IsMarked v (get_or u (j + 2 + k) 0))
     closed j (inl m) = inl m
-    closed j (inr g) = inr (λ k q l. last j k q (g k q) (same_place j at) l (same_place k n))
+    closed j (inr g) = inr (λ k q l. last j k q (g k q) (cases_eq j at) l (cases_eq k n))
 
 -- the scanned block is done
-pub state-done : (shapes : ShapesView) (u list : List ℕ) (at n : ℕ) (v : List ℕ) (first : ℕ) → State shapes u list at n v first → size_at u at ≤ n + 2
-    → State shapes u list (length u) 0 v first
+pub state-done : (shapes : ShapesView) (u list : List ℕ) (at n : ℕ) (v : List ℕ) (first : ℕ) → MarkedSoFar shapes u list at n v first → size_at u at ≤ n + 2
+    → MarkedSoFar shapes u list (length u) 0 v first
 state-done shapes u list at n v first s l = record {
   waiting = s.waiting;
   linked = s.linked;
@@ -204,18 +205,18 @@ state-done shapes u list at n v first s l = record {
 pub record Popped (shapes : ShapesView) (u list : List ℕ) (v : List ℕ) (first : ℕ) : Type 0 where
   pub black : IsBlack v (first - 1)
   pub reached : Reached shapes u list (first - 1)
-  pub state : State shapes u list (first - 1) 1 v (get_or v (first - 1 + 1) 0)
+  pub state : MarkedSoFar shapes u list (first - 1) 1 v (get_or v (first - 1 + 1) 0)
   pub less : left v (get_or v (first - 1 + 1) 0) < left v first
 
 -- what is known once the first waiting block is taken out
-pub popped : (shapes : ShapesView) (u list : List ℕ) (v : List ℕ) (first : ℕ) → State shapes u list (length u) 0 v first → 0 < first → Popped shapes u list v first
+pub popped : (shapes : ShapesView) (u list : List ℕ) (v : List ℕ) (first : ℕ) → MarkedSoFar shapes u list (length u) 0 v first → 0 < first → Popped shapes u list v first
 popped shapes u list v first s h = go s.waiting refl s.linked s.total
   where
     Closed : ℕ → Type 0
     Closed j = (k : ℕ) → IsReference shapes u j k → (j ≡ length u → k < 0) → IsMarked v (get_or u (j + 2 + k) 0)
 
     made : (g : ℕ) (rest : List ℕ) → s.waiting ≡ g ∷ rest → Linked v (get_or v (g + 1) 0) rest → whites v + suc (length rest) ≤ length u
-        → State shapes u list g 1 v (get_or v (g + 1) 0)
+        → MarkedSoFar shapes u list g 1 v (get_or v (g + 1) 0)
     made g rest e l t = record {
       waiting = rest;
       linked = l;
@@ -256,7 +257,7 @@ is-marked-at v i (inl l) = absurd (address-high i l)
 is-marked-at v i (inr (j, e, b)) = rw (address-one i j e) b.marked
 
 -- marking is over
-pub marks-all : (shapes : ShapesView) (u list : List ℕ) (v : List ℕ) (first : ℕ) → State shapes u list (length u) 0 v first → first ≡ 0
+pub marks-all : (shapes : ShapesView) (u list : List ℕ) (v : List ℕ) (first : ℕ) → MarkedSoFar shapes u list (length u) 0 v first → first ≡ 0
     → ((w : ℕ) → In w list → IsMarked v w) → MarksReached shapes u list v
 marks-all shapes u list v first s z h = record { kept = s.kept; sound = λ i b m. s.sound i (s.kept.blocks.forth i b) m; all = all }
   where
@@ -310,7 +311,7 @@ rooted-first shapes u list h = record { state = state-first shapes u list h; lis
 
 -- one listed word more
 pub rooted-step : (shapes : ShapesView) (u list rest rest' v v' : List ℕ) (first w first' : ℕ) → AllGood shapes u list
-    → Rooted shapes u list rest v first → rest ≡ w ∷ rest' → Formed v → Marks v v' w first first' → Rooted shapes u list rest' v' first'
+    → Rooted shapes u list rest v first → rest ≡ w ∷ rest' → FormedHeap v → Marks v v' w first first' → Rooted shapes u list rest' v' first'
 rooted-step shapes u list rest rest' v v' first w first' a r e f m = record { state = s.state; listed = λ x i. listed x (r.listed x i); part = λ x i. r.part x (rw e (inr i)) }
   where
     member : In w list
@@ -345,7 +346,7 @@ marks-kept u v w first first' (inl k) = rw k.same (kept-refl u)
 marks-kept u v w first first' (inr (i, p)) = p.pushed.kept
 
 -- the words of a list, one after another
-pub listing-first : (u list : List ℕ) → Formed u → ((i : ℕ) → Begins u i → marked_at u i ≡ false) → Listing u list list u 0
+pub listing-first : (u list : List ℕ) → FormedHeap u → ((i : ℕ) → Begins u i → marked_at u i ≡ false) → Listing u list list u 0
 listing-first u list f h = record { kept = kept-refl u; formed = f; part = λ w m. m; rooted = λ shapes a. rooted-first shapes u list h }
 
 -- the next listed word is placed
@@ -358,7 +359,7 @@ listing-placed u list rest rest' v first w l p e = keep (p w (l.part w (rw e (in
 
 -- one listed word more
 pub listing-step : (u list rest rest' v v' : List ℕ) (first first' w : ℕ) → Listing u list rest v first → rest ≡ w ∷ rest' → Marks v v' w first first'
-    → Formed v' → Listing u list rest' v' first'
+    → FormedHeap v' → Listing u list rest' v' first'
 listing-step u list rest rest' v v' first first' w l e m f = record {
   kept = kept-trans u v v' l.kept (marks-kept v v' w first first' m);
   formed = f;

@@ -1,8 +1,9 @@
 use Rattle.std.specs.Prelude.{◌≡◌, ◌≢◌, ℕ, ◌+◌, ◌<◌, ◌≤◌, ◌⊎◌, ◌&&◌, not, Bool, true, false, List, [], ◌∷◌, length, slice_index, nat_lt, zero, suc, if◌then◌else◌}
 use Rattle.heap_words.specs.Headers.{marked_at}
-use Rattle.heap_words.specs.Blocks.{place, Begins, Formed}
+use Rattle.heap_words.specs.Blocks.{place, Begins, FormedHeap}
 use Rattle.object_layout.specs.Classes.{ShapesView}
 use Rattle.free_index.specs.Lists.{In}
+use Rattle.free_index.specs.Steps.{links_from}
 use Rattle.object_layout.specs.Areas.{heap_start}
 use Rattle.mark_sweep.specs.Objects.{address, IsReference}
 use Rattle.mark_sweep.specs.Reached.{AllGood, Reached}
@@ -68,20 +69,13 @@ whites_below words (suc k) = (if white words k then 1 else 0) + whites_below wor
 abbrev pub whites : List ℕ → ℕ
 whites words = whites_below words (length words)
 
--- how many links lead on from a link, at most n: the block that it names has its own link in the word that
--- the link counts
-unfoldable pub links_from : ℕ → List ℕ → ℕ → ℕ
-links_from zero words link = 0
-links_from (suc n) words zero = 0
-links_from (suc n) words (suc k) = suc (links_from n words (slice_index words (suc k)))
-
 -- the blocks that are not marked, and those that wait: each step of marking leaves fewer
 abbrev pub left : List ℕ → ℕ → ℕ
 left words first = whites words + links_from (length words) words first
 
 -- the marked blocks are reached, and what a marked block names is marked, unless it waits in the list or is
 -- word n or a later one of the block at `at`
-pub record State (s : ShapesView) (u list : List ℕ) (at n : ℕ) (v : List ℕ) (first : ℕ) : Type 0 where
+pub record MarkedSoFar (s : ShapesView) (u list : List ℕ) (at n : ℕ) (v : List ℕ) (first : ℕ) : Type 0 where
   pub waiting : List ℕ
   pub linked : Linked v first waiting
   pub grey : (j : ℕ) → In j waiting → IsBlack v j
@@ -98,13 +92,13 @@ pub record MarksReached (s : ShapesView) (u list v : List ℕ) : Type 0 where
 
 -- the listed words up to `rest` are marked
 pub record Rooted (s : ShapesView) (u list rest v : List ℕ) (first : ℕ) : Type 0 where
-  pub state : State s u list (length u) 0 v first
+  pub state : MarkedSoFar s u list (length u) 0 v first
   pub listed : (w : ℕ) → In w list → In w rest ⊎ IsMarked v w
   pub part : (w : ℕ) → In w rest → In w list
 
 -- all listed words are marked, and marking has come to word n of the block at `at`
 pub record Scanned (s : ShapesView) (u list : List ℕ) (at n : ℕ) (v : List ℕ) (first : ℕ) : Type 0 where
-  pub state : State s u list at n v first
+  pub state : MarkedSoFar s u list at n v first
   pub listed : (w : ℕ) → In w list → IsMarked v w
 
 -- all listed words are marked, and no block is under scan
@@ -115,12 +109,12 @@ Waits s u list v first = Scanned s u list (length u) 0 v first
 -- marked of some heap before is marked on
 pub record Scanning (s : ShapesView) (o : List ℕ) (at next k : ℕ) (v : List ℕ) (first : ℕ) : Type 0 where
   pub kept : Kept o v
-  pub formed : Formed v
-  pub scanned : (u list : List ℕ) → AllGood s u list → Formed u → Reached s u list at → Scanned s u list at 1 o next → Scanned s u list at k v first × (left v first ≤ left o next)
+  pub formed : FormedHeap v
+  pub scanned : (u list : List ℕ) → AllGood s u list → FormedHeap u → Reached s u list at → Scanned s u list at 1 o next → Scanned s u list at k v first × (left v first ≤ left o next)
 
 -- the words before `rest` of a list are marked
 pub record Listing (u list rest v : List ℕ) (first : ℕ) : Type 0 where
   pub kept : Kept u v
-  pub formed : Formed v
+  pub formed : FormedHeap v
   pub part : (w : ℕ) → In w rest → In w list
   pub rooted : (s : ShapesView) → AllGood s u list → Rooted s u list rest v first

@@ -1,10 +1,9 @@
 use Rattle.std.specs.Prelude.{◌≡◌, ℕ, ◌+◌, ◌-◌, ◌*◌, ◌/◌, ◌<◌, ◌≤◌, ◌&&◌, Bool, true, false, List, slice_index, nat_lt, Option, Some, None, if◌then◌else◌}
+use Rattle.std.specs.Option.{option_map_or}
 use Rattle.heap_words.specs.Headers.{size_at}
 use Rattle.heap_words.specs.Blocks.{IsUsed}
 use Rattle.object_layout.specs.Areas.{tables_start, descriptors_start, heap_start, table_address, descriptor_address}
-use Rattle.object_layout.specs.Classes.{ShapesView, IsShape, Need, field_at, Element}
-use Rattle.object_layout.specs.declared.rows.FieldTy.{FieldTy}
-use Rattle.object_layout.specs.declared.rows.FieldTy.TheVariants.{Num, Ref, ArrRef, Fun}
+use Rattle.object_layout.specs.Classes.{ShapesView, IsShape, Need, field_at, Element, is_reference}
 use Rattle.object_layout.specs.declared.rows.Shape.{Shape}
 use Rattle.object_layout.specs.declared.rows.Shape.TheVariants.{Class, Kind}
 
@@ -26,19 +25,11 @@ unfoldable pub shape_word : Shape → ℕ
 shape_word (Class c) = table_address c
 shape_word (Kind k) = descriptor_address k
 
--- a field or an element of this type is a reference to an object or an array
-unfoldable pub is_reference : Option FieldTy → Bool
-is_reference (Some (Ref c)) = true
-is_reference (Some (ArrRef k)) = true
-is_reference (Some Num) = false
-is_reference (Some (Fun g)) = false
-is_reference None = false
-
 -- whether word k of an object is a reference field or element: a field's word k stands at byte 4k; an array
 -- has its length in word 1 and its elements from word 2 on
-unfoldable pub refers : ShapesView → Shape → ℕ → ℕ → Bool
-refers s (Class c) length k = is_reference (field_at s c (4 * k))
-refers s (Kind q) length k = (nat_lt 1 k && nat_lt k (2 + length)) && is_reference (Element s q)
+unfoldable pub holds_reference : ShapesView → Shape → ℕ → ℕ → Bool
+holds_reference s (Class c) length k = option_map_or is_reference (field_at s c (4 * k)) false
+holds_reference s (Kind q) length k = (nat_lt 1 k && nat_lt k (2 + length)) && option_map_or is_reference (Element s q) false
 
 -- an object stands in the block at i: the block is used, its third word is a class's table or a kind's
 -- descriptor, and its size is what an object of that shape needs
@@ -53,4 +44,4 @@ pub record IsObject (s : ShapesView) (words : List ℕ) (i : ℕ) : Type 0 where
 pub record IsReference (s : ShapesView) (words : List ℕ) (i k : ℕ) : Type 0 where
   pub behind : 1 ≤ k
   pub within : k + 2 < size_at words i
-  pub refers : refers s (shape_named (slice_index words (i + 2))) (slice_index words (i + 3)) k ≡ true
+  pub holds_reference : holds_reference s (shape_named (slice_index words (i + 2))) (slice_index words (i + 3)) k ≡ true

@@ -1,7 +1,8 @@
 ghost use Rattle.std.specs.Prelude.{◌≡◌, ◌<◌, ◌≤◌, ◌+◌, ◌↔◌, ℕ, length, slice_index};
 ghost use Rattle.heap_words.specs.Headers.{size_at};
-ghost use Rattle.heap_words.specs.Blocks.{Formed, IsUsed};
+ghost use Rattle.heap_words.specs.Blocks.{FormedHeap, IsUsed};
 ghost use Rattle.free_index.specs.Lists.{FreeLists};
+ghost use Rattle.mark_sweep.specs.Collections.{Collects};
 ghost use Rattle.mark_sweep.specs.Reached.{AllGood, Reached};
 ghost use Rattle.mark_sweep.specs.Swept.{NoNeighbours, free_words, largest_free};
 
@@ -9,7 +10,9 @@ use crate::marking::mark;
 use crate::passes::{Collected, clear_marks, merge, sweep, totals};
 use crate::roots::Roots;
 use free_index::FreeIndex;
+use free_index::laws::link_laws;
 use heap_words::Heap;
+use heap_words::laws::block_laws;
 use object_layout::Shapes;
 
 /// Frees each used block that the listed words do not reach, and joins free neighbours. Used blocks afterwards
@@ -22,6 +25,7 @@ pub fn collect<R: Roots>(
 ) -> Collected
     requires good { AllGood shapes.now heap.old (R.remaining roots.old) }
     requires lists { FreeLists index.old heap.old }
+    ensures collected { Collects shapes.now heap.old (R.remaining roots.old) heap.new }
     ensures used { (i : ℕ) → IsUsed heap.new i ↔ Reached shapes.now heap.old (R.remaining roots.old) i }
     ensures sizes { (i : ℕ) → IsUsed heap.new i → size_at heap.new i ≡ size_at heap.old i }
     ensures words { (i k : ℕ) → IsUsed heap.new i → i + 2 ≤ k → k < i + size_at heap.old i
@@ -31,8 +35,10 @@ pub fn collect<R: Roots>(
     ensures free { result.free ≡ free_words heap.new }
     ensures largest { result.largest ≡ largest_free heap.new }
     ensures lists { FreeLists index.new heap.new }
-    ensures formed { Formed heap.new }
+    ensures formed { FormedHeap heap.new }
 {
+    block_laws();
+    link_laws();
     clear_marks(heap);
     mark(heap, shapes, roots);
     sweep(heap);

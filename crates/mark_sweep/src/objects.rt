@@ -1,24 +1,22 @@
-ghost use Rattle.std.specs.Prelude.{◌≡◌, ◌<◌};
-ghost use Rattle.mark_sweep.specs.Objects.{is_reference, refers, shape_named};
+// What an object's words say, and where it stands.
+ghost use Rattle.std.specs.Prelude.{◌≡◌, ◌<◌, false};
+ghost use Rattle.std.specs.Option.{option_map_or};
+ghost use Rattle.object_layout.specs.Classes.{is_reference};
+ghost use Rattle.mark_sweep.specs.Objects.{address, holds_reference, shape_named};
 
-use object_layout::areas::{DESCRIPTORS_START, TABLES_START};
+use object_layout::areas::{DESCRIPTORS_START, HEAP_START, TABLES_START};
 use object_layout::{FieldTy, Shape, Shapes};
 
-// Whether a field or an element of this type is a reference.
-#[tactic(auto, unfolding(crate::specs::Objects::is_reference))]
-fn is_reference(ty: Option<FieldTy>) -> bool
-    ensures { result ≡ is_reference ty }
+/// The address of the object in the block at `i`.
+#[tactic(auto, unfolding(crate::specs::Objects::address))]
+pub fn object_address(i: u32) -> u32
+    requires { i < 4194304 }
+    ensures { result ≡ address i }
 {
-    match ty {
-        Some(FieldTy::Ref(_)) => true,
-        Some(FieldTy::ArrRef(_)) => true,
-        Some(FieldTy::Num) => false,
-        Some(FieldTy::Fun(_)) => false,
-        None => false,
-    }
+    HEAP_START + 4 * (i + 2)
 }
 
-// The shape that an object's first word names.
+/// The shape that an object's first word names.
 #[tactic(auto, unfolding(crate::specs::Objects::shape_named))]
 pub fn shape_named(word: u32) -> Shape
     ensures { result ≡ shape_named word }
@@ -30,16 +28,28 @@ pub fn shape_named(word: u32) -> Shape
     }
 }
 
+// Whether there is a type, and it is one of references.
+fn is_of_references(ty: Option<FieldTy>) -> bool
+    ensures { result ≡ option_map_or is_reference ty false }
+{
+    match ty {
+        Some(found) => found.is_reference(),
+        None => false,
+    }
+}
+
 // Whether word `k` of the object with these first two words is a reference field or element.
-#[tactic(auto, unfolding(crate::specs::Objects::refers))]
-pub fn refers(shapes: &Shapes, table: u32, length: u32, k: u32) -> bool
+#[tactic(auto, unfolding(crate::specs::Objects::holds_reference))]
+pub fn holds_reference(shapes: &Shapes, table: u32, length: u32, k: u32) -> bool
     requires { k < 4194304 }
-    ensures { result ≡ refers shapes.now (shape_named table) length k }
+    ensures { result ≡ holds_reference shapes.now (shape_named table) length k }
 {
     match shape_named(table) {
-        Shape::Class(class) => is_reference(shapes.field_at(class, 4 * k)),
+        Shape::Class(class) => is_of_references(shapes.field_at(class, 4 * k)),
         Shape::Kind(kind) => {
-            1 < k && u64::from(k) < 2 + u64::from(length) && is_reference(shapes.element_of(kind))
+            1 < k
+                && u64::from(k) < 2 + u64::from(length)
+                && is_of_references(shapes.element_of(kind))
         }
     }
 }

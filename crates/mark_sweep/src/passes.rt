@@ -1,10 +1,11 @@
 // The passes of a collection over the blocks in order.
 ghost use Rattle.std.specs.Prelude.{◌≡◌, ◌&&◌, not};
 ghost use Rattle.heap_words.specs.Headers.{used_at};
-ghost use Rattle.heap_words.specs.Blocks.{Begins, Formed};
+ghost use Rattle.heap_words.specs.Blocks.{Begins, FormedHeap};
 ghost use Rattle.mark_sweep.specs.Swept.{Kept, KeepsUsed, NoMarks, Swept, NoNeighbours, free_words, largest_free};
 
 use heap_words::Heap;
+use heap_words::laws::block_laws;
 
 /// What a collection leaves free, in words.
 #[derive(Clone, Copy, Debug, PartialEq, Eq)]
@@ -19,8 +20,9 @@ pub struct Collected {
 pub fn clear_marks(heap: &mut Heap)
     ensures kept { Kept heap.old heap.new }
     ensures white { NoMarks heap.new }
-    ensures formed { Formed heap.new }
+    ensures formed { FormedHeap heap.new }
 {
+    block_laws();
     let size = heap.size();
     let mut at = 0;
     while at < size {
@@ -32,8 +34,9 @@ pub fn clear_marks(heap: &mut Heap)
 /// Makes the marked blocks used, and all others free.
 pub fn sweep(heap: &mut Heap)
     ensures swept { Swept heap.old heap.new }
-    ensures formed { Formed heap.new }
+    ensures formed { FormedHeap heap.new }
 {
+    block_laws();
     let size = heap.size();
     let mut at = 0;
     while at < size {
@@ -56,8 +59,9 @@ fn are_free(heap: &Heap, at: u32, next: u32) -> bool
 pub fn merge(heap: &mut Heap)
     ensures kept { KeepsUsed heap.old heap.new }
     ensures apart { NoNeighbours heap.new }
-    ensures formed { Formed heap.new }
+    ensures formed { FormedHeap heap.new }
 {
+    block_laws();
     let size = heap.size();
     let mut at = 0;
     while let Some(next) = heap.next_block(at) {
@@ -74,6 +78,7 @@ pub fn totals(heap: &Heap) -> Collected
     ensures free { result.free ≡ free_words heap.now }
     ensures largest { result.largest ≡ largest_free heap.now }
 {
+    block_laws();
     let size = heap.size();
     let mut at = 0;
     let mut free: u64 = 0;

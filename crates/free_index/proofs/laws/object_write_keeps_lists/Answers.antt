@@ -2,4 +2,4 @@ use Rattle.free_index.proofs.Standing.{object-write}
 use Rattle.free_index.proofs.laws.object_write_keeps_lists.Goals as goal
 
 pub returns : goal.returns
-returns c = object-write
+returns c = object-write c.block_laws.ensures

@@ -21,6 +21,6 @@ set_link-requires c = c.set_marked.ensures.same.forth _ (named_block _ _ c.requi
 pub returns-clause-marks : goal.returns-clause-marks
 returns-clause-marks c =
     pushes _ _ _ _ _ c.requires.placed c.if-word-lt-HEAP_START.false
-    (pushed _ _ _ _ _ _ c.requires.formed (named_block _ _ c.requires.placed c.if-word-lt-HEAP_START.false).1
+    (pushed c.block_laws.ensures _ _ _ _ _ _ c.requires.formed (named_block _ _ c.requires.placed c.if-word-lt-HEAP_START.false).1
     (sym c.marked.ensures ∙ c.if-marked.false) c.set_marked.ensures.words c.set_marked.ensures.same
     c.set_marked.ensures.used c.set_marked.ensures.marked c.set_link.ensures.words c.set_link.ensures.same c.set_marked.ensures.formed) refl

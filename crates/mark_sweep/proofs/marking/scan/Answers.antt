@@ -1,15 +1,15 @@
 use Rattle.std.proofs.Common.{arith, sym, ◌∙◌}
-use Rattle.free_index.proofs.LinkWrites.{word_inside}
+use Rattle.mark_sweep.proofs.Keeping.{word_inside}
 use Rattle.mark_sweep.specs.Objects.{IsReference}
 use Rattle.mark_sweep.proofs.Scanning.{scanning-first, scanning-placed, scanning-step, scanning-skip, scanning-last, reference-here, no-reference-here}
 use Rattle.mark_sweep.proofs.marking.scan.Goals as goal
-use Rattle.mark_sweep.proofs.marking.scan.Goals.{then-refers, else-refers}
+use Rattle.mark_sweep.proofs.marking.scan.Goals.{then-holds_reference, else-holds_reference}
 
 pub word-table-requires : goal.word-table-requires
-word-table-requires c = word_inside _ _ 2 c.requires.formed c.requires.begins (omega arith)
+word-table-requires c = word_inside c.block_laws.ensures _ _ 2 c.requires.formed c.requires.begins (omega arith)
 
 pub word-length-requires : goal.word-length-requires
-word-length-requires c = word_inside _ _ 3 c.requires.formed c.requires.begins (omega arith)
+word-length-requires c = word_inside c.block_laws.ensures _ _ 3 c.requires.formed c.requires.begins (omega arith)
 
 pub words-init : goal.words-init
 words-init c = scanning-first _ _ _ _ c.requires.formed
@@ -18,21 +18,21 @@ pub mark_word-first-requires-clause-placed : goal.mark_word-first-requires-claus
 mark_word-first-requires-clause-placed c =
     let r : IsReference c.args.shapes.now c.args.heap.now c.args.at c.words.k =
     reference-here _ _ _ _ _ _ c.word-table.ensures c.word-length.ensures c.words.auto.k (omega (arith, c.block_size-end.ensures.size, c.words-test.true))
-    (sym c.refers.ensures ∙ c.if-refers.true) in
+    (sym c.holds_reference.ensures ∙ c.if-holds_reference.true) in
     scanning-placed _ _ _ _ _ _ _ _ c.words.invariant c.requires.begins r (c.requires.placed _ r) c.word-word.ensures
 
 pub words-preserved : goal.words-preserved
 words-preserved c =
-    elim c.if-refers.branch [
-      | then-refers w ↦
+    elim c.if-holds_reference.branch [
+      | then-holds_reference w ↦
           let r : IsReference c.args.shapes.now c.args.heap.now c.args.at c.words.k =
           reference-here _ _ _ _ _ _ c.word-table.ensures c.word-length.ensures c.words.auto.k
-          (omega (arith, c.block_size-end.ensures.size, c.words-test.true)) (sym c.refers.ensures ∙ w.if-refers.true) in
+          (omega (arith, c.block_size-end.ensures.size, c.words-test.true)) (sym c.holds_reference.ensures ∙ w.if-holds_reference.true) in
           rw (w.heap-is, w.first-is)
           (scanning-step _ _ _ _ _ _ _ _ _ _ c.words.invariant c.requires.begins r w.word-word.ensures w.mark_word-first.ensures.marks w.mark_word-first.ensures.formed)
-      | else-refers w ↦
+      | else-holds_reference w ↦
           rw (w.heap-is, w.first-is) (scanning-skip _ _ _ _ _ _ _ c.words.invariant c.requires.begins
-          (no-reference-here _ _ _ _ _ _ c.word-table.ensures c.word-length.ensures (sym c.refers.ensures ∙ w.if-refers.false)))
+          (no-reference-here _ _ _ _ _ _ c.word-table.ensures c.word-length.ensures (sym c.holds_reference.ensures ∙ w.if-holds_reference.false)))
     ]
 
 pub returns-clause-scanned : goal.returns-clause-scanned

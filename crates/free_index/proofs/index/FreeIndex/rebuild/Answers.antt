@@ -7,7 +7,7 @@ use Rattle.free_index.proofs.index.FreeIndex.rebuild.Goals as goal
 use Rattle.free_index.proofs.index.FreeIndex.rebuild.Goals.{then-not-used, else-not-used}
 
 pub loop-at-init : goal.loop-at-init
-loop-at-init c = rebuilding-first _ _ c.size-size.ensures.formed (search rules) refl
+loop-at-init c = rebuilding-first c.block_laws.ensures _ _ c.size-size.ensures.formed (search rules) refl
 
 pub put-requires-clause-head : goal.put-requires-clause-head
 put-requires-clause-head c = rebuilding-names _ _ _ _ c.loop-at.invariant
@@ -23,10 +23,10 @@ loop-at-preserved c =
       | then-not-used w ↦
           let f : IsFree c.loop-at.heap c.loop-at.at = record { begins = b; free = sym c.used.ensures ∙ w.if-not-used.true } in
           rw (w.heap-is, w.index-is, c.block_size-room.ensures.size)
-          (rebuilding-free _ _ _ _ _ _ c.loop-at.invariant f w.put.ensures.formed w.put.ensures.inserted w.put.ensures.heads w.put.ensures.formed_after)
+          (rebuilding-free c.block_laws.ensures _ _ _ _ _ _ c.loop-at.invariant f w.put.ensures.formed w.put.ensures.inserted w.put.ensures.heads w.put.ensures.formed_after)
       | else-not-used w ↦
           rw (w.heap-is, w.index-is, c.block_size-room.ensures.size)
-          (rebuilding-used _ _ _ _ c.loop-at.invariant b c.block_size-room.ensures.formed (sym c.used.ensures ∙ w.if-not-used.false))
+          (rebuilding-used c.block_laws.ensures _ _ _ _ c.loop-at.invariant b c.block_size-room.ensures.formed (sym c.used.ensures ∙ w.if-not-used.false))
     ]
 
 pub returns-clause-lists : goal.returns-clause-lists
@@ -35,4 +35,4 @@ returns-clause-lists c =
     rebuilding-last _ _ _ _ c.loop-at.invariant (omega (arith, n, c.size-size.ensures.size, c.loop-at-test.false))
 
 pub returns-clause-blocks : goal.returns-clause-blocks
-returns-clause-blocks c = only-list _ _ c.size-size.ensures.formed c.loop-at.invariant.only
+returns-clause-blocks c = only-list c.block_laws.ensures _ _ c.size-size.ensures.formed c.loop-at.invariant.only

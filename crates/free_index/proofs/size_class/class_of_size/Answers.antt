@@ -1,6 +1,6 @@
 use Rattle.std.proofs.Common.{arith, sym}
 use Rattle.free_index.proofs.SizeClasses.{class-small, class-log, class-most}
-use Rattle.free_index.proofs.size_class.class_of.Goals as goal
+use Rattle.free_index.proofs.size_class.class_of_size.Goals as goal
 
 pub returns-then-size-le64-clause-value : goal.returns-then-size-le64-clause-value
 returns-then-size-le64-clause-value c = sym (class-small _ c.requires.rows c.requires.some c.if-size-le64.true)

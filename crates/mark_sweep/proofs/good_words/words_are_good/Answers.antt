@@ -1,9 +1,0 @@
-use Rattle.std.proofs.Common.{below_more}
-use Rattle.mark_sweep.proofs.GoodWords.{all-words}
-use Rattle.mark_sweep.proofs.good_words.words_are_good.Goals as goal
-
-pub loop-word-preserved : goal.loop-word-preserved
-loop-word-preserved c = below_more _ _ c.loop-word.invariant (c.is_good.ensures c.if-not-is_good.false)
-
-pub returns : goal.returns
-returns c = λ _. all-words _ _ _ _ c.loop-word.invariant c.loop-word-test.false
