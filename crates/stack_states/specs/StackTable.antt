@@ -1,6 +1,7 @@
 -- The table of the stacks' states: the state of stack s stands at s.
-use Rattle.std.specs.Prelude.{ℕ, ◌≡◌, Bool, true, false, List, Some, slice_get, slice_set}
+use Rattle.std.specs.Prelude.{ℕ, ◌≡◌, ◌≤◌, Bool, true, false, List, length, Some, slice_get, slice_set}
 use Rattle.std.specs.List.{position_or_len}
+use Rattle.stack_states.specs.declared.table.TheConstants.{MOST_STACKS}
 use Rattle.stack_states.specs.declared.stack_state.StackState.{StackState}
 use Rattle.stack_states.specs.declared.stack_state.StackState.TheVariants.{Empty, Running, Yielded, Interrupted}
 
@@ -22,6 +23,11 @@ current_of table = position_or_len is_running table
 -- Exactly one stack runs.
 abbrev pub OneRuns : List StackState → Type 0
 OneRuns table = IsCurrent table (current_of table)
+
+-- What a table of stacks keeps: which stack runs, and that the stacks are few.
+pub record IsKept (table : List StackState) (current : ℕ) : Type 0 where
+  pub one : IsCurrent table current
+  pub few : length table ≤ MOST_STACKS
 
 -- The running stack gets this state, and another runs in its place.
 abbrev pub handed_over : List StackState → StackState → ℕ → List StackState

@@ -20,13 +20,13 @@ pub struct Stacks {
 impl Model for Stacks {
     ghost use Rattle.std.specs.Prelude.{List};
     ghost use Rattle.stack_states.specs.declared.stack_state.StackState.{StackState};
-    ghost use Rattle.stack_states.specs.StackTable.{IsCurrent};
+    ghost use Rattle.stack_states.specs.StackTable.{IsKept};
 
     ghost Value = { List StackState };
 
     ghost view = { λ s. s.states.items };
 
-    ghost invariant = { λ s. IsCurrent s.states.items s.current };
+    ghost invariant = { λ s. IsKept s.states.items s.current };
 }
 
 impl Stacks {
@@ -39,6 +39,14 @@ impl Stacks {
         let mut states = vec![in alloc; StackState::Empty; count as usize]?;
         states[0] = StackState::Running;
         Ok(Stacks { states, current: 0 })
+    }
+
+    /// How many stacks there are.
+    pub fn count(&self) -> u32
+        ensures count { result ≡ length self.now }
+        ensures few { result ≤ MOST_STACKS }
+    {
+        self.states.len() as u32
     }
 
     /// The state of stack `s`. None exactly where there is no such stack.
@@ -132,6 +140,7 @@ mod tests {
     #[test]
     fn stacks_hand_over_to_one_another(rt: HostRuntime) -> Result<(), Fail> {
         let mut stacks = Stacks::new(rt.alloc(), 3)?;
+        assert_eq!(rt; stacks.count(), 3);
         assert_eq!(rt; stacks.current(), 0);
         for (s, want) in [
             (0, Some(StackState::Running)),
