@@ -40,6 +40,7 @@ jmp_byte n lt = record {
   canonical = refl;
   filled = record { row = refl; modrm = (refl, refl); trailing = omega (arith, ints) };
   same = ap (λ z. inst.Jmp z) (omega (arith, ints));
+  long = λ h. h;
   precedes = inl tt;
 }
 
@@ -50,6 +51,7 @@ jcc_byte cc n lt = record {
   canonical = refl;
   filled = record { row = refl; modrm = (refl, refl); trailing = omega (arith, ints) };
   same = ap (λ z. inst.Jcc cc z) (omega (arith, ints));
+  long = λ h. h;
   precedes = inl tt;
 }
 

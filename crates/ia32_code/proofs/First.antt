@@ -1,22 +1,46 @@
 -- How a spelling is shown to be preceded by the canonical one of its instruction.
-use Rattle.std.proofs.Common.{◌≡◌, ℕ, ◌+◌, ◌≤◌, length, Option, Some, refl, sym, ap, subst, ◌∙◌, arith, inl, inr}
+use Rattle.std.proofs.Common.{◌≡◌, ℕ, ◌+◌, ◌≤◌, length, Bool, true, false, Option, Some, None, refl, sym, ap, subst, ◌∙◌, arith, inl, inr}
+use Rattle.std.proofs.lemmas.Bool.{false≢true}
 use Rattle.ia32_code.specs.declared.instruction.Reg.{Reg}
 use Rattle.ia32_code.specs.declared.instruction.Reg.TheVariants.{Eax}
 use Rattle.ia32_code.specs.declared.instruction.Operand.{Operand}
 use Rattle.ia32_code.specs.declared.instruction.Inst.{Inst}
 use Rattle.ia32_code.specs.declared.row.Row.{Row}
+use Rattle.ia32_code.specs.declared.row.Row.TheVariants.{JmpByte, JccByte}
+use Rattle.ia32_code.specs.declared.spelling.Spelling.{Spelling}
 use Rattle.ia32_code.specs.declared.operand_form.OperandForm.{OperandForm}
 use Rattle.ia32_code.specs.declared.operand_form.OperandForm.TheVariants.{Direct, Based, Absolute, Indexed, Unbased}
 use Rattle.ia32_code.specs.OperandForms.{number, reg, after_modrm, operand, FormFits}
 use Rattle.ia32_code.specs.Spells.{Filled, text, meaning}
 use Rattle.ia32_code.specs.Canonical.{shortest_form, fill, without_modrm, with_form, canonical_row}
-use Rattle.ia32_code.specs.Order.{without_scale, Precedes, IsFirst}
+use Rattle.ia32_code.specs.Order.{without_scale, Precedes, IsShortBranch, IsFirst}
 use Rattle.ia32_code.proofs.OperandForms.{reg-number}
 use Rattle.ia32_code.proofs.ShortestForm.{Better, best_form}
 
 -- register 0 is EAX
 pub number_zero : (r : Reg) → number r ≡ 0 → r ≡ Eax
 number_zero r h = sym (reg-number r) ∙ ap reg h
+
+-- the row of a short branch
+abbrev row_is_short : Row → Bool
+row_is_short JmpByte = true
+row_is_short (JccByte cond) = true
+row_is_short _ = false
+
+-- the same of the row that was chosen
+abbrev is_short : Option Spelling → Bool
+is_short None = false
+is_short (Some s) = row_is_short s.row
+
+-- a row that its own instruction has as canonical one is no short branch
+no_short : (w : Row) (r : Reg) (f : OperandForm) (n : ℕ) → canonical_row (meaning (fill w r f n)) ≡ Some (fill w r f n) → IsShortBranch w → ⊥
+no_short JmpByte r f n e h = false≢true (ap is_short e)
+no_short (JccByte cond) r f n e h = false≢true (ap is_short e)
+no_short _ r f n e h = absurd h
+
+-- and so is the canonical spelling of what any spelling means
+pub long_first : (first s : Spelling) → canonical_row (meaning s) ≡ Some first → meaning first ≡ meaning s → IsShortBranch first.row → ⊥
+long_first first s e same h = no_short first.row first.reg first.form first.number (ap canonical_row same ∙ e) h
 
 -- ---- the same row with another form
 
@@ -58,11 +82,14 @@ pub by_form : (w : Row) (r : Reg) (n k : ℕ) (make : Operand → Inst) (f : Ope
     → LongAs w r n k → FormFits f → IsFirst (fill w r f n)
 by_form w r n k make f canon means fit len h =
     let b = best_form f h in
+    let canonical = ap canonical_row (means f) ∙ canon ∙ ap (λ (x : Option OperandForm). with_form x (λ y. fill w r y n)) b.chosen in
+    let same = means b.best ∙ ap make b.same ∙ sym (means f) in
     record {
       first = fill w r b.best n;
-      canonical = ap canonical_row (means f) ∙ canon ∙ ap (λ (x : Option OperandForm). with_form x (λ y. fill w r y n)) b.chosen;
+      canonical = canonical;
       filled = fit b.best b.fits b.same;
-      same = means b.best ∙ ap make b.same ∙ sym (means f);
+      same = same;
+      long = long_first (fill w r b.best n) (fill w r f n) canonical same;
       precedes = inr (by_better w r n k b.best f len b.better);
     }
 
@@ -88,4 +115,4 @@ at_bare w r f n m h z k = rw (h.0, h.1, z) k
 
 -- a row that is the canonical one of its instruction
 pub own : (w : Row) (n : ℕ) → canonical_row (meaning (without_modrm w n)) ≡ Some (without_modrm w n) → Filled (without_modrm w n) → IsFirst (without_modrm w n)
-own w n e h = record { first = without_modrm w n; canonical = e; filled = h; same = refl; precedes = inr (inr (refl, inr refl)) }
+own w n e h = record { first = without_modrm w n; canonical = e; filled = h; same = refl; long = long_first (without_modrm w n) (without_modrm w n) e refl; precedes = inr (inr (refl, inr refl)) }

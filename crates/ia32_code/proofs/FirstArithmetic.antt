@@ -23,7 +23,7 @@ use Rattle.ia32_code.specs.Canonical.{fits_byte, is_eax, shortest_form, fill, wi
 use Rattle.ia32_code.specs.Order.{Precedes, IsFirst}
 use Rattle.ia32_code.proofs.OperandForms.{number-reg}
 use Rattle.ia32_code.proofs.ShortestForm.{extended_fits, Better, best_form}
-use Rattle.ia32_code.proofs.First.{number_zero, no_longer, by_better, by_form, at_digit, precedes_at}
+use Rattle.ia32_code.proofs.First.{number_zero, no_longer, long_first, by_better, by_form, at_digit, precedes_at}
 
 -- the number of an operation is a digit
 pub alu_below : (op : Alu) → alu_number op < 8
@@ -86,11 +86,14 @@ pub alu_word : (op : Alu) (r : Reg) (f : OperandForm) (n : ℕ) → FormFits f �
 alu_word op r f n h d lt =
     let b = best_form f h in
     let k = imm_of op n b.best b.fits lt in
+    let canonical = ap (λ (x : Option OperandForm). with_form x (alu_imm op n)) b.chosen in
+    let same = k.same ∙ ap (λ (x : Operand). inst.Alu op x (I n)) b.same in
     record {
       first = alu_imm op n b.best;
-      canonical = ap (λ (x : Option OperandForm). with_form x (alu_imm op n)) b.chosen;
+      canonical = canonical;
       filled = k.fits;
-      same = k.same ∙ ap (λ (x : Operand). inst.Alu op x (I n)) b.same;
+      same = same;
+      long = long_first (alu_imm op n b.best) (fill (row.AluWord op) r f n) canonical same;
       precedes = inr (k.first r f d b.better);
     }
 
@@ -104,6 +107,7 @@ alu_byte op r f n h d lt =
       canonical = ap (λ (x : Option OperandForm). with_form x (alu_imm op (sign_extended n))) b.chosen ∙ rw (e.0, e.1) refl;
       filled = record { row = refl; modrm = (b.fits, number-reg (alu_number op) (alu_below op)); trailing = lt };
       same = ap (λ (x : Operand). inst.Alu op x (I (sign_extended n))) b.same;
+      long = λ h. h;
       precedes = inr (by_better (row.AluByte op) (reg (alu_number op)) n 3 b.best f (λ y. simp length-append (omega arith)) b.better);
     })
 
@@ -118,6 +122,7 @@ alu_eax op n lt =
             canonical = refl;
             filled = k.fits;
             same = k.same;
+            long = long_first (alu_imm op n (Direct Eax)) (without_modrm (row.AluEax op) n) refl k.same;
             precedes = inr (rw near (inl (lit< tt)));
           }
       | inr far ↦ record {
@@ -125,6 +130,7 @@ alu_eax op n lt =
         canonical = rw far refl;
         filled = record { row = refl; modrm = (refl, refl); trailing = lt };
         same = refl;
+        long = λ h. h;
         precedes = inr (inr (refl, inr refl));
       }
     ]
@@ -152,6 +158,7 @@ alu_load op r (Direct k) h = record {
   canonical = refl;
   filled = record { row = refl; modrm = tt; trailing = refl };
   same = refl;
+  long = λ h. h;
   precedes = inr (inr (refl, inl (lit< tt)));
 }
 alu_load op r (Based b d) h = alu_load_memory op r (Based b d) refl h
@@ -188,11 +195,14 @@ pub test_word : (r : Reg) (f : OperandForm) (n : ℕ) → FormFits f → number 
 test_word r f n h d lt =
     let b = best_form f h in
     let k = test_of_imm n b.best b.fits lt in
+    let canonical = ap (λ (x : Option OperandForm). with_form x (test_imm n)) b.chosen in
+    let same = k.same ∙ ap (λ (x : Operand). inst.Test x (I n)) b.same in
     at_digit row.TestWord 0 r f n n d refl (record {
       first = test_imm n b.best;
-      canonical = ap (λ (x : Option OperandForm). with_form x (test_imm n)) b.chosen;
+      canonical = canonical;
       filled = k.fits;
-      same = k.same ∙ ap (λ (x : Operand). inst.Test x (I n)) b.same;
+      same = same;
+      long = long_first (test_imm n b.best) (fill row.TestWord (reg 0) f n) canonical same;
       precedes = inr (k.first f b.better);
     })
 
@@ -237,11 +247,14 @@ pub imul_word : (d : Reg) (f : OperandForm) (n : ℕ) → FormFits f → n < 2 ^
 imul_word d f n h lt =
     let b = best_form f h in
     let k = imul_of_imm n d b.best b.fits lt in
+    let canonical = ap (λ (x : Option OperandForm). with_form x (imul_imm n d)) b.chosen in
+    let same = k.same ∙ ap (λ (x : Operand). inst.Imul3 (R d) x n) b.same in
     record {
       first = imul_imm n d b.best;
-      canonical = ap (λ (x : Option OperandForm). with_form x (imul_imm n d)) b.chosen;
+      canonical = canonical;
       filled = k.fits;
-      same = k.same ∙ ap (λ (x : Operand). inst.Imul3 (R d) x n) b.same;
+      same = same;
+      long = long_first (imul_imm n d b.best) (fill row.Imul3Word d f n) canonical same;
       precedes = inr (k.first f b.better);
     }
 
@@ -255,6 +268,7 @@ imul_byte d f n h lt =
       canonical = ap (λ (x : Option OperandForm). with_form x (imul_imm (sign_extended n) d)) b.chosen ∙ rw (e.0, e.1) refl;
       filled = record { row = refl; modrm = b.fits; trailing = lt };
       same = ap (λ (x : Operand). inst.Imul3 (R d) x (sign_extended n)) b.same;
+      long = λ h. h;
       precedes = inr (by_better row.Imul3Byte d n 3 b.best f (λ y. simp length-append (omega arith)) b.better);
     }
 
@@ -282,6 +296,7 @@ shift_by op f n h lt =
         canonical = rw (one, b.chosen) refl;
         filled = record { row = refl; modrm = (b.fits, shift_back op); trailing = refl };
         same = ap (λ (x : Operand). inst.Shift op x (By 1)) b.same ∙ ap (λ (x : ℕ). inst.Shift op (operand f) (By x)) (sym (eqb-true n 1 one));
+        long = λ h. h;
         precedes = inr (inl (let l = no_longer b.best f b.better in simp length-append (omega arith)));
       }
       | inr other ↦ record {
@@ -289,6 +304,7 @@ shift_by op f n h lt =
         canonical = rw (other, b.chosen) refl;
         filled = record { row = refl; modrm = (b.fits, shift_back op); trailing = lt };
         same = ap (λ (x : Operand). inst.Shift op x (By n)) b.same;
+        long = λ h. h;
         precedes = inr (by_better (row.ShiftBy op) (reg (shift_number op)) n 3 b.best f (λ y. simp length-append (omega arith)) b.better);
       }
     ]

@@ -18,7 +18,7 @@ use Rattle.ia32_code.specs.Spells.{Filled, text, meaning}
 use Rattle.ia32_code.specs.Canonical.{fits_byte, shortest_form, fill, with_form, with_digit, without_modrm, canonical_row}
 use Rattle.ia32_code.specs.Order.{IsFirst}
 use Rattle.ia32_code.proofs.ShortestForm.{index_cases, extended_fits}
-use Rattle.ia32_code.proofs.First.{LongAs, number_zero, by_form, at_digit, own}
+use Rattle.ia32_code.proofs.First.{LongAs, number_zero, long_first, by_form, at_digit, own}
 
 -- a false second test decides
 no_both : (a : Bool) → (a && false) ≡ false
@@ -43,6 +43,7 @@ load_eax r f n lt z e long = rw (number_zero r z) (record {
   canonical = rw e refl;
   filled = record { row = refl; modrm = (refl, refl); trailing = lt };
   same = ap (λ (x : Operand). inst.Mov (R Eax) x) (sym e);
+  long = λ h. h;
   precedes = inr (inl long);
 })
 
@@ -53,6 +54,7 @@ mov_load r (Direct k) h = record {
   canonical = refl;
   filled = record { row = refl; modrm = tt; trailing = refl };
   same = refl;
+  long = λ h. h;
   precedes = inr (inr (refl, inl (lit< tt)));
 }
 mov_load r (Based b d) h = load_at r (Based b d) (rw (no_both (eqb (number r) 0)) refl) h
@@ -89,6 +91,7 @@ store_eax r f n lt z e long = rw (number_zero r z) (record {
   canonical = rw e refl;
   filled = record { row = refl; modrm = (refl, refl); trailing = lt };
   same = ap (λ (x : Operand). inst.Mov x (R Eax)) (sym e);
+  long = λ h. h;
   precedes = inr (inl long);
 })
 
@@ -128,6 +131,7 @@ mov_word (Direct k) n h lt = record {
   canonical = refl;
   filled = record { row = refl; modrm = (refl, refl); trailing = lt };
   same = refl;
+  long = λ h. h;
   precedes = inr (inl (lit< tt));
 }
 mov_word (Based b d) n h lt = mov_word_memory (Based b d) n refl lt h
@@ -178,13 +182,17 @@ unary w g make u r f n canon h z = at_digit w g r f n 0 h.1 z (by_form w (reg g)
 pub unary_direct : (w short : Row) (g : ℕ) (make : Operand → Inst) → IsUnary w g make → (r k : Reg) (n : ℕ)
     → canonical_row (make (R k)) ≡ Some (without_modrm short 0) → Filled (without_modrm short 0) → meaning (without_modrm short 0) ≡ make (R k)
     → length (text (without_modrm short 0)) ≡ 1 → number r ≡ g → n ≡ 0 → IsFirst (fill w r (Direct k) n)
-unary_direct w short g make u r k n canon filled means one d z = at_digit w g r (Direct k) n 0 d z (record {
-  first = without_modrm short 0;
-  canonical = ap canonical_row (u.means (reg g) (Direct k) 0) ∙ canon;
-  filled = filled;
-  same = means ∙ sym (u.means (reg g) (Direct k) 0);
-  precedes = inr (inl (omega (arith, u.len (Direct k))));
-})
+unary_direct w short g make u r k n canon filled means one d z =
+    let canonical = ap canonical_row (u.means (reg g) (Direct k) 0) ∙ canon in
+    let same = means ∙ sym (u.means (reg g) (Direct k) 0) in
+    at_digit w g r (Direct k) n 0 d z (record {
+      first = without_modrm short 0;
+      canonical = canonical;
+      filled = filled;
+      same = same;
+      long = long_first (without_modrm short 0) (fill w (reg g) (Direct k) 0) canonical same;
+      precedes = inr (inl (omega (arith, u.len (Direct k))));
+    })
 
 -- `FF` /0
 inc_unary : IsUnary row.Inc 0 (λ o. inst.Inc o)
@@ -238,6 +246,7 @@ push_word n lt =
         canonical = rw near refl;
         filled = record { row = refl; modrm = (refl, refl); trailing = omega arith };
         same = ap (λ (x : ℕ). inst.Push (I x)) (eqb-true (sign_extended (n % 256)) n near);
+        long = λ h. h;
         precedes = inr (inl (lit< tt));
       }
       | inr far ↦ own row.PushWord n (rw far refl) (record { row = refl; modrm = (refl, refl); trailing = lt })

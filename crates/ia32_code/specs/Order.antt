@@ -89,12 +89,13 @@ IsBranch (inst.Jmp z) = Unit {0}
 IsBranch (inst.Jcc cc z) = Unit {0}
 IsBranch _ = ⊥
 
--- the canonical spelling of what a spelling means is one of it, and precedes it, but for short branches
+-- the canonical spelling of what a spelling means is one of it, is no short branch, and precedes it, but for short branches
 pub record IsFirst (s : Spelling) : Type 0 where
   pub first : Spelling
   pub canonical : canonical_row (meaning s) ≡ Some first
   pub filled : Filled first
   pub same : meaning first ≡ meaning s
+  pub long : IsShortBranch first.row → ⊥
   pub precedes : IsShortBranch s.row ⊎ Precedes first s
 
 -- of bytes that spell an instruction: there is a canonical spelling of it, and it is no longer, but for branches

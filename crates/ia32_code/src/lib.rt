@@ -28,4 +28,6 @@ pub use encoding::{CodeFault, encode, len_of};
 pub use instruction::{Alu, Cond, Count, Inst, Mem, Operand, Reg, Shift};
 
 #[cfg(test)]
+mod table_tests;
+#[cfg(test)]
 mod tests;
