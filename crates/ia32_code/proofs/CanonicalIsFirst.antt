@@ -13,7 +13,7 @@ use Rattle.ia32_code.specs.Table.{shift_number, among, priv_bare, priv_with_byte
 use Rattle.ia32_code.specs.Spells.{Filled}
 use Rattle.ia32_code.specs.Canonical.{fill, without_modrm}
 use Rattle.ia32_code.specs.Order.{IsFirst}
-use Rattle.ia32_code.proofs.Openings.{at_one}
+use Rattle.ia32_code.proofs.OpcodeRows.{at_one}
 use Rattle.ia32_code.proofs.First.{at_digit, at_zero, at_bare, own}
 use Rattle.ia32_code.proofs.FirstArithmetic.{alu_store, alu_load, alu_eax, alu_word, alu_byte, test_store, test_word, imul2, imul_byte, imul_word, shift_one, shift_by, shift_cl}
 use Rattle.ia32_code.proofs.FirstMoves.{mov_load, mov_store, mov_word, lea, IsUnary, unary, inc, dec, push, push_byte, push_word}

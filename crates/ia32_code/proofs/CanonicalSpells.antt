@@ -18,7 +18,7 @@ use Rattle.ia32_code.specs.declared.row.Row.TheVariants as row
 use Rattle.ia32_code.specs.declared.operand_form.OperandForm.{OperandForm}
 use Rattle.ia32_code.specs.declared.operand_form.OperandForm.TheVariants.{Direct, Based, Absolute, Indexed, Unbased}
 use Rattle.ia32_code.specs.declared.spelling.Spelling.{Spelling}
-use Rattle.ia32_code.specs.OperandForms.{reg, number, sign_extended, operand, FormFits, index_of}
+use Rattle.ia32_code.specs.OperandForms.{reg, number, sign_extended, operand, FormFits, index_register}
 use Rattle.ia32_code.specs.Table.{shift_number, among, priv_bare, priv_with_byte}
 use Rattle.ia32_code.specs.Spells.{Filled, meaning}
 use Rattle.ia32_code.specs.Canonical.{fits_byte, shortest_disp, usable, memory_form, shortest_form, fill, with_form, without_modrm, is_absolute, alu_imm, test_imm, imul_imm, mov_of, push_of, priv_of, canonical_row}
@@ -38,7 +38,7 @@ alone_parts (Some b) None s d h = absurd cc
 alone_parts (Some b) (Some i) s d h = absurd cc
 
 -- what makes an index usable
-usable_is : (i : Reg) (s : ℕ) → usable i s ≡ true → (s < 4) × (index_of i ≡ Some i) × (eqb (number i) 4 ≡ false)
+usable_is : (i : Reg) (s : ℕ) → usable i s ≡ true → (s < 4) × (index_register i ≡ Some i) × (eqb (number i) 4 ≡ false)
 usable_is i s h =
     let two = both_true (not (eqb (number i) 4)) (ltb s 4) h in
     elim (index_cases i) [

@@ -1,7 +1,8 @@
 pub mod TakesFront
 pub mod Readers
+pub mod Trials
 pub mod OperandForms
-pub mod Openings
+pub mod OpcodeRows
 pub mod ReadIsSpelled
 pub mod Lengths
 pub mod Answered

@@ -3,7 +3,7 @@ use Rattle.std.proofs.Common.{◌≡◌, ◌≢◌, ℕ, ◌+◌, ◌%◌, ◌^�
 use Rattle.std.proofs.lemmas.Bool.{eqb-true, eqb-false, eq-eqb, ne_eqb, cases_Bool, cases_lt, lt-ltb, le-ltb}
 use Rattle.ia32_code.specs.declared.instruction.Reg.{Reg}
 use Rattle.ia32_code.specs.declared.instruction.Reg.TheVariants.{Eax, Ecx, Edx, Ebx, Esp, Ebp, Esi, Edi}
-use Rattle.ia32_code.specs.OperandForms.{number, sign_extended, mode, amount, DispFits, disp_bytes, after_modrm, operand, FormFits, index_of}
+use Rattle.ia32_code.specs.OperandForms.{number, sign_extended, mode, amount, DispFits, disp_bytes, after_modrm, operand, FormFits, index_register}
 use Rattle.ia32_code.specs.declared.operand_form.Displacement.{Displacement}
 use Rattle.ia32_code.specs.declared.operand_form.OperandForm.{OperandForm}
 use Rattle.ia32_code.specs.declared.operand_form.OperandForm.TheVariants.{Direct, Based, Absolute, Indexed, Unbased}
@@ -107,7 +107,7 @@ pub record Best (f : OperandForm) : Type 0 where
   pub better : Better best f
 
 -- an index is ESP and none, or itself
-pub index_cases : (i : Reg) → ((number i ≡ 4) × (i ≡ Esp)) ⊎ ((number i ≢ 4) × (index_of i ≡ Some i))
+pub index_cases : (i : Reg) → ((number i ≡ 4) × (i ≡ Esp)) ⊎ ((number i ≢ 4) × (index_register i ≡ Some i))
 index_cases Eax = inr (λ e. omega arith, refl)
 index_cases Ecx = inr (λ e. omega arith, refl)
 index_cases Edx = inr (λ e. omega arith, refl)

@@ -2,7 +2,7 @@
 use Rattle.std.proofs.Common.{◌≡◌, ℕ, ◌<◌, Bool, true, false, cond, List, [], ◌∷◌, ◌++◌, Result, Ok, Err, refl, sym, ap, subst, ◌∙◌, append_assoc, lit<}
 use Rattle.ia32_code.specs.declared.reading.Stop.{Stop}
 use Rattle.ia32_code.specs.declared.reading.Stop.TheVariants.{Short, Unknown}
-use Rattle.ia32_code.specs.Reading.{◌>>=◌, Read, done, none, seq, byte_at}
+use Rattle.ia32_code.specs.Reading.{CodeReader, onward, given, none, seq, byte_at}
 
 -- numbers below 256
 abbrev pub IsBytes : List ℕ → Type 0
@@ -15,27 +15,27 @@ IsBytes-append [] t p q = q
 IsBytes-append (b ∷ s) t p q = (p.0, IsBytes-append s t p.1 q)
 
 -- some bytes are read
-pub record Readable {A : Type 0} (p : Read A) : Type 0 where
+pub record Readable {A : Type 0} (p : CodeReader A) : Type 0 where
   pub text : List ℕ
   pub value : A
   pub fits : IsBytes text
   pub reads : (more : List ℕ) → p (text ++ more) ≡ Ok (value, more)
 
 -- the bytes that were read
-pub record Took {A : Type 0} (p : Read A) (bytes : List ℕ) (a : A) (rest : List ℕ) : Type 0 where
+pub record Took {A : Type 0} (p : CodeReader A) (bytes : List ℕ) (a : A) (rest : List ℕ) : Type 0 where
   pub text : List ℕ
   pub parts : bytes ≡ text ++ rest
   pub reads : (more : List ℕ) → p (text ++ more) ≡ Ok (a, more)
 
 -- bytes that complete those that end too early
-pub record Ends {A : Type 0} (p : Read A) (bytes : List ℕ) : Type 0 where
+pub record Ends {A : Type 0} (p : CodeReader A) (bytes : List ℕ) : Type 0 where
   pub text : List ℕ
   pub value : A
   pub fits : IsBytes text
   pub reads : (more : List ℕ) → p (bytes ++ (text ++ more)) ≡ Ok (value, more)
 
 -- what is taken is taken again whatever follows, Unknown stays Unknown, Short can be completed
-pub record TakesFront {A : Type 0} (p : Read A) : Type 0 where
+pub record TakesFront {A : Type 0} (p : CodeReader A) : Type 0 where
   pub took : (bytes : List ℕ) (a : A) (rest : List ℕ) → p bytes ≡ Ok (a, rest) → Took p bytes a rest
   pub unknown : (bytes more : List ℕ) → p bytes ≡ Err Unknown → p (bytes ++ more) ≡ Err Unknown
   pub short : (bytes : List ℕ) → p bytes ≡ Err Short → Ends p bytes
@@ -76,18 +76,18 @@ pub Readable-byte_at : Readable byte_at
 Readable-byte_at = record { text = 0 ∷ []; value = 0; fits = (lit< tt, tt); reads = λ more. refl }
 
 -- nothing is taken
-done_took : {A : Type 0} (v : A) (bytes : List ℕ) (a : A) (rest : List ℕ) → done v bytes ≡ Ok (a, rest) → Took (done v) bytes a rest
+done_took : {A : Type 0} (v : A) (bytes : List ℕ) (a : A) (rest : List ℕ) → given v bytes ≡ Ok (a, rest) → Took (given v) bytes a rest
 done_took {A} v bytes a rest e =
     let h : (v, bytes) ≡ (a, rest) = ok_is (v, bytes) (a, rest) e in
-    subst (λ (x : A × List ℕ). Took (done v) bytes x.0 x.1) h (record { text = []; parts = refl; reads = λ more. refl })
+    subst (λ (x : A × List ℕ). Took (given v) bytes x.0 x.1) h (record { text = []; parts = refl; reads = λ more. refl })
 
 -- the reader that takes nothing
-pub TakesFront-done : {A : Type 0} (v : A) → TakesFront (done v)
-TakesFront-done v = record { took = done_took v; unknown = λ bytes more e. absurd cc; short = λ bytes e. absurd cc }
+pub TakesFront-given : {A : Type 0} (v : A) → TakesFront (given v)
+TakesFront-given v = record { took = done_took v; unknown = λ bytes more e. absurd cc; short = λ bytes e. absurd cc }
 
 -- it reads no bytes
-pub Readable-done : {A : Type 0} (v : A) → Readable (done v)
-Readable-done v = record { text = []; value = v; fits = tt; reads = λ more. refl }
+pub Readable-given : {A : Type 0} (v : A) → Readable (given v)
+Readable-given v = record { text = []; value = v; fits = tt; reads = λ more. refl }
 
 -- the reader that refuses all
 pub TakesFront-none : {A : Type 0} → TakesFront (none {A = A})
@@ -95,8 +95,8 @@ TakesFront-none = record { took = λ bytes a rest e. absurd cc; unknown = λ byt
 
 -- ---- one after the other
 
-module _ {A B : Type 0} (p : Read A) (f : A → Read B) (steady_p : TakesFront p) (steady_f : (a : A) → TakesFront (f a)) where
-  seq_took : (bytes : List ℕ) (b : B) (rest : List ℕ) (r : Result (A × List ℕ) Stop) → p bytes ≡ r → (r >>= λ x. f x.0 x.1) ≡ Ok (b, rest) → Took (seq p f) bytes b rest
+module _ {A B : Type 0} (p : CodeReader A) (f : A → CodeReader B) (steady_p : TakesFront p) (steady_f : (a : A) → TakesFront (f a)) where
+  seq_took : (bytes : List ℕ) (b : B) (rest : List ℕ) (r : Result (A × List ℕ) Stop) → p bytes ≡ r → onward r (λ x. f x.0 x.1) ≡ Ok (b, rest) → Took (seq p f) bytes b rest
   seq_took bytes b rest (Ok x) e h =
       let one = steady_p.took bytes x.0 x.1 e in
       let two = (steady_f x.0).took x.1 b rest h in
@@ -107,7 +107,7 @@ module _ {A B : Type 0} (p : Read A) (f : A → Read B) (steady_p : TakesFront p
       }
   seq_took bytes b rest (Err s) e h = absurd cc
 
-  seq_unknown : (bytes more : List ℕ) (r : Result (A × List ℕ) Stop) → p bytes ≡ r → (r >>= λ x. f x.0 x.1) ≡ Err Unknown → seq p f (bytes ++ more) ≡ Err Unknown
+  seq_unknown : (bytes more : List ℕ) (r : Result (A × List ℕ) Stop) → p bytes ≡ r → onward r (λ x. f x.0 x.1) ≡ Err Unknown → seq p f (bytes ++ more) ≡ Err Unknown
   seq_unknown bytes more (Ok x) e h =
       let one = steady_p.took bytes x.0 x.1 e in
       let again : p (bytes ++ more) ≡ Ok (x.0, x.1 ++ more) = ap (λ (t : List ℕ). p (t ++ more)) one.parts ∙ ap p (append_assoc one.text x.1 more) ∙ one.reads (x.1 ++ more) in
@@ -117,7 +117,7 @@ module _ {A B : Type 0} (p : Read A) (f : A → Read B) (steady_p : TakesFront p
 
   -- completes the first part so that the second can follow
   seq_short : ((bytes : List ℕ) → p bytes ≡ Err Short → (ends : Ends p bytes) × Readable (f ends.value))
-      → (bytes : List ℕ) (r : Result (A × List ℕ) Stop) → p bytes ≡ r → (r >>= λ x. f x.0 x.1) ≡ Err Short → Ends (seq p f) bytes
+      → (bytes : List ℕ) (r : Result (A × List ℕ) Stop) → p bytes ≡ r → onward r (λ x. f x.0 x.1) ≡ Err Short → Ends (seq p f) bytes
   seq_short live bytes (Ok x) e h =
       let one = steady_p.took bytes x.0 x.1 e in
       let two = (steady_f x.0).short x.1 h in
@@ -158,23 +158,19 @@ module _ {A B : Type 0} (p : Read A) (f : A → Read B) (steady_p : TakesFront p
   }
 
 -- a byte that completes a reader of a byte and more
-byte_ends : {B : Type 0} (f : ℕ → Read B) (b : ℕ) → b < 256 → Readable (f b) → (bytes : List ℕ) → byte_at bytes ≡ Err Short → (ends : Ends byte_at bytes) × Readable (f ends.value)
+byte_ends : {B : Type 0} (f : ℕ → CodeReader B) (b : ℕ) → b < 256 → Readable (f b) → (bytes : List ℕ) → byte_at bytes ≡ Err Short → (ends : Ends byte_at bytes) × Readable (f ends.value)
 byte_ends f b lt live [] e = (record { text = b ∷ []; value = b; fits = (lt, tt); reads = λ more. refl }, live)
 byte_ends f b lt live (c ∷ bs) e = absurd cc
 
 -- a byte, and then what reads something after some byte alone
-pub TakesFront-byte : {B : Type 0} (f : ℕ → Read B) → ((b : ℕ) → TakesFront (f b)) → (b : ℕ) → b < 256 → Readable (f b) → TakesFront (seq byte_at f)
+pub TakesFront-byte : {B : Type 0} (f : ℕ → CodeReader B) → ((b : ℕ) → TakesFront (f b)) → (b : ℕ) → b < 256 → Readable (f b) → TakesFront (seq byte_at f)
 TakesFront-byte f steady b lt live = record {
   took = λ bytes c rest h. seq_took byte_at f TakesFront-byte_at steady bytes c rest (byte_at bytes) refl h;
   unknown = λ bytes more h. seq_unknown byte_at f TakesFront-byte_at steady bytes more (byte_at bytes) refl h;
   short = λ bytes h. seq_short byte_at f TakesFront-byte_at steady (byte_ends f b lt live) bytes (byte_at bytes) refl h;
 }
 
--- a byte and what follows are read
-pub Readable-byte : {B : Type 0} (f : ℕ → Read B) (b : ℕ) → b < 256 → Readable (f b) → Readable (seq byte_at f)
-Readable-byte f b lt live = record { text = b ∷ live.text; value = live.value; fits = (lt, live.fits); reads = λ more. live.reads more }
-
 -- one or the other
-pub TakesFront-cond : {A : Type 0} (b : Bool) (p q : Read A) → TakesFront p → TakesFront q → TakesFront (cond b p q)
+pub TakesFront-cond : {A : Type 0} (b : Bool) (p q : CodeReader A) → TakesFront p → TakesFront q → TakesFront (cond b p q)
 TakesFront-cond true p q x y = x
 TakesFront-cond false p q x y = y

@@ -1,12 +1,13 @@
 -- What decoding answers, and the prefix law by which there is one answer.
 use Rattle.std.specs.Prelude.{◌≡◌, ◌≢◌, ℕ, ◌-◌, ◌<◌, ◌≤◌, List, [], ◌++◌, length, take, slice_index, Result, Ok, Err}
 use Rattle.ia32_code.specs.declared.instruction.Inst.{Inst}
+use Rattle.ia32_code.specs.declared.spelling.Spelling.{Spelling}
 use Rattle.ia32_code.specs.declared.decoding.Decoded.{Decoded}
 use Rattle.ia32_code.specs.declared.decoding.Decoded.TheVariants.{One, Short, Unknown}
-use Rattle.ia32_code.specs.Spells.{Spells}
+use Rattle.ia32_code.specs.Spells.{Spells, meaning}
 use Rattle.ia32_code.specs.declared.reading.Stop.{Stop}
 use Rattle.ia32_code.specs.declared.reading.Stop.TheVariants as stop
-use Rattle.ia32_code.specs.Reading.{instruction_at}
+use Rattle.ia32_code.specs.Reading.{spelling_at}
 
 -- a prefix of the bytes spells an instruction
 abbrev pub HasFront : List ℕ → Type 0
@@ -27,14 +28,14 @@ abbrev pub PrefixLaw : Type 0
 PrefixLaw = (s t more : List ℕ) (i j : Inst) → Spells s i → Spells t j → s ++ more ≡ t → (more ≡ []) × (i ≡ j)
 
 -- what was read of so many bytes, as an answer
-abbrev pub answer_of : ℕ → Result (Inst × List ℕ) Stop → Decoded
-answer_of n (Ok x) = One x.0 (n - length x.1)
-answer_of n (Err stop.Short) = Short
-answer_of n (Err stop.Unknown) = Unknown
+abbrev pub decoded_as : ℕ → Result (Spelling × List ℕ) Stop → Decoded
+decoded_as n (Ok x) = One (meaning x.0) (n - length x.1)
+decoded_as n (Err stop.Short) = Short
+decoded_as n (Err stop.Unknown) = Unknown
 
 -- the answer to the bytes: it is one, and `Answers` says what it tells
 unfoldable pub decoded : List ℕ → Decoded
-decoded bytes = answer_of (length bytes) (instruction_at bytes)
+decoded bytes = decoded_as (length bytes) (spelling_at bytes)
 
 -- The answer to bytes tells what they begin with.
 abbrev pub DecodedLaw : Type 0

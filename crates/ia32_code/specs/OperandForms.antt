@@ -81,15 +81,15 @@ after_modrm (Indexed s i b d) = (64 * s + 8 * number i + number b) ∷ disp_byte
 after_modrm (Unbased s i n) = (64 * s + 8 * number i + 5) ∷ to_le_bytes w32 n
 
 -- an index of number 4 is none
-abbrev pub index_of : Reg → Option Reg
-index_of Esp = None
-index_of Eax = Some Eax
-index_of Ecx = Some Ecx
-index_of Edx = Some Edx
-index_of Ebx = Some Ebx
-index_of Ebp = Some Ebp
-index_of Esi = Some Esi
-index_of Edi = Some Edi
+abbrev pub index_register : Reg → Option Reg
+index_register Esp = None
+index_register Eax = Some Eax
+index_register Ecx = Some Ecx
+index_register Edx = Some Edx
+index_register Ebx = Some Ebx
+index_register Ebp = Some Ebp
+index_register Esi = Some Esi
+index_register Edi = Some Edi
 
 -- and its scale is 0, whatever the bits
 abbrev pub scale_of : Reg → ℕ → ℕ
@@ -100,8 +100,8 @@ abbrev pub operand : OperandForm → Operand
 operand (Direct r) = R r
 operand (Based b d) = M (record { base = Some b; index = None; scale = 0; disp = amount d })
 operand (Absolute n) = M (record { base = None; index = None; scale = 0; disp = n })
-operand (Indexed s i b d) = M (record { base = Some b; index = index_of i; scale = scale_of i s; disp = amount d })
-operand (Unbased s i n) = M (record { base = None; index = index_of i; scale = scale_of i s; disp = n })
+operand (Indexed s i b d) = M (record { base = Some b; index = index_register i; scale = scale_of i s; disp = amount d })
+operand (Unbased s i n) = M (record { base = None; index = index_register i; scale = scale_of i s; disp = n })
 
 -- a base of number 4 is spelled with an index byte, and one of number 5 with a displacement
 abbrev pub FormFits : OperandForm → Type 0

@@ -11,55 +11,55 @@ use Rattle.ia32_code.specs.OperandForms.{scale_of}
 use Rattle.ia32_code.specs.Spells.{Filled, text, meaning, Spells}
 use Rattle.ia32_code.specs.Canonical.{canonical_row, Canonical}
 
--- the place of a row in the table
-abbrev pub place : Row → ℕ
-place (AluStore op) = 0
-place (AluLoad op) = 1
-place (AluEax op) = 2
-place (AluWord op) = 3
-place (AluByte op) = 4
-place MovStore = 5
-place MovLoad = 6
-place MovLoadEax = 7
-place MovStoreEax = 8
-place (MovReg d) = 9
-place MovWord = 10
-place Lea = 11
-place TestStore = 12
-place TestEax = 13
-place TestWord = 14
-place (IncReg d) = 15
-place Inc = 16
-place (DecReg d) = 17
-place Dec = 18
-place Not = 19
-place Neg = 20
-place Mul = 21
-place Imul1 = 22
-place Div = 23
-place Idiv = 24
-place Imul2 = 25
-place Imul3Byte = 26
-place Imul3Word = 27
-place (ShiftOne op) = 28
-place (ShiftBy op) = 29
-place (ShiftCl op) = 30
-place Cdq = 31
-place Nop = 32
-place (PushReg d) = 33
-place PushByte = 34
-place PushWord = 35
-place Push = 36
-place (PopReg d) = 37
-place CallRel = 38
-place CallAt = 39
-place Ret = 40
-place JmpWord = 41
-place JmpByte = 42
-place (JccWord cc) = 43
-place (JccByte cc) = 44
-place (PrivBare op) = 45
-place (PrivByte op) = 46
+-- the number of a row's line in the table
+abbrev pub line_number : Row → ℕ
+line_number (AluStore op) = 0
+line_number (AluLoad op) = 1
+line_number (AluEax op) = 2
+line_number (AluWord op) = 3
+line_number (AluByte op) = 4
+line_number MovStore = 5
+line_number MovLoad = 6
+line_number MovLoadEax = 7
+line_number MovStoreEax = 8
+line_number (MovReg d) = 9
+line_number MovWord = 10
+line_number Lea = 11
+line_number TestStore = 12
+line_number TestEax = 13
+line_number TestWord = 14
+line_number (IncReg d) = 15
+line_number Inc = 16
+line_number (DecReg d) = 17
+line_number Dec = 18
+line_number Not = 19
+line_number Neg = 20
+line_number Mul = 21
+line_number Imul1 = 22
+line_number Div = 23
+line_number Idiv = 24
+line_number Imul2 = 25
+line_number Imul3Byte = 26
+line_number Imul3Word = 27
+line_number (ShiftOne op) = 28
+line_number (ShiftBy op) = 29
+line_number (ShiftCl op) = 30
+line_number Cdq = 31
+line_number Nop = 32
+line_number (PushReg d) = 33
+line_number PushByte = 34
+line_number PushWord = 35
+line_number Push = 36
+line_number (PopReg d) = 37
+line_number CallRel = 38
+line_number CallAt = 39
+line_number Ret = 40
+line_number JmpWord = 41
+line_number JmpByte = 42
+line_number (JccWord cc) = 43
+line_number (JccByte cc) = 44
+line_number (PrivBare op) = 45
+line_number (PrivByte op) = 46
 
 -- the scale bits 0 where there is no index
 abbrev pub without_scale : OperandForm → OperandForm
@@ -75,7 +75,7 @@ SameButScale c s = c ≡ record s { form = without_scale s.form }
 
 -- the first spelling is the second, or comes before it
 abbrev pub Precedes : Spelling → Spelling → Type 0
-Precedes c s = (length (text c) < length (text s)) ⊎ ((length (text c) ≡ length (text s)) × ((place c.row < place s.row) ⊎ SameButScale c s))
+Precedes c s = (length (text c) < length (text s)) ⊎ ((length (text c) ≡ length (text s)) × ((line_number c.row < line_number s.row) ⊎ SameButScale c s))
 
 -- a jump or branch with a distance of one byte
 abbrev pub IsShortBranch : Row → Type 0

@@ -1,5 +1,5 @@
 -- The table of spellings, one equation a row (Intel SDM vol. 2, instruction reference and appendix A).
-use Rattle.std.specs.Prelude.{ℕ, ◌+◌, ◌*◌, List, [], ◌∷◌, None, Bool, true, false, ◌==◌, ◌||◌}
+use Rattle.std.specs.Prelude.{◌≡◌, ℕ, ◌+◌, ◌*◌, List, [], ◌∷◌, None, Bool, true, false, ◌==◌, ◌||◌}
 use Rattle.std.specs.Int.{w8, w32, cast_signed}
 use Rattle.ia32_code.specs.declared.instruction.Reg.{Reg}
 use Rattle.ia32_code.specs.declared.instruction.Reg.TheVariants.{Eax}
@@ -16,6 +16,7 @@ use Rattle.ia32_code.specs.declared.instruction.Inst.{Inst}
 use Rattle.ia32_code.specs.declared.instruction.Inst.TheVariants as inst
 use Rattle.ia32_code.specs.declared.row.Row.{Row}
 use Rattle.ia32_code.specs.declared.row.Row.TheVariants.{AluStore, AluLoad, AluEax, AluWord, AluByte, MovStore, MovLoad, MovLoadEax, MovStoreEax, MovReg, MovWord, Lea, TestStore, TestEax, TestWord, IncReg, Inc, DecReg, Dec, Not, Neg, Mul, Imul1, Div, Idiv, Imul2, Imul3Byte, Imul3Word, ShiftOne, ShiftBy, ShiftCl, Cdq, Nop, PushReg, PushByte, PushWord, Push, PopReg, CallRel, CallAt, Ret, JmpWord, JmpByte, JccWord, JccByte, PrivBare, PrivByte}
+use Rattle.ia32_code.specs.declared.row.Encoding.{Encoding}
 use Rattle.ia32_code.specs.declared.row.ModRm.{ModRm}
 use Rattle.ia32_code.specs.declared.row.ModRm.TheVariants.{Absent, Register, Memory, Digit}
 use Rattle.ia32_code.specs.declared.row.Trailing.{Trailing}
@@ -69,6 +70,12 @@ at code modrm trailing gives = record { code = code; modrm = modrm; trailing = t
 abbrev pub opcode_bytes : Bool → ℕ → List ℕ
 opcode_bytes true b = 0x0F ∷ b ∷ []
 opcode_bytes false b = b ∷ []
+
+-- an encoding of the code is that of a line
+pub record SpelledBy (l : Line) (e : Encoding) : Type 0 where
+  pub code : l.code ≡ opcode_bytes e.escaped e.opcode
+  pub modrm : e.modrm ≡ l.modrm
+  pub trailing : e.trailing ≡ l.trailing
 
 -- the word at an address
 abbrev pub memory : ℕ → Operand

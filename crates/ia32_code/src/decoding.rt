@@ -8,7 +8,8 @@ ghost use Rattle.ia32_code.specs.declared.decoding.Decoded.{Decoded};
 ghost use Rattle.ia32_code.specs.Front.{front_of, answered};
 
 use crate::instruction::Inst;
-use crate::reading::{Stop, instruction_of};
+use crate::reading::{Stop, spelling_of};
+use crate::spelling::meaning_of;
 
 /// What bytes begin with.
 #[derive(Clone, Copy, Debug, PartialEq, Eq, Drop)]
@@ -32,9 +33,9 @@ pub fn decode(bytes: &[u8]) -> Decoded
     ensures front { front_of bytes.now ≡ answered result }
     ensures one { result ≡ decoded bytes.now }
 {
-    match instruction_of(bytes) {
-        Ok((inst, rest)) => Decoded::One {
-            inst,
+    match spelling_of(bytes) {
+        Ok((spelling, rest)) => Decoded::One {
+            inst: meaning_of(spelling),
             len: (bytes.len() - rest.len()) as u8,
         },
         Err(Stop::Short) => Decoded::Short,

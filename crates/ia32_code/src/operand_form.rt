@@ -1,6 +1,6 @@
 // Operand forms: the ModRM byte, the index byte (SIB) and the displacement, and the shortest form of an operand.
 ghost use Rattle.std.specs.Prelude.{◌≡◌, ◌<◌};
-ghost use Rattle.ia32_code.specs.OperandForms.{reg, sign_extended, mode};
+ghost use Rattle.ia32_code.specs.OperandForms.{reg, sign_extended, mode, amount, index_register, scale_of, operand};
 ghost use Rattle.ia32_code.specs.Canonical.{fits_byte, shortest_disp, memory_form, shortest_form};
 
 use crate::instruction::{Mem, Operand, Reg};
@@ -54,6 +54,19 @@ pub fn memory(base: Option<Reg>, index: Option<Reg>, scale: u8, disp: u32) -> Op
     })
 }
 
+impl Displacement {
+    /// The number that is added to the address.
+    fn amount(self) -> u32
+        ensures { result ≡ amount self }
+    {
+        match self {
+            Displacement::NoDisp => 0,
+            Displacement::Disp8(byte) => sign_extend(byte),
+            Displacement::Disp32(word) => word,
+        }
+    }
+}
+
 /// The register of a number below 8.
 pub fn reg_of(number: u8) -> Reg
     ensures { result ≡ reg number }
@@ -78,6 +91,42 @@ pub fn sign_extend(byte: u8) -> u32
         byte as u32
     } else {
         byte as u32 + 0xFFFF_FF00
+    }
+}
+
+/// An index of number 4 is none.
+fn index_of(index: Reg) -> Option<Reg>
+    ensures { result ≡ index_register index }
+{
+    if index == Reg::Esp { None } else { Some(index) }
+}
+
+/// The scale of an index: 0 where it is none, whatever the bits.
+fn scale_of(index: Reg, bits: u8) -> u8
+    ensures { result ≡ scale_of index bits }
+{
+    if index == Reg::Esp { 0 } else { bits }
+}
+
+/// The operand that a form stands for.
+pub fn operand_of(form: OperandForm) -> Operand
+    ensures { result ≡ operand form }
+{
+    match form {
+        OperandForm::Direct(reg) => Operand::R(reg),
+        OperandForm::Based(base, disp) => memory(Some(base), None, 0, disp.amount()),
+        OperandForm::Absolute(word) => memory(None, None, 0, word),
+        OperandForm::Indexed(bits, index, base, disp) => {
+            memory(
+                Some(base),
+                index_of(index),
+                scale_of(index, bits),
+                disp.amount(),
+            )
+        }
+        OperandForm::Unbased(bits, index, word) => {
+            memory(None, index_of(index), scale_of(index, bits), word)
+        }
     }
 }
 

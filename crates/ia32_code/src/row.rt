@@ -72,3 +72,14 @@ pub enum Trailing {
     Byte,
     Word,
 }
+
+/// How a row is spelled, from left to right.
+#[derive(Clone, Copy, Debug, PartialEq, Eq, Drop)]
+pub struct Encoding {
+    /// Whether the byte 0F comes first.
+    pub escaped: bool,
+    /// The opcode, with the register, operation or condition that it holds.
+    pub opcode: u8,
+    pub modrm: ModRm,
+    pub trailing: Trailing,
+}

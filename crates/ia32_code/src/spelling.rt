@@ -1,14 +1,13 @@
-// A filled row of the table, and the length of its bytes.
+// A filled row of the table: its instruction and the length of its bytes.
 ghost use Rattle.std.specs.Prelude.{◌≡◌, ◌≤◌, length};
 ghost use Rattle.ia32_code.specs.OperandForms.{disp_bytes};
-ghost use Rattle.ia32_code.specs.Table.{line};
-ghost use Rattle.ia32_code.specs.Spells.{text, modrm_bytes, trailing_bytes};
+ghost use Rattle.ia32_code.specs.Spells.{Filled, text, meaning, modrm_bytes, trailing_bytes};
 ghost use Rattle.ia32_code.specs.Canonical.{fill, without_modrm};
 
-use crate::instruction::Reg;
-use crate::operand_form::{Displacement, OperandForm};
+use crate::instruction::{Inst, Reg};
+use crate::operand_form::{Displacement, OperandForm, operand_of};
 use crate::row::{ModRm, Row, Trailing};
-use crate::table::{modrm_kind, trailing_size};
+use crate::table::{build, encoding_of};
 
 /// A row with its register or digit, operand form and number.
 #[derive(Clone, Copy, Debug, PartialEq, Eq, Drop)]
@@ -37,23 +36,27 @@ pub fn without_modrm(row: Row, number: u32) -> Spelling
     fill(row, Reg::Eax, OperandForm::Direct(Reg::Eax), number)
 }
 
+/// The instruction that a filled row spells.
+pub fn meaning_of(spelling: Spelling) -> Inst
+    requires { Filled spelling }
+    ensures { result ≡ meaning spelling }
+{
+    build(
+        spelling.row,
+        spelling.reg,
+        operand_of(spelling.form),
+        spelling.number,
+    )
+}
+
 /// How many bytes a filled row has.
 pub fn length_of(spelling: Spelling) -> u8
     ensures { result ≡ length (text spelling) }
 {
-    code_length(spelling.row)
-        + modrm_length(modrm_kind(spelling.row), spelling.reg, spelling.form)
-        + trailing_length(trailing_size(spelling.row), spelling.number)
-}
-
-fn code_length(row: Row) -> u8
-    ensures value { result ≡ length (line row).code }
-    ensures small { result ≤ 2 }
-{
-    match row {
-        Row::Imul2 | Row::JccWord(_) => 2,
-        _ => 1,
-    }
+    let encoding = encoding_of(spelling.row);
+    1 + encoding.escaped as u8
+        + modrm_length(encoding.modrm, spelling.reg, spelling.form)
+        + trailing_length(encoding.trailing, spelling.number)
 }
 
 fn modrm_length(modrm: ModRm, reg: Reg, form: OperandForm) -> u8

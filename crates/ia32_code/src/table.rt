@@ -1,169 +1,88 @@
-// The table of spellings as the code has it: each row's opcode, ModRM byte, trailing number and meaning.
-ghost use Rattle.std.specs.Prelude.{◌≡◌, ◌<◌};
+// The table of spellings as the code has it: how each row is spelled, and what it means.
+ghost use Rattle.std.specs.Prelude.{◌≡◌, ◌<◌, true, false};
 ghost use Rattle.std.specs.Int.{w8, cast_signed};
-ghost use Rattle.ia32_code.specs.Table.{line, opcode_bytes};
+ghost use Rattle.ia32_code.specs.Table.{line, SpelledBy};
 ghost use Rattle.ia32_code.specs.Table as spec;
 ghost use Rattle.ia32_code.specs.Spells.{TrailingFits};
 
 use crate::instruction::{Alu, Count, Inst, Operand, Reg, Shift};
 use crate::operand_form::{memory, sign_extend};
-use crate::row::{ModRm, Row, Trailing};
+use crate::row::{Encoding, ModRm, Row, Trailing};
 
-/// The opcode of a row: whether the byte 0F comes first, and the byte.
-pub fn opcode(row: Row) -> (bool, u8)
-    ensures { (line row).code ≡ opcode_bytes result.0 result.1 }
+fn plain(opcode: u8, modrm: ModRm, trailing: Trailing) -> Encoding
+    ensures { result ≡ record { escaped = false; opcode = opcode; modrm = modrm; trailing = trailing } }
 {
-    match row {
-        Row::AluStore(op) => (false, 8 * op.number() + 1),
-        Row::AluLoad(op) => (false, 8 * op.number() + 3),
-        Row::AluEax(op) => (false, 8 * op.number() + 5),
-        Row::AluWord(_) => (false, 0x81),
-        Row::AluByte(_) => (false, 0x83),
-        Row::MovStore => (false, 0x89),
-        Row::MovLoad => (false, 0x8B),
-        Row::MovLoadEax => (false, 0xA1),
-        Row::MovStoreEax => (false, 0xA3),
-        Row::MovReg(reg) => (false, 0xB8 + reg.number()),
-        Row::MovWord => (false, 0xC7),
-        Row::Lea => (false, 0x8D),
-        Row::TestStore => (false, 0x85),
-        Row::TestEax => (false, 0xA9),
-        Row::TestWord | Row::Not | Row::Neg | Row::Mul | Row::Imul1 | Row::Div | Row::Idiv => (
-            false, 0xF7,
-        ),
-        Row::IncReg(reg) => (false, 0x40 + reg.number()),
-        Row::Inc | Row::Dec | Row::Push | Row::CallAt => (false, 0xFF),
-        Row::DecReg(reg) => (false, 0x48 + reg.number()),
-        Row::Imul2 => (true, 0xAF),
-        Row::Imul3Byte => (false, 0x6B),
-        Row::Imul3Word => (false, 0x69),
-        Row::ShiftOne(_) => (false, 0xD1),
-        Row::ShiftBy(_) => (false, 0xC1),
-        Row::ShiftCl(_) => (false, 0xD3),
-        Row::Cdq => (false, 0x99),
-        Row::Nop => (false, 0x90),
-        Row::PushReg(reg) => (false, 0x50 + reg.number()),
-        Row::PushByte => (false, 0x6A),
-        Row::PushWord => (false, 0x68),
-        Row::PopReg(reg) => (false, 0x58 + reg.number()),
-        Row::CallRel => (false, 0xE8),
-        Row::Ret => (false, 0xC3),
-        Row::JmpWord => (false, 0xE9),
-        Row::JmpByte => (false, 0xEB),
-        Row::JccWord(cond) => (true, 0x80 + cond.number()),
-        Row::JccByte(cond) => (false, 0x70 + cond.number()),
-        Row::PrivBare(op) => (false, op),
-        Row::PrivByte(op) => (false, op),
+    Encoding {
+        escaped: false,
+        opcode,
+        modrm,
+        trailing,
     }
 }
 
-/// What stands where the ModRM byte of a row may be.
-pub fn modrm_kind(row: Row) -> ModRm
-    ensures { result ≡ (line row).modrm }
+fn escaped(opcode: u8, modrm: ModRm, trailing: Trailing) -> Encoding
+    ensures { result ≡ record { escaped = true; opcode = opcode; modrm = modrm; trailing = trailing } }
 {
-    match row {
-        Row::AluStore(_) => ModRm::Register,
-        Row::AluLoad(_) => ModRm::Register,
-        Row::AluWord(op) => ModRm::Digit(op.number()),
-        Row::AluByte(op) => ModRm::Digit(op.number()),
-        Row::MovStore => ModRm::Register,
-        Row::MovLoad => ModRm::Register,
-        Row::MovWord => ModRm::Digit(0),
-        Row::Lea => ModRm::Memory,
-        Row::TestStore => ModRm::Register,
-        Row::TestWord => ModRm::Digit(0),
-        Row::Inc => ModRm::Digit(0),
-        Row::Dec => ModRm::Digit(1),
-        Row::Not => ModRm::Digit(2),
-        Row::Neg => ModRm::Digit(3),
-        Row::Mul => ModRm::Digit(4),
-        Row::Imul1 => ModRm::Digit(5),
-        Row::Div => ModRm::Digit(6),
-        Row::Idiv => ModRm::Digit(7),
-        Row::Imul2 => ModRm::Register,
-        Row::Imul3Byte => ModRm::Register,
-        Row::Imul3Word => ModRm::Register,
-        Row::ShiftOne(op) => ModRm::Digit(op.number()),
-        Row::ShiftBy(op) => ModRm::Digit(op.number()),
-        Row::ShiftCl(op) => ModRm::Digit(op.number()),
-        Row::Push => ModRm::Digit(6),
-        Row::CallAt => ModRm::Digit(2),
-        Row::AluEax(_)
-        | Row::MovLoadEax
-        | Row::MovStoreEax
-        | Row::MovReg(_)
-        | Row::TestEax
-        | Row::IncReg(_)
-        | Row::DecReg(_)
-        | Row::Cdq
-        | Row::Nop
-        | Row::PushReg(_)
-        | Row::PushByte
-        | Row::PushWord
-        | Row::PopReg(_)
-        | Row::CallRel
-        | Row::Ret
-        | Row::JmpWord
-        | Row::JmpByte
-        | Row::JccWord(_)
-        | Row::JccByte(_)
-        | Row::PrivBare(_)
-        | Row::PrivByte(_) => ModRm::Absent,
+    Encoding {
+        escaped: true,
+        opcode,
+        modrm,
+        trailing,
     }
 }
 
-/// The number at the end of a row.
-pub fn trailing_size(row: Row) -> Trailing
-    ensures { result ≡ (line row).trailing }
+/// How a row is spelled.
+pub fn encoding_of(row: Row) -> Encoding
+    ensures { SpelledBy (line row) result }
 {
     match row {
-        Row::AluEax(_)
-        | Row::AluWord(_)
-        | Row::MovLoadEax
-        | Row::MovStoreEax
-        | Row::MovReg(_)
-        | Row::MovWord
-        | Row::TestEax
-        | Row::TestWord
-        | Row::Imul3Word
-        | Row::PushWord
-        | Row::CallRel
-        | Row::JmpWord
-        | Row::JccWord(_) => Trailing::Word,
-        Row::AluByte(_)
-        | Row::Imul3Byte
-        | Row::ShiftBy(_)
-        | Row::PushByte
-        | Row::JmpByte
-        | Row::JccByte(_)
-        | Row::PrivByte(_) => Trailing::Byte,
-        Row::AluStore(_)
-        | Row::AluLoad(_)
-        | Row::MovStore
-        | Row::MovLoad
-        | Row::Lea
-        | Row::TestStore
-        | Row::IncReg(_)
-        | Row::Inc
-        | Row::DecReg(_)
-        | Row::Dec
-        | Row::Not
-        | Row::Neg
-        | Row::Mul
-        | Row::Imul1
-        | Row::Div
-        | Row::Idiv
-        | Row::Imul2
-        | Row::ShiftOne(_)
-        | Row::ShiftCl(_)
-        | Row::Cdq
-        | Row::Nop
-        | Row::PushReg(_)
-        | Row::Push
-        | Row::PopReg(_)
-        | Row::CallAt
-        | Row::Ret
-        | Row::PrivBare(_) => Trailing::Nothing,
+        Row::AluStore(op) => plain(8 * op.number() + 1, ModRm::Register, Trailing::Nothing),
+        Row::AluLoad(op) => plain(8 * op.number() + 3, ModRm::Register, Trailing::Nothing),
+        Row::AluEax(op) => plain(8 * op.number() + 5, ModRm::Absent, Trailing::Word),
+        Row::AluWord(op) => plain(0x81, ModRm::Digit(op.number()), Trailing::Word),
+        Row::AluByte(op) => plain(0x83, ModRm::Digit(op.number()), Trailing::Byte),
+        Row::MovStore => plain(0x89, ModRm::Register, Trailing::Nothing),
+        Row::MovLoad => plain(0x8B, ModRm::Register, Trailing::Nothing),
+        Row::MovLoadEax => plain(0xA1, ModRm::Absent, Trailing::Word),
+        Row::MovStoreEax => plain(0xA3, ModRm::Absent, Trailing::Word),
+        Row::MovReg(reg) => plain(0xB8 + reg.number(), ModRm::Absent, Trailing::Word),
+        Row::MovWord => plain(0xC7, ModRm::Digit(0), Trailing::Word),
+        Row::Lea => plain(0x8D, ModRm::Memory, Trailing::Nothing),
+        Row::TestStore => plain(0x85, ModRm::Register, Trailing::Nothing),
+        Row::TestEax => plain(0xA9, ModRm::Absent, Trailing::Word),
+        Row::TestWord => plain(0xF7, ModRm::Digit(0), Trailing::Word),
+        Row::IncReg(reg) => plain(0x40 + reg.number(), ModRm::Absent, Trailing::Nothing),
+        Row::Inc => plain(0xFF, ModRm::Digit(0), Trailing::Nothing),
+        Row::DecReg(reg) => plain(0x48 + reg.number(), ModRm::Absent, Trailing::Nothing),
+        Row::Dec => plain(0xFF, ModRm::Digit(1), Trailing::Nothing),
+        Row::Not => plain(0xF7, ModRm::Digit(2), Trailing::Nothing),
+        Row::Neg => plain(0xF7, ModRm::Digit(3), Trailing::Nothing),
+        Row::Mul => plain(0xF7, ModRm::Digit(4), Trailing::Nothing),
+        Row::Imul1 => plain(0xF7, ModRm::Digit(5), Trailing::Nothing),
+        Row::Div => plain(0xF7, ModRm::Digit(6), Trailing::Nothing),
+        Row::Idiv => plain(0xF7, ModRm::Digit(7), Trailing::Nothing),
+        Row::Imul2 => escaped(0xAF, ModRm::Register, Trailing::Nothing),
+        Row::Imul3Byte => plain(0x6B, ModRm::Register, Trailing::Byte),
+        Row::Imul3Word => plain(0x69, ModRm::Register, Trailing::Word),
+        Row::ShiftOne(op) => plain(0xD1, ModRm::Digit(op.number()), Trailing::Nothing),
+        Row::ShiftBy(op) => plain(0xC1, ModRm::Digit(op.number()), Trailing::Byte),
+        Row::ShiftCl(op) => plain(0xD3, ModRm::Digit(op.number()), Trailing::Nothing),
+        Row::Cdq => plain(0x99, ModRm::Absent, Trailing::Nothing),
+        Row::Nop => plain(0x90, ModRm::Absent, Trailing::Nothing),
+        Row::PushReg(reg) => plain(0x50 + reg.number(), ModRm::Absent, Trailing::Nothing),
+        Row::PushByte => plain(0x6A, ModRm::Absent, Trailing::Byte),
+        Row::PushWord => plain(0x68, ModRm::Absent, Trailing::Word),
+        Row::Push => plain(0xFF, ModRm::Digit(6), Trailing::Nothing),
+        Row::PopReg(reg) => plain(0x58 + reg.number(), ModRm::Absent, Trailing::Nothing),
+        Row::CallRel => plain(0xE8, ModRm::Absent, Trailing::Word),
+        Row::CallAt => plain(0xFF, ModRm::Digit(2), Trailing::Nothing),
+        Row::Ret => plain(0xC3, ModRm::Absent, Trailing::Nothing),
+        Row::JmpWord => plain(0xE9, ModRm::Absent, Trailing::Word),
+        Row::JmpByte => plain(0xEB, ModRm::Absent, Trailing::Byte),
+        Row::JccWord(cond) => escaped(0x80 + cond.number(), ModRm::Absent, Trailing::Word),
+        Row::JccByte(cond) => plain(0x70 + cond.number(), ModRm::Absent, Trailing::Byte),
+        Row::PrivBare(op) => plain(op, ModRm::Absent, Trailing::Nothing),
+        Row::PrivByte(op) => plain(op, ModRm::Absent, Trailing::Byte),
     }
 }
 

@@ -1,15 +1,15 @@
 // Writing a filled row: opcode, ModRM byte with what belongs to it, trailing number.
 ghost use Rattle.std.specs.Prelude.{◌≡◌, ◌+◌, ◌<◌, ◌≤◌, ◌∷◌, ◌++◌, length};
 ghost use Rattle.ia32_code.specs.OperandForms.{modrm_byte, after_modrm, disp_bytes, FormFits};
-ghost use Rattle.ia32_code.specs.Table.{line};
+ghost use Rattle.ia32_code.specs.Table.{opcode_bytes};
 ghost use Rattle.ia32_code.specs.Spells.{Filled, ModRmFits, TrailingFits, text, modrm_bytes, trailing_bytes};
 
 use crate::code_buf::CodeBuf;
 use crate::instruction::Reg;
 use crate::operand_form::{Displacement, OperandForm};
-use crate::row::{ModRm, Row, Trailing};
+use crate::row::{ModRm, Trailing};
 use crate::spelling::Spelling;
-use crate::table::{modrm_kind, opcode, trailing_size};
+use crate::table::encoding_of;
 
 /// Appends the bytes of a filled row.
 pub fn push_spelling(room: &mut CodeBuf, spelling: Spelling)
@@ -17,20 +17,20 @@ pub fn push_spelling(room: &mut CodeBuf, spelling: Spelling)
     requires room { length room.old + length (text spelling) ≤ 16 }
     ensures { room.new ≡ room.old ++ text spelling }
 {
-    push_code(room, spelling.row);
-    push_modrm(room, modrm_kind(spelling.row), spelling.reg, spelling.form);
-    push_number(room, trailing_size(spelling.row), spelling.number);
+    let encoding = encoding_of(spelling.row);
+    push_opcode(room, encoding.escaped, encoding.opcode);
+    push_modrm(room, encoding.modrm, spelling.reg, spelling.form);
+    push_number(room, encoding.trailing, spelling.number);
 }
 
-fn push_code(room: &mut CodeBuf, row: Row)
-    requires { length room.old + length (line row).code ≤ 16 }
-    ensures { room.new ≡ room.old ++ (line row).code }
+fn push_opcode(room: &mut CodeBuf, escaped: bool, opcode: u8)
+    requires { length room.old + length (opcode_bytes escaped opcode) ≤ 16 }
+    ensures { room.new ≡ room.old ++ opcode_bytes escaped opcode }
 {
-    let (escaped, byte) = opcode(row);
     if escaped {
         room.push(0x0F);
     }
-    room.push(byte);
+    room.push(opcode);
 }
 
 fn push_modrm(room: &mut CodeBuf, modrm: ModRm, reg: Reg, form: OperandForm)
