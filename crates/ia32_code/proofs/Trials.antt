@@ -46,14 +46,10 @@ abbrev pub operation_at : Option Alu → ℕ → Option Row
 operation_at None k = None
 operation_at (Some op) k = cond (eqb k 1) (Some (AluStore op)) (cond (eqb k 3) (Some (AluLoad op)) (cond (eqb k 5) (Some (AluEax op)) None))
 
--- every opcode below 64
-operation_rows : tried (λ b. operation_at (operation_of (b / 8)) (b % 8)) 64 ≡ tried (λ b. row_with (b ∷ [])) 64
-unfolding row_with operation_of
-operation_rows = refl
-
 -- an opcode below 64 has the row of its operation
 pub operation_row : (b : ℕ) → b < 64 → operation_at (operation_of (b / 8)) (b % 8) ≡ row_with (b ∷ [])
-operation_row b lt = by_trial (λ b. operation_at (operation_of (b / 8)) (b % 8)) (λ b. row_with (b ∷ [])) 64 b operation_rows lt
+unfolding row_with operation_of
+operation_row b lt = by_trial (λ b. operation_at (operation_of (b / 8)) (b % 8)) (λ b. row_with (b ∷ [])) 64 b refl lt
 
 -- and none where the lower bits are of no row
 pub operation_none : (op : Alu) (k : ℕ) → k ≢ 1 → k ≢ 3 → k ≢ 5 → operation_at (Some op) k ≡ None
@@ -61,68 +57,40 @@ operation_none op k a b c = rw (ne_eqb k 1 a, ne_eqb k 3 b, ne_eqb k 5 c) refl
 
 -- ---- what an opcode holds in its lower bits
 
--- PUSH of each register
-push_rows : tried (λ k. Some (PushReg (reg (k + 0x50 - 0x50)))) 8 ≡ tried (λ k. row_with ((k + 0x50) ∷ [])) 8
-unfolding row_with
-push_rows = refl
-
 -- `50` to `57`
 pub push_row : (b : ℕ) → 0x50 ≤ b → b < 0x58 → Some (PushReg (reg (b - 0x50))) ≡ row_with (b ∷ [])
-push_row b low high = by_trial_from (λ b. Some (PushReg (reg (b - 0x50)))) (λ b. row_with (b ∷ [])) 0x50 8 b push_rows low high
-
--- POP of each register
-pop_rows : tried (λ k. Some (PopReg (reg (k + 0x58 - 0x58)))) 8 ≡ tried (λ k. row_with ((k + 0x58) ∷ [])) 8
 unfolding row_with
-pop_rows = refl
+push_row b low high = by_trial_from (λ b. Some (PushReg (reg (b - 0x50)))) (λ b. row_with (b ∷ [])) 0x50 8 b refl low high
 
 -- `58` to `5F`
 pub pop_row : (b : ℕ) → 0x58 ≤ b → b < 0x60 → Some (PopReg (reg (b - 0x58))) ≡ row_with (b ∷ [])
-pop_row b low high = by_trial_from (λ b. Some (PopReg (reg (b - 0x58)))) (λ b. row_with (b ∷ [])) 0x58 8 b pop_rows low high
-
--- the short branch of each condition
-short_rows : tried (λ k. option_map (λ cc. JccByte cc) (condition_of (k + 0x70 - 0x70))) 16 ≡ tried (λ k. row_with ((k + 0x70) ∷ [])) 16
-unfolding row_with condition_of
-short_rows = refl
+unfolding row_with
+pop_row b low high = by_trial_from (λ b. Some (PopReg (reg (b - 0x58)))) (λ b. row_with (b ∷ [])) 0x58 8 b refl low high
 
 -- `70` to `7F`
 pub short_row : (b : ℕ) → 0x70 ≤ b → b < 0x80 → option_map (λ cc. JccByte cc) (condition_of (b - 0x70)) ≡ row_with (b ∷ [])
-short_row b low high = by_trial_from (λ b. option_map (λ cc. JccByte cc) (condition_of (b - 0x70))) (λ b. row_with (b ∷ [])) 0x70 16 b short_rows low high
-
--- the long branch of each condition
-long_rows : tried (λ k. option_map (λ cc. JccWord cc) (condition_of (k + 0x80 - 0x80))) 16 ≡ tried (λ k. row_with (0x0F ∷ (k + 0x80) ∷ [])) 16
 unfolding row_with condition_of
-long_rows = refl
+short_row b low high = by_trial_from (λ b. option_map (λ cc. JccByte cc) (condition_of (b - 0x70))) (λ b. row_with (b ∷ [])) 0x70 16 b refl low high
 
 -- `0F 80` to `0F 8F`
 pub long_row : (b : ℕ) → 0x80 ≤ b → b < 0x90 → option_map (λ cc. JccWord cc) (condition_of (b - 0x80)) ≡ row_with (0x0F ∷ b ∷ [])
-long_row b low high = by_trial_from (λ b. option_map (λ cc. JccWord cc) (condition_of (b - 0x80))) (λ b. row_with (0x0F ∷ b ∷ [])) 0x80 16 b long_rows low high
-
--- IN and OUT by DX
-port_rows : tried (λ k. Some (PrivBare (k + 0xEC))) 4 ≡ tried (λ k. row_with ((k + 0xEC) ∷ [])) 4
-unfolding row_with
-port_rows = refl
+unfolding row_with condition_of
+long_row b low high = by_trial_from (λ b. option_map (λ cc. JccWord cc) (condition_of (b - 0x80))) (λ b. row_with (0x0F ∷ b ∷ [])) 0x80 16 b refl low high
 
 -- `EC` to `EF`
 pub port_row : (b : ℕ) → 0xEC ≤ b → b < 0xF0 → Some (PrivBare b) ≡ row_with (b ∷ [])
-port_row b low high = by_trial_from (λ b. Some (PrivBare b)) (λ b. row_with (b ∷ [])) 0xEC 4 b port_rows low high
-
--- CLI and STI
-flag_rows : tried (λ k. Some (PrivBare (k + 0xFA))) 2 ≡ tried (λ k. row_with ((k + 0xFA) ∷ [])) 2
 unfolding row_with
-flag_rows = refl
+port_row b low high = by_trial_from (λ b. Some (PrivBare b)) (λ b. row_with (b ∷ [])) 0xEC 4 b refl low high
 
 -- `FA` and `FB`
 pub flag_row : (b : ℕ) → 0xFA ≤ b → b < 0xFC → Some (PrivBare b) ≡ row_with (b ∷ [])
-flag_row b low high = by_trial_from (λ b. Some (PrivBare b)) (λ b. row_with (b ∷ [])) 0xFA 2 b flag_rows low high
-
--- IN and OUT with a byte
-byte_port_rows : tried (λ k. Some (PrivByte (k + 0xE4))) 4 ≡ tried (λ k. row_with ((k + 0xE4) ∷ [])) 4
 unfolding row_with
-byte_port_rows = refl
+flag_row b low high = by_trial_from (λ b. Some (PrivBare b)) (λ b. row_with (b ∷ [])) 0xFA 2 b refl low high
 
 -- `E4` to `E7`
 pub byte_port_row : (b : ℕ) → 0xE4 ≤ b → b < 0xE8 → Some (PrivByte b) ≡ row_with (b ∷ [])
-byte_port_row b low high = by_trial_from (λ b. Some (PrivByte b)) (λ b. row_with (b ∷ [])) 0xE4 4 b byte_port_rows low high
+unfolding row_with
+byte_port_row b low high = by_trial_from (λ b. Some (PrivByte b)) (λ b. row_with (b ∷ [])) 0xE4 4 b refl low high
 
 -- ---- opcodes of no row
 
@@ -179,48 +147,30 @@ no_row b lt h =
 pub at_opcode : (escaped : Bool) (opcode b d : ℕ) (o : Option Row) → escaped ≡ false → opcode ≡ b → o ≡ row_with_digit (b ∷ []) d → o ≡ row_with_digit (opcode_bytes escaped opcode) d
 at_opcode escaped opcode b d o plain is h = rw (plain, is) h
 
--- `81` with each digit
-word_rows : tried (λ d. option_map (λ op. AluWord op) (operation_of d)) 8 ≡ tried (λ d. row_with_digit (0x81 ∷ []) d) 8
-unfolding row_with_digit operation_of
-word_rows = refl
-
 -- `81`
 pub word_row : (d : ℕ) → d < 8 → option_map (λ op. AluWord op) (operation_of d) ≡ row_with_digit (0x81 ∷ []) d
-word_row d lt = by_trial (λ d. option_map (λ op. AluWord op) (operation_of d)) (λ d. row_with_digit (0x81 ∷ []) d) 8 d word_rows lt
-
--- `83` with each digit
-byte_rows : tried (λ d. option_map (λ op. AluByte op) (operation_of d)) 8 ≡ tried (λ d. row_with_digit (0x83 ∷ []) d) 8
 unfolding row_with_digit operation_of
-byte_rows = refl
+word_row d lt = by_trial (λ d. option_map (λ op. AluWord op) (operation_of d)) (λ d. row_with_digit (0x81 ∷ []) d) 8 d refl lt
 
 -- `83`
 pub byte_row : (d : ℕ) → d < 8 → option_map (λ op. AluByte op) (operation_of d) ≡ row_with_digit (0x83 ∷ []) d
-byte_row d lt = by_trial (λ d. option_map (λ op. AluByte op) (operation_of d)) (λ d. row_with_digit (0x83 ∷ []) d) 8 d byte_rows lt
-
--- the shifts by 1, by a byte and by CL with each digit
-one_rows : tried (λ d. option_map (λ op. ShiftOne op) (shift_of_number d)) 8 ≡ tried (λ d. row_with_digit (0xD1 ∷ []) d) 8
-unfolding row_with_digit shift_of_number
-one_rows = refl
-
-by_rows : tried (λ d. option_map (λ op. ShiftBy op) (shift_of_number d)) 8 ≡ tried (λ d. row_with_digit (0xC1 ∷ []) d) 8
-unfolding row_with_digit shift_of_number
-by_rows = refl
-
-cl_rows : tried (λ d. option_map (λ op. ShiftCl op) (shift_of_number d)) 8 ≡ tried (λ d. row_with_digit (0xD3 ∷ []) d) 8
-unfolding row_with_digit shift_of_number
-cl_rows = refl
+unfolding row_with_digit operation_of
+byte_row d lt = by_trial (λ d. option_map (λ op. AluByte op) (operation_of d)) (λ d. row_with_digit (0x83 ∷ []) d) 8 d refl lt
 
 -- `D1`
 pub one_row : (d : ℕ) → d < 8 → option_map (λ op. ShiftOne op) (shift_of_number d) ≡ row_with_digit (0xD1 ∷ []) d
-one_row d lt = by_trial (λ d. option_map (λ op. ShiftOne op) (shift_of_number d)) (λ d. row_with_digit (0xD1 ∷ []) d) 8 d one_rows lt
+unfolding row_with_digit shift_of_number
+one_row d lt = by_trial (λ d. option_map (λ op. ShiftOne op) (shift_of_number d)) (λ d. row_with_digit (0xD1 ∷ []) d) 8 d refl lt
 
 -- `C1`
 pub by_row : (d : ℕ) → d < 8 → option_map (λ op. ShiftBy op) (shift_of_number d) ≡ row_with_digit (0xC1 ∷ []) d
-by_row d lt = by_trial (λ d. option_map (λ op. ShiftBy op) (shift_of_number d)) (λ d. row_with_digit (0xC1 ∷ []) d) 8 d by_rows lt
+unfolding row_with_digit shift_of_number
+by_row d lt = by_trial (λ d. option_map (λ op. ShiftBy op) (shift_of_number d)) (λ d. row_with_digit (0xC1 ∷ []) d) 8 d refl lt
 
 -- `D3`
 pub cl_row : (d : ℕ) → d < 8 → option_map (λ op. ShiftCl op) (shift_of_number d) ≡ row_with_digit (0xD3 ∷ []) d
-cl_row d lt = by_trial (λ d. option_map (λ op. ShiftCl op) (shift_of_number d)) (λ d. row_with_digit (0xD3 ∷ []) d) 8 d cl_rows lt
+unfolding row_with_digit shift_of_number
+cl_row d lt = by_trial (λ d. option_map (λ op. ShiftCl op) (shift_of_number d)) (λ d. row_with_digit (0xD3 ∷ []) d) 8 d refl lt
 
 -- the opcodes that digits tell apart
 abbrev pub digit_opcodes : List ℕ
