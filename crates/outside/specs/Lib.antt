@@ -5,4 +5,5 @@ pub mod Answers
 pub mod Shelf
 pub mod Memory
 pub mod Failing
+pub mod Transfer
 pub mod System

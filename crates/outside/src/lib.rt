@@ -6,18 +6,22 @@
 //
 // In memory there are `MemoryFiles` and `MemorySink`, which fail only at a missing file or where room is short, and
 // `FailingFiles` and `FailingSink`, some of whose calls fail. `SystemFiles` and `StreamSink` are the trusted edge
-// over real files and the standard streams: they tell no bytes and count each failure.
+// over real files and the standard streams: they tell no bytes and count each failure. What they give to a writer whose
+// bytes are known is proved.
 #![tactic(auto)]
 
 mod failing;
 mod faults;
 mod memory;
 mod shelf;
+mod stream;
 mod system;
 mod traits;
+mod transfer;
 
 pub use failing::{FailingCall, FailingFiles, FailingSink};
 pub use memory::{MemoryFiles, MemorySink};
 pub use shelf::FileRoom;
-pub use system::{StreamSink, SystemFiles};
+pub use stream::StreamSink;
+pub use system::SystemFiles;
 pub use traits::{Files, PutFailed, ReadAnswer, Sink, WriteFailed};
