@@ -229,57 +229,44 @@ mod tests {
     use super::*;
     use std::test::Fail;
 
+    // The second call and the third fail, of a write after three bytes.
+    const FAILING: [FailingCall; 2] = [
+        FailingCall {
+            call: 2,
+            through: 3,
+        },
+        FailingCall {
+            call: 3,
+            through: 0,
+        },
+    ];
+
     #[test]
     fn listed_calls_of_files_fail(rt: HostRuntime) -> Result<(), Fail> {
         let rooms = [FileRoom { name: "a", room: 8 }];
-        let failing = [
-            FailingCall {
-                call: 2,
-                through: 3,
-            },
-            FailingCall {
-                call: 3,
-                through: 0,
-            },
-        ];
-        let mut files = FailingFiles::new(rt.alloc(), &rooms, &failing)?;
-        assert_eq!(rt; files.write("a", b"first"), Ok(()));
-        assert_eq!(rt; files.write("a", b"second"), Err(WriteFailed));
-        assert!(rt; files.bytes_of("a").is_some_and(|b| b == b"sec".as_slice()));
-        assert_eq!(rt;
-            files.read(rt.alloc(), "a", 8).err(),
-            Some(ReadAnswer::Failed)
-        );
+        let mut files = FailingFiles::new(rt.alloc(), &rooms, &FAILING)?;
+        for (bytes, want) in [(b"first ", Ok(())), (b"second", Err(WriteFailed))] {
+            assert_eq!(rt; files.write("a", bytes), want);
+        }
+        let unread = files.read(rt.alloc(), "a", 8);
+        assert_eq!(rt; unread.err(), Some(ReadAnswer::Failed));
         let bytes = files.read(rt.alloc(), "a", 8)?;
         assert_eq!(rt; bytes.as_slice(), b"sec".as_slice());
-        assert_eq!(rt; files.read_faults(), 1);
-        assert_eq!(rt; files.write_faults(), 1);
         Ok(())
     }
 
     #[test]
     fn listed_calls_of_a_sink_fail(rt: HostRuntime) -> Result<(), Fail> {
-        let failing = [
-            FailingCall {
-                call: 2,
-                through: 1,
-            },
-            FailingCall {
-                call: 3,
-                through: 9,
-            },
-        ];
-        let mut sink = FailingSink::new(rt.alloc(), 8, &failing)?;
+        let mut sink = FailingSink::new(rt.alloc(), 20, &FAILING)?;
         for (bytes, want) in [
-            (b"ab", Ok(())),
-            (b"cd", Err(PutFailed)),
-            (b"ef", Err(PutFailed)),
-            (b"gh", Ok(())),
+            (b"abcd", Ok(())),
+            (b"efgh", Err(PutFailed)),
+            (b"ijkl", Err(PutFailed)),
+            (b"mnop", Ok(())),
         ] {
             assert_eq!(rt; sink.put(bytes), want);
         }
-        assert_eq!(rt; sink.bytes(), b"abcefgh".as_slice());
-        assert_eq!(rt; sink.faults(), 2);
+        assert_eq!(rt; sink.bytes(), b"abcdefgmnop".as_slice());
         Ok(())
     }
 }

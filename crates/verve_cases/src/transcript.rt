@@ -1,0 +1,56 @@
+// What a command came to, as text.
+use crate::playing::Came;
+use std::alloc::AllocError;
+
+// Adds a line that a sink took. One that stands there several times in a row is shown once, with how often. The bars show
+// where it begins and ends; one that lacks its LF lacks the second bar.
+fn show_line(text: &mut String, name: &str, line: &[u8], times: u64) -> Result<(), AllocError> {
+    write!(text, "  {name} |")?;
+    for byte in line {
+        match *byte {
+            b'\n' => text.push('|')?,
+            byte => text.push(char::from(byte))?,
+        }
+    }
+    if times > 1 {
+        write!(text, " {times} times")?;
+    }
+    text.push('\n')
+}
+
+// Adds so many lines of what a sink took.
+fn show_lines(text: &mut String, name: &str, bytes: &[u8], most: usize) -> Result<(), AllocError> {
+    let mut last: &[u8] = b"";
+    let mut times = 0u64;
+    for line in bytes.split_inclusive(|byte| *byte == b'\n').take(most) {
+        if line == last {
+            times = times.saturating_add(1);
+            continue;
+        }
+        if times > 0 {
+            show_line(text, name, last, times)?;
+        }
+        last = line;
+        times = 1;
+    }
+    if times > 0 {
+        show_line(text, name, last, times)?;
+    }
+    Ok(())
+}
+
+/// Adds what a command came to: a line of numbers, and what the sinks took, of `out` so many lines at most.
+pub fn show(text: &mut String, came: &Came, most: usize) -> Result<(), AllocError> {
+    write!(text, "  status {}, ", came.status)?;
+    match came.turns {
+        Some(turns) => write!(text, "kept after {turns} turns")?,
+        None => write!(text, "none kept")?,
+    }
+    writeln!(
+        text,
+        ", entries {}, failed: read {}, out {}, err {}",
+        came.entries, came.read_faults, came.out_faults, came.err_faults
+    )?;
+    show_lines(text, "out", &came.out, most)?;
+    show_lines(text, "err", &came.err, usize::MAX)
+}
