@@ -1,0 +1,2 @@
+pub mod WordsMean
+pub mod MeantSays
