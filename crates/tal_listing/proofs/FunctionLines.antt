@@ -22,7 +22,7 @@ HasFunctions left [] = Unit {0}
 HasFunctions left (s ∷ later) = (s.start ≤ s.end) × (size s ≤ left) × HasFunctions (left - size s) later
 
 -- The instructions of a function have as many bytes as it says.
-body_length : (room : ℕ) (body : List Spelled) → IsBody room body → length (code_bytes body) ≡ room
+pub body_length : (room : ℕ) (body : List Spelled) → IsBody room body → length (code_bytes body) ≡ room
 body_length room [] h = sym h
 body_length room (s ∷ more) h = omega (arith, length-append s.text (code_bytes more), body_length (room - length s.text) more h.3, h.2)
 

@@ -1,3 +1,4 @@
 pub mod Digits
 pub mod CodeLines
 pub mod FunctionLines
+pub mod EveryByte

@@ -4,7 +4,7 @@ use Rattle.object_layout.specs.Areas.{code_start}
 use Rattle.tal_types.specs.declared.views.Span.{Span}
 use Rattle.tal_image.specs.Image.{ImageParts}
 use Rattle.tal_image.specs.Shown.{spans}
-use Rattle.tal_listing.specs.Lines.{code_text}
+use Rattle.tal_listing.specs.Lines.{Line, lines_from, code_text}
 
 -- the line over a function: its number, and that of its signature
 abbrev pub head_text : ℕ → ℕ → List ℕ
@@ -18,6 +18,11 @@ size s = s.end - s.start
 unfoldable pub functions_text : ℕ → List ℕ → List Span → List ℕ
 functions_text number code [] = []
 functions_text number code (s ∷ later) = head_text number s.sig ++ code_text s.start (take (size s) code) ++ functions_text (number + 1) (drop (size s) code) later
+
+-- the lines of functions with whose code the bytes begin, without what stands over each function
+unfoldable pub functions_lines : List ℕ → List Span → List Line
+functions_lines code [] = []
+functions_lines code (s ∷ later) = lines_from 0 s.start (take (size s) code) ++ functions_lines (drop (size s) code) later
 
 -- the whole listing: each function in its order, with its instructions
 unfoldable pub ListText : ImageParts → List ℕ

@@ -8,6 +8,7 @@
 #![tactic(auto)]
 
 mod functions;
+pub mod laws;
 mod lines;
 mod number_text;
 mod words_text;
