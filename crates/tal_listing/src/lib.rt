@@ -14,3 +14,6 @@ mod number_text;
 mod words_text;
 
 pub use functions::listing;
+
+#[cfg(test)]
+mod tests;

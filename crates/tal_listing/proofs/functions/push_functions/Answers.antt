@@ -1,7 +1,6 @@
-use Rattle.std.proofs.Common.{◌≡◌, ℕ, ◌+◌, ◌-◌, ◌<◌, ◌≤◌, ◌++◌, length, drop, List, [], ◌∷◌, refl, sym, ap, subst, ◌∙◌, arith}
+use Rattle.std.proofs.Common.{◌≡◌, ℕ, ◌+◌, ◌-◌, ◌++◌, length, drop, List, sym, ap, subst, ◌∙◌, arith}
 use Rattle.std.specs.String.{string_bytes}
 use Rattle.object_layout.specs.Areas.{code_start}
-use Rattle.tal_types.specs.declared.views.Span.{Span}
 use Rattle.tal_image.specs.Shown.{spans}
 use Rattle.hex.specs.Hex.{encode_upper}
 use Rattle.tal_listing.specs.Listing.{size, functions_text, ListText}

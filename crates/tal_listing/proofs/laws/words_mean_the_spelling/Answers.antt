@@ -1,4 +1,4 @@
-use Rattle.std.proofs.Common.{◌≡◌, sym, subst}
+use Rattle.std.proofs.Common.{◌≡◌, subst}
 use Rattle.ia32_code.specs.Canonical.{Canonical}
 use Rattle.ia32_code.specs.declared.instruction.Inst.{Inst}
 use Rattle.std.proofs.Common.{Some}
