@@ -1,6 +1,6 @@
 ghost use Rattle.std.specs.Prelude.{◌≡◌, ◌≢◌, ℕ, ◌+◌, ◌-◌, ◌<◌, ◌≤◌, ◌%◌, ◌^◌, ◌==◌, if◌then◌else◌, None, true, false, length, slice_set};
 ghost use Rattle.ia32_code.specs.Canonical.{Canonical};
-ghost use Rattle.tal_flow.specs.Rules.{next_of};
+ghost use Rattle.tal_flow.specs.Rules.{next_address};
 ghost use Rattle.tal_image.specs.Image.{ImageParts};
 ghost use Rattle.kernel_machine.specs.States.{State};
 ghost use Rattle.kernel_machine.specs.Words.{top, is_push, overflows, Runs, Leads, Left, Leaves, is_stack_word, memory_of, came_back, halted_by};
@@ -37,7 +37,7 @@ fn execute(cpu: &mut Cpu, stack: &mut StackWords, inst: &Inst, len: u8) -> Effec
     requires runs { Runs inst.now len cpu.old stack.old }
     requires room { overflows inst.now cpu.old ≡ false }
     ensures { (image : ImageParts) (s t : State) → Leads image inst.now len cpu.old stack.old s t
-        → Left result (next_of s.place len) cpu.new stack.new s t }
+        → Left result (next_address s.place len) cpu.new stack.new s t }
 {
     // A fact for the proof, before and after.
     stack.whole();

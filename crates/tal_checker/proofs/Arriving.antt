@@ -12,21 +12,21 @@ use Rattle.tal_types.specs.declared.types.Ty.TheVariants.{Junk}
 use Rattle.tal_types.specs.declared.views.Span.{Span}
 use Rattle.tal_flow.specs.Edges.{branching, falls_to, branches_to}
 use Rattle.tal_flow.specs.Forms.{form_of}
-use Rattle.tal_flow.specs.Rules.{in_function, edge_fits, is_dead, rule_of, next_of, Falls, Branches, Target}
+use Rattle.tal_flow.specs.Rules.{in_function, edge_fits, is_dead, rule_of, next_address, Falls, Branches, Target}
 use Rattle.tal_flow.specs.Strongest.{Placed, rule_at, falls_from, known_at, carried, start, At, placed_at, Chained}
 use Rattle.object_layout.specs.Areas.{code_start}
 use Rattle.tal_image.specs.Conditions.{starts_stack}
 use Rattle.tal_image.specs.Image.{ImageParts}
 use Rattle.tal_image.specs.Shown.{shown, spans, begun_by, block_in, function_in}
 use Rattle.tal_checker.specs.Instructions.{instructions}
-use Rattle.tal_checker.specs.Running.{instruction_in, signature_at, IsSpelledAt, Arrives, Begins, RunsOn, AcceptedRuns}
+use Rattle.tal_checker.specs.Running.{instruction_in, signature_at, IsSpelledAt, Arrives, BeginsFunction, RunsOn, AcceptedRuns}
 use Rattle.tal_checker.specs.WellTyped.{WellTyped, StrongestDecides, strongest_at}
 use Rattle.tal_checker.proofs.SpelledCode.{SpellingLength, placed_spelled, Spot, spot, next_there, next-is, chained}
 use Rattle.tal_checker.proofs.FunctionSpans.{Covers, covered, begun_covered, numbered}
 use Rattle.tal_checker.proofs.FormedCode.{HasCode, has_code}
 use Rattle.tal_checker.proofs.FirstRefusals.{OneRuleIsLeast}
 use Rattle.tal_checker.proofs.StrongestLaw.{RowsPass, none_fails}
-use Rattle.tal_checker.proofs.Edges.{EdgesFit, edges-fit, target-is, target-block, in-span}
+use Rattle.tal_checker.proofs.Edges.{EdgesFit, no_number, edges-fit, target-is, target-block, in-span}
 use Rattle.tal_checker.proofs.OwnContexts.{at-known, known-function, known-block}
 
 -- the laws on which runs rest
@@ -36,8 +36,8 @@ pub record RunLaws : Type 0 where
   pub decides : StrongestDecides
   pub rows : RowsPass
   pub rules : OneRuleIsLeast
-  pub next : (v : ShownImage) (xs : List Placed) (n pc : ℕ) (x y : Placed) → Chained n xs → placed_at xs pc ≡ Some x → placed_at xs (next_of x.pc x.len) ≡ Some y
-      → At v xs (next_of x.pc x.len) ≡ start v (next_of x.pc x.len) (falls_from v (At v xs pc) x)
+  pub next : (v : ShownImage) (xs : List Placed) (n pc : ℕ) (x y : Placed) → Chained n xs → placed_at xs pc ≡ Some x → placed_at xs (next_address x.pc x.len) ≡ Some y
+      → At v xs (next_address x.pc x.len) ≡ start v (next_address x.pc x.len) (falls_from v (At v xs pc) x)
   pub told : (s : ShapesView) (a b : ContextView) → context_below s a b ≡ true → ContextBelow s a b
   pub reflexive : (s : ShapesView) (a : ContextView) → ContextBelow s a a
 
@@ -114,18 +114,19 @@ module _ (laws : RunLaws) (image : ImageParts) (w : WellTyped image) (k : HasCod
 
   -- no rule fails, in the words of the form
   fits-at : (pc : ℕ) (x : Placed) (c : LiveContext) → instruction_in image pc ≡ Some x → strongest_at image pc ≡ Live c
-      → EdgesFit (shown image) c x.pc (next_of x.pc x.len) (form_of (next_of x.pc x.len) x.inst)
+      → EdgesFit (shown image) c x.pc (next_address x.pc x.len) (form_of (next_address x.pc x.len) x.inst)
   unfolding rule_of
   fits-at pc x c e a =
       let n = no-rule pc x e in
-      edges-fit (shown image) c x.pc (next_of x.pc x.len) (form_of (next_of x.pc x.len) x.inst) (ap (λ (d : ContextView). rule_at (shown image) d x) (sym a) ∙ n)
+      edges-fit (shown image) c x.pc (next_address x.pc x.len) (form_of (next_address x.pc x.len) x.inst)
+      (no_number _ (ap (λ (d : ContextView). rule_at (shown image) d x) (sym a) ∙ n))
 
   branches : (pc : ℕ) (x : Placed) (c d : LiveContext) (to : ℕ) → instruction_in image pc ≡ Some x → strongest_at image pc ≡ Live c
       → Branches (shown image) (Live c) x.pc x.inst x.len ≡ Live d → Target x.pc x.inst x.len ≡ Some to → Arrives image pc to (Live d)
   unfolding Branches Target branches_to
   branches pc x c d to e a b t =
       let v = shown image in
-      let form = form_of (next_of x.pc x.len) x.inst in
+      let form = form_of (next_address x.pc x.len) x.inst in
       let f = fits-at pc x c e a in
       let here = (spot-of pc x e).address in
       let block = target-block v x.pc to (target-is v c x.pc to form t f.operands) in
@@ -134,7 +135,7 @@ module _ (laws : RunLaws) (image : ImageParts) (w : WellTyped image) (k : HasCod
       to-block pc to x d block.0.0 e (subst (λ (n : ℕ). in_function v n to ≡ true) here block.1) block.0.1 fit
 
   -- a fall to no block arrives with what falls
-  to-next : (pc to : ℕ) (x y : Placed) (d : LiveContext) → instruction_in image pc ≡ Some x → instruction_in image to ≡ Some y → to ≡ next_of x.pc x.len
+  to-next : (pc to : ℕ) (x y : Placed) (d : LiveContext) → instruction_in image pc ≡ Some x → instruction_in image to ≡ Some y → to ≡ next_address x.pc x.len
       → falls_from (shown image) (strongest_at image pc) x ≡ Live d
       → begun_by to (spans code_start image.functions) ≡ None → block_in to image.blocks ≡ None → strongest_at image to ≡ Live d
   unfolding strongest_at start shown
@@ -142,18 +143,18 @@ module _ (laws : RunLaws) (image : ImageParts) (w : WellTyped image) (k : HasCod
       let v = shown image in
       let xs = instructions image.code in
       let chain : Chained code_start xs = subst (Chained code_start) (sym k.instructions_are) (chained k.code code_start k.texts (subst (λ (t : List ℕ). code_start + length t < 2 ^ 32) k.bytes k.room)) in
-      let there : placed_at xs (next_of x.pc x.len) ≡ Some y = ap (λ (m : ℕ). placed_at xs m) (sym n) ∙ f in
+      let there : placed_at xs (next_address x.pc x.len) ≡ Some y = ap (λ (m : ℕ). placed_at xs m) (sym n) ∙ f in
       let step = laws.next v xs code_start pc x y chain e there in
-      let own : known_at v (next_of x.pc x.len) ≡ None = ap (known_at v) (sym n) ∙ known-block v to None g b in
+      let own : known_at v (next_address x.pc x.len) ≡ None = ap (known_at v) (sym n) ∙ known-block v to None g b in
       ap (λ (m : ℕ). At v xs m) n ∙ step ∙ ap (carried (falls_from v (At v xs pc) x)) own ∙ falls
 
   falls : (pc : ℕ) (x : Placed) (c d : LiveContext) → instruction_in image pc ≡ Some x → strongest_at image pc ≡ Live c → falls_from (shown image) (Live c) x ≡ Live d
-      → Arrives image pc (next_of x.pc x.len) (Live d)
+      → Arrives image pc (next_address x.pc x.len) (Live d)
   unfolding Falls falls_to shown is_dead
   falls pc x c d e a b =
       let v = shown image in
-      let form = form_of (next_of x.pc x.len) x.inst in
-      let next = next_of x.pc x.len in
+      let form = form_of (next_address x.pc x.len) x.inst in
+      let next = next_address x.pc x.len in
       let f = fits-at pc x c e a in
       let s = spot-of pc x e in
       let here = s.address in
@@ -180,7 +181,7 @@ module _ (laws : RunLaws) (image : ImageParts) (w : WellTyped image) (k : HasCod
       living : (d : LiveContext) (b : Bool) → (is_dead (Live d) || b) ≡ true → b ≡ true
       living d b e = e
 
-      arrive : (next : ℕ) (y : Placed) → next ≡ next_of x.pc x.len → instruction_in image next ≡ Some y → begun_by next (spans code_start image.functions) ≡ None
+      arrive : (next : ℕ) (y : Placed) → next ≡ next_address x.pc x.len → instruction_in image next ≡ Some y → begun_by next (spans code_start image.functions) ≡ None
           → in_function (shown image) pc next ≡ true → edge_fits (shown image).shapes (Live d) ((shown image).block_at next) ≡ true
           → (shown image).function_of next ≡ (shown image).function_of pc → (o : Option ContextView) → (shown image).block_at next ≡ o → Arrives image pc next (Live d)
       arrive next y n h unbegun inside fit same (Some q) block = to-block pc next x d q e inside block fit
@@ -192,7 +193,7 @@ module _ (laws : RunLaws) (image : ImageParts) (w : WellTyped image) (k : HasCod
       }
 
   -- a function that begins at an address
-  begins : (address g : ℕ) (sig : Sig) → (shown image).function_at address ≡ Some g → (shown image).sig g ≡ Some sig → Begins image address sig
+  begins : (address g : ℕ) (sig : Sig) → (shown image).function_at address ≡ Some g → (shown image).sig g ≡ Some sig → BeginsFunction image address sig
   unfolding shown signature_at strongest_at At
   begins address g sig e s =
       let p = k.begins address g e in
@@ -213,7 +214,7 @@ module _ (laws : RunLaws) (image : ImageParts) (w : WellTyped image) (k : HasCod
 
   -- a stack begins at a function
   starts : (s f : ℕ) → slice_get image.entries s ≡ Some f
-      → (span : Span) × (sig : Sig) × (function_in image f ≡ Some span) × Begins image span.start sig × (starts_stack sig ≡ true)
+      → (span : Span) × (sig : Sig) × (function_in image f ≡ Some span) × BeginsFunction image span.start sig × (starts_stack sig ≡ true)
   unfolding function_in shown
   starts s f e =
       let t = k.entries s f e in

@@ -10,13 +10,13 @@ use Rattle.tal_types.specs.declared.types.Ty.{Ty}
 use Rattle.tal_types.specs.declared.types.Ty.TheVariants.{Num}
 use Rattle.tal_types.specs.declared.contexts.Context.{Context}
 use Rattle.tal_types.specs.Kept.{type_at, live_of, context_of}
-use Rattle.tal_checker.specs.Frames.{refers, reference_bits, row_in}
+use Rattle.tal_checker.specs.Frames.{may_refer, reference_bits, row_in}
 
 -- so many bits make no larger number
 pub bits-small : (ts : List Ty) → reference_bits ts < 2 ^ length ts
 unfolding reference_bits
 bits-small [] = omega arith
-bits-small (t ∷ ts) = go (refers t) (bits-small ts)
+bits-small (t ∷ ts) = go (may_refer t) (bits-small ts)
   where
     go : (b : Bool) → reference_bits ts < 2 ^ length ts → (if b then 1 else 0) + 2 * reference_bits ts < 2 ^ suc (length ts)
     go true h = let e = pow-succ' 2 (length ts) in omega arith
@@ -28,7 +28,7 @@ bits-word ts n h = let a = bits-small ts in let b : 2 ^ length ts ≤ 2 ^ n = po
 
 -- the bits from one type on are one bit and those of the rest
 pub bits-more : (ts : List Ty) (at : ℕ) → 0 < at → at ≤ length ts
-    → (if refers (get_or ts (at - 1) Num) then 1 else 0) + 2 * reference_bits (drop at ts) ≡ reference_bits (drop (at - 1) ts)
+    → (if may_refer (get_or ts (at - 1) Num) then 1 else 0) + 2 * reference_bits (drop at ts) ≡ reference_bits (drop (at - 1) ts)
 unfolding reference_bits
 bits-more ts zero some h = absurd (omega arith)
 bits-more ts (suc at) some h =
@@ -38,12 +38,12 @@ bits-more ts (suc at) some h =
 
 -- one bit more
 pub bits-longer : (ts : List Ty) (at bits bit : ℕ) → 0 < at → at ≤ length ts → bits ≡ reference_bits (drop at ts)
-    → bit ≡ (if refers (get_or ts (at - 1) Num) then 1 else 0) → 2 * bits + bit ≡ reference_bits (drop (at - 1) ts)
-bits-longer ts at bits bit some h e f = let m = bits-more ts at some h in rw (e, f) (let s : 2 * reference_bits (drop at ts) + (if refers (get_or ts (at - 1) Num) then 1 else 0) ≡ (if refers (get_or ts (at - 1) Num) then 1 else 0) + 2 * reference_bits (drop at ts) = omega arith in s ∙ m)
+    → bit ≡ (if may_refer (get_or ts (at - 1) Num) then 1 else 0) → 2 * bits + bit ≡ reference_bits (drop (at - 1) ts)
+bits-longer ts at bits bit some h e f = let m = bits-more ts at some h in rw (e, f) (let s : 2 * reference_bits (drop at ts) + (if may_refer (get_or ts (at - 1) Num) then 1 else 0) ≡ (if may_refer (get_or ts (at - 1) Num) then 1 else 0) + 2 * reference_bits (drop at ts) = omega arith in s ∙ m)
 
 -- two of 64 bits fit one word
 pub bits-fit : (ts : List Ty) (at bits bit : ℕ) → 0 < at → at ≤ length ts → length ts ≤ 64 → bits ≡ reference_bits (drop at ts)
-    → bit ≡ (if refers (get_or ts (at - 1) Num) then 1 else 0) → 2 * bits + bit < 2 ^ 64
+    → bit ≡ (if may_refer (get_or ts (at - 1) Num) then 1 else 0) → 2 * bits + bit < 2 ^ 64
 bits-fit ts at bits bit some h l e f =
     let a = bits-longer ts at bits bit some h e f in
     let b = bits-word (drop (at - 1) ts) 64 (omega (arith, length-drop (at - 1) ts)) in

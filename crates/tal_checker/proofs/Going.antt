@@ -15,7 +15,7 @@ use Rattle.tal_flow.specs.Strongest.{Placed, NoRuleAt, LeastRuleAt, falls_from, 
 use Rattle.object_layout.specs.Areas.{code_start}
 use Rattle.frame_tables.specs.FrameRows.{RowAt}
 use Rattle.tal_checker.specs.Instructions.{placed_from, instructions}
-use Rattle.tal_checker.specs.Frames.{row_in, rows_of}
+use Rattle.tal_checker.specs.Frames.{row_in, frame_rows}
 use Rattle.tal_checker.specs.Passing.{RefusedIn, Passed}
 use Rattle.tal_checker.proofs.PlacedLists.{Ordered}
 use Rattle.tal_checker.proofs.CodeInstructions.{placed-step, placed-end, placed-ordered}
@@ -25,7 +25,7 @@ use Rattle.tal_checker.proofs.FirstRefusals.{refused_first, refused_later}
 pub record Left (v : ShownImage) (code : List ℕ) (pc : ℕ) (bytes : List ℕ) (c : ContextView) (rows : List RowAt) : Type 0 where
   pub accepts : NoneFails v (placed_from 0 pc bytes) (contexts v (placed_from 0 pc bytes) c) → NoneFails v (instructions code) (contexts v (instructions code) Dead)
   pub refuses : (x rule : ℕ) → RefusedIn v (placed_from 0 pc bytes) c x rule → RefusedIn v (instructions code) Dead x rule
-  pub kept : rows ++ rows_of (placed_from 0 pc bytes) (contexts v (placed_from 0 pc bytes) c) ≡ rows_of (instructions code) (contexts v (instructions code) Dead)
+  pub kept : rows ++ frame_rows (placed_from 0 pc bytes) (contexts v (placed_from 0 pc bytes) c) ≡ frame_rows (instructions code) (contexts v (instructions code) Dead)
 
 -- at first all of the code is left
 pub all_left : (v : ShownImage) (code : List ℕ) → Left v code code_start code Dead []
@@ -39,7 +39,7 @@ none_left v code pc bytes c rows l e =
     let end = placed-end pc bytes e in
     record {
       none_fails = l.accepts (subst (λ (t : List Placed). NoneFails v t (contexts v t c)) (sym end) tt);
-      rows = sym (append-nil rows) ∙ ap (λ (t : List Placed). rows ++ rows_of t (contexts v t c)) (sym end) ∙ l.kept;
+      rows = sym (append-nil rows) ∙ ap (λ (t : List Placed). rows ++ frame_rows t (contexts v t c)) (sym end) ∙ l.kept;
     }
 
 -- the rows in front of those of the instruction at the front are below it
@@ -84,6 +84,6 @@ module _ (v : ShownImage) (code : List ℕ) (pc : ℕ) (bytes : List ℕ) (c : C
         accepts = λ none. l.accepts (subst (λ (t : List Placed). NoneFails v t (contexts v t c)) (sym step) (p, none));
         refuses = λ y rule q. l.refuses y rule (subst (λ (t : List Placed). RefusedIn v t c y rule) (sym step) (refused_later v x xs c y rule ordered p q));
         kept =
-            append_assoc rows (record { pc = pc; row = row_in (start v pc c) } ∷ []) (rows_of xs (contexts v xs (falls_from v (start v pc c) x)))
-            ∙ ap (λ (t : List Placed). rows ++ rows_of t (contexts v t c)) (sym step) ∙ l.kept;
+            append_assoc rows (record { pc = pc; row = row_in (start v pc c) } ∷ []) (frame_rows xs (contexts v xs (falls_from v (start v pc c) x)))
+            ∙ ap (λ (t : List Placed). rows ++ frame_rows t (contexts v t c)) (sym step) ∙ l.kept;
       }))

@@ -8,7 +8,7 @@ use Rattle.std.proofs.lemmas.List.{length-append, take_at, drop_at, drop-drop}
 use Rattle.ia32_code.specs.declared.instruction.Inst.{Inst}
 use Rattle.ia32_code.specs.Front.{front_of, FrontLaw}
 use Rattle.ia32_code.specs.Spells.{Spells}
-use Rattle.tal_flow.specs.Rules.{next_of}
+use Rattle.tal_flow.specs.Rules.{next_address}
 use Rattle.tal_flow.specs.Strongest.{Placed, placed_at, Chained}
 use Rattle.tal_image.specs.Conditions.{Spelled, begins_at}
 use Rattle.tal_image.specs.Fields.{code_bytes}
@@ -143,8 +143,8 @@ next_there (s ∷ more) pc at x h e l =
     ]
 
 -- where addresses do not wrap each begins where the one before ends
-pub next-is : (pc n : ℕ) → pc + n < 2 ^ 32 → next_of pc n ≡ pc + n
-unfolding next_of
+pub next-is : (pc n : ℕ) → pc + n < 2 ^ 32 → next_address pc n ≡ pc + n
+unfolding next_address
 next-is pc n h = omega arith
 
 -- spelled instructions lie one after another

@@ -1,11 +1,13 @@
 -- The law of the strongest context, for images.
 use Rattle.std.specs.Prelude.{if◌then◌else◌, ◌==◌, ◌↔◌}
-use Rattle.std.proofs.Common.{◌≡◌, ℕ, ◌+◌, inl, inr, Bool, true, false, Some, List, [], ◌∷◌, subst}
+use Rattle.std.proofs.Common.{◌≡◌, ℕ, ◌+◌, inl, inr, Bool, true, false, Some, List, [], ◌∷◌, refl, subst}
 use Rattle.std.proofs.lemmas.Option.{same_Some}
 use Rattle.object_layout.specs.Laws.{ClassLaws}
-use Rattle.tal_types.specs.Contexts.{ContextView, Dead, plain}
+use Rattle.ia32_code.specs.declared.instruction.Reg.TheVariants.{Esp}
+use Rattle.tal_types.specs.declared.types.Ty.TheVariants.{Junk}
+use Rattle.tal_types.specs.Contexts.{LiveContext, ContextView, Dead, Live, plain, register_type}
 use Rattle.tal_types.specs.Shown.{ShownImage}
-use Rattle.tal_flow.specs.Strongest.{Placed, NoRuleAt, contexts, At, NoneFails, Joined, placed_at, HasOneHead, BlocksHaveOneHead}
+use Rattle.tal_flow.specs.Strongest.{Placed, NoRuleAt, contexts, At, NoneFails, Joined, placed_at, HasOneHead, BlocksHaveOneHead, HasJunkEsp, BlocksHaveJunkEsp}
 use Rattle.object_layout.specs.Areas.{code_start}
 use Rattle.tal_image.specs.declared.parts.BlockPart.{BlockPart}
 use Rattle.tal_image.specs.Image.{ImageParts}
@@ -32,6 +34,31 @@ block-head pc (b ∷ bs) c e = go (code_start + b.offset == pc) e (λ k. block-h
 pub image-heads : (image : ImageParts) → BlocksHaveOneHead (shown image)
 unfolding shown
 image-heads image pc c e = block-head pc image.blocks c e
+
+-- nor of what ESP holds
+block-esp : (pc : ℕ) (bs : List BlockPart) (c : ContextView) → block_in pc bs ≡ Some c → HasJunkEsp c
+unfolding block_in plain register_type
+block-esp pc [] c e = absurd cc
+block-esp pc (b ∷ bs) c e = go (code_start + b.offset == pc) e (λ k. block-esp pc bs c k)
+  where
+    go : (t : Bool) → (if t then Some (plain b.types b.slots) else block_in pc bs) ≡ Some c → (block_in pc bs ≡ Some c → HasJunkEsp c) → HasJunkEsp c
+    go true e more = subst HasJunkEsp (same_Some (plain b.types b.slots) c e) refl
+    go false e more = more e
+
+-- an image's blocks know nothing of what ESP holds
+image-esp : (image : ImageParts) → BlocksHaveJunkEsp (shown image)
+unfolding shown
+image-esp image pc c e = block-esp pc image.blocks c e
+
+-- the law of the flow on ESP, for each list of instructions
+abbrev pub EspIsJunk : Type 0
+EspIsJunk = (v : ShownImage) → BlocksHaveJunkEsp v → (xs : List Placed) (pc : ℕ) → NoneFails v xs (contexts v xs Dead) → HasJunkEsp (At v xs pc)
+
+-- nothing is known of what ESP holds in an image that is well typed
+pub esp_is_junk : StrongestDecides → EspIsJunk → (image : ImageParts) (pc : ℕ) (c : LiveContext) → WellTyped image → strongest_at image pc ≡ Live c → c.regs Esp ≡ Junk
+unfolding strongest strongest_at
+esp_is_junk decides junk image pc c w e =
+    subst HasJunkEsp e (junk (shown image) (image-esp image) (instructions image.code) pc ((decides image w.formed).0 w))
 
 -- the contexts of the flow's law, for each list of instructions
 abbrev pub ServeExactly : Type 0

@@ -13,22 +13,22 @@ use Rattle.tal_checker.specs.Instructions.{instructions}
 use Rattle.tal_checker.specs.WellTyped.{strongest, strongest_at}
 
 -- a value of the type may refer to an object or an array
-unfoldable pub refers : Ty → Bool
-refers Num = false
-refers (Ref c) = true
-refers (Obj c) = true
-refers (ArrRef k) = true
-refers (Arr k) = true
-refers (Fun g) = false
-refers (Code g) = false
-refers (Tab c) = false
-refers (Desc k) = false
-refers Junk = false
+unfoldable pub may_refer : Ty → Bool
+may_refer Num = false
+may_refer (Ref c) = true
+may_refer (Obj c) = true
+may_refer (ArrRef k) = true
+may_refer (Arr k) = true
+may_refer (Fun g) = false
+may_refer (Code g) = false
+may_refer (Tab c) = false
+may_refer (Desc k) = false
+may_refer Junk = false
 
 -- bit i is set where type i may refer
 unfoldable pub reference_bits : List Ty → ℕ
 reference_bits [] = 0
-reference_bits (t ∷ ts) = (if refers t then 1 else 0) + 2 * reference_bits ts
+reference_bits (t ∷ ts) = (if may_refer t then 1 else 0) + 2 * reference_bits ts
 
 -- the types of the registers by their numbers
 abbrev pub register_types : LiveContext → List Ty
@@ -40,14 +40,14 @@ row_in Dead = record { regs = 0; slots = 0; refs = 0 }
 row_in (Live c) = record { regs = reference_bits (register_types c); slots = length c.slots; refs = reference_bits c.slots }
 
 -- a row for each instruction, by the context that stands for it in the list
-abbrev pub rows_of : List Placed → List ContextView → List RowAt
-rows_of [] cs = []
-rows_of (x ∷ xs) [] = []
-rows_of (x ∷ xs) (c ∷ cs) = record { pc = x.pc; row = row_in c } ∷ rows_of xs cs
+abbrev pub frame_rows : List Placed → List ContextView → List RowAt
+frame_rows [] cs = []
+frame_rows (x ∷ xs) [] = []
+frame_rows (x ∷ xs) (c ∷ cs) = record { pc = x.pc; row = row_in c } ∷ frame_rows xs cs
 
 -- the rows of an image: one for each instruction, by its strongest context
 unfoldable pub frames_of : ImageParts → List RowAt
-frames_of image = rows_of (instructions image.code) (strongest image)
+frames_of image = frame_rows (instructions image.code) (strongest image)
 
 -- an image has a row at an address exactly where an instruction begins, and it is that of the strongest context there
 abbrev pub RowsByAddress : Type 0

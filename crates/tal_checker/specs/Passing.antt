@@ -7,7 +7,7 @@ use Rattle.frame_tables.specs.FrameRows.{RowAt}
 use Rattle.tal_checker.specs.declared.answer.CheckAnswer.{CheckAnswer}
 use Rattle.tal_checker.specs.declared.answer.CheckAnswer.TheVariants.{Refused, NoMemory}
 use Rattle.tal_checker.specs.Instructions.{instructions}
-use Rattle.tal_checker.specs.Frames.{rows_of}
+use Rattle.tal_checker.specs.Frames.{frame_rows}
 
 -- the least address among these instructions where a rule fails, and the least rule there, where c falls to the first
 pub record RefusedIn (v : ShownImage) (xs : List Placed) (c : ContextView) (address rule : ℕ) : Type 0 where
@@ -19,9 +19,9 @@ pub record RefusedIn (v : ShownImage) (xs : List Placed) (c : ContextView) (addr
 -- no rule fails in the code, and these are the rows of its frames
 pub record Passed (v : ShownImage) (code : List ℕ) (frames : List RowAt) : Type 0 where
   pub none_fails : NoneFails v (instructions code) (contexts v (instructions code) Dead)
-  pub rows : frames ≡ rows_of (instructions code) (contexts v (instructions code) Dead)
+  pub rows : frames ≡ frame_rows (instructions code) (contexts v (instructions code) Dead)
 
 -- what an answer says of the code that was gone over
-abbrev pub Refuses : ShownImage → List ℕ → CheckAnswer → Type 0
-Refuses v code (Refused address rule) = RefusedIn v (instructions code) Dead address rule
-Refuses v code NoMemory = Unit {0}
+abbrev pub RefusesCode : ShownImage → List ℕ → CheckAnswer → Type 0
+RefusesCode v code (Refused address rule) = RefusedIn v (instructions code) Dead address rule
+RefusesCode v code NoMemory = Unit {0}

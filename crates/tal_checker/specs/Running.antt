@@ -5,7 +5,7 @@ use Rattle.ia32_code.specs.Front.{front_of}
 use Rattle.tal_types.specs.declared.signatures.Sig.{Sig}
 use Rattle.tal_types.specs.declared.views.Span.{Span}
 use Rattle.tal_types.specs.Contexts.{LiveContext, ContextView, Live, ContextBelow, entry}
-use Rattle.tal_flow.specs.Rules.{next_of, Branches, Target}
+use Rattle.tal_flow.specs.Rules.{next_address, Branches, Target}
 use Rattle.tal_flow.specs.Strongest.{Placed, rule_at, falls_from, placed_at}
 use Rattle.tal_image.specs.Image.{ImageParts}
 use Rattle.object_layout.specs.Areas.{code_start}
@@ -40,7 +40,7 @@ pub record Arrives (image : ImageParts) (from to : ℕ) (c : ContextView) : Type
   pub stays : (shown image).function_of to ≡ (shown image).function_of from
 
 -- a function of the signature begins at an address, and its instructions there know what the signature says
-pub record Begins (image : ImageParts) (address : ℕ) (sig : Sig) : Type 0 where
+pub record BeginsFunction (image : ImageParts) (address : ℕ) (sig : Sig) : Type 0 where
   pub placed : Placed
   pub here : instruction_in image address ≡ Some placed
   pub known : strongest_at image address ≡ entry sig
@@ -53,14 +53,14 @@ pub record RunsOn (image : ImageParts) : Type 0 where
   pub none_fails : (pc : ℕ) (x : Placed) → instruction_in image pc ≡ Some x → rule_at (shown image) (strongest_at image pc) x ≡ None
   -- where a run falls through, and where it branches, it arrives
   pub falls : (pc : ℕ) (x : Placed) (c d : LiveContext) → instruction_in image pc ≡ Some x → strongest_at image pc ≡ Live c
-      → falls_from (shown image) (Live c) x ≡ Live d → Arrives image pc (next_of x.pc x.len) (Live d)
+      → falls_from (shown image) (Live c) x ≡ Live d → Arrives image pc (next_address x.pc x.len) (Live d)
   pub branches : (pc : ℕ) (x : Placed) (c d : LiveContext) (to : ℕ) → instruction_in image pc ≡ Some x → strongest_at image pc ≡ Live c
       → Branches (shown image) (Live c) x.pc x.inst x.len ≡ Live d → Target x.pc x.inst x.len ≡ Some to → Arrives image pc to (Live d)
   -- a call comes to a function's beginning, and each stack begins at one
-  pub calls : (address g : ℕ) (sig : Sig) → (shown image).function_at address ≡ Some g → (shown image).sig g ≡ Some sig → Begins image address sig
+  pub calls : (address g : ℕ) (sig : Sig) → (shown image).function_at address ≡ Some g → (shown image).sig g ≡ Some sig → BeginsFunction image address sig
   pub signatures : (address g : ℕ) → (shown image).function_at address ≡ Some g → IsSome ((shown image).sig g)
   pub stacks : (s f : ℕ) → slice_get image.entries s ≡ Some f
-      → (span : Span) × (sig : Sig) × (function_in image f ≡ Some span) × Begins image span.start sig × (starts_stack sig ≡ true)
+      → (span : Span) × (sig : Sig) × (function_in image f ≡ Some span) × BeginsFunction image span.start sig × (starts_stack sig ≡ true)
   pub entries : length image.entries ≡ image.stacks
   -- addresses of code do not wrap
   pub room : code_start + length image.code < 2 ^ 32

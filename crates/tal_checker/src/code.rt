@@ -3,7 +3,7 @@ ghost use Rattle.std.specs.Prelude.{◌≡◌, ◌≤◌, length, IfOk, IfErr};
 ghost use Rattle.std.specs.Option.{option_map, option_and_then};
 ghost use Rattle.tal_types.specs.Kept.{context_of};
 ghost use Rattle.tal_flow.specs.Strongest.{known_at, start};
-ghost use Rattle.tal_checker.specs.Passing.{Passed, Refuses};
+ghost use Rattle.tal_checker.specs.Passing.{Passed, RefusesCode};
 
 use crate::answer::CheckAnswer;
 use crate::frames::frame_row;
@@ -53,7 +53,7 @@ pub(crate) fn check_code<V: ImageView>(
 ) -> Result<FrameTable, CheckAnswer>
     requires { length code.now ≤ 1048576 }
     ensures ok { IfOk result (λ frames. Passed (V.shown image.now) code.now frames) }
-    ensures err { IfErr result (λ answer. Refuses (V.shown image.now) code.now answer) }
+    ensures err { IfErr result (λ answer. RefusesCode (V.shown image.now) code.now answer) }
 {
     let mut frames = FrameTable::new(alloc);
     let mut context = Context::dead();

@@ -1,14 +1,14 @@
 // The row of a frame: which registers and slots may hold references in a context.
 ghost use Rattle.std.specs.Prelude.{◌≡◌, ◌<◌, ◌≤◌, ◌^◌, length, if◌then◌else◌};
 ghost use Rattle.tal_types.specs.Kept.{context_of};
-ghost use Rattle.tal_checker.specs.Frames.{refers, reference_bits, row_in};
+ghost use Rattle.tal_checker.specs.Frames.{may_refer, reference_bits, row_in};
 
 use tal_types::{Context, FrameRow, Ty};
 
 /// 1 where a value of the type may refer to an object or an array, else 0.
-#[tactic(auto, unfolding(crate::specs::Frames::refers))]
+#[tactic(auto, unfolding(crate::specs::Frames::may_refer))]
 fn reference_bit(t: Ty) -> u64
-    ensures { result ≡ (if refers t then 1 else 0) }
+    ensures { result ≡ (if may_refer t then 1 else 0) }
 {
     match t {
         Ty::Ref(_) | Ty::Obj(_) | Ty::ArrRef(_) | Ty::Arr(_) => 1,

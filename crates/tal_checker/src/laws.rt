@@ -1,10 +1,14 @@
 // What holds of the definitions alone: each law is a function with nothing to do, whose clause is the law.
 ghost use Rattle.tal_checker.specs.Frames.{RowsByAddress};
-ghost use Rattle.std.specs.Prelude.{ℕ};
+ghost use Rattle.std.specs.Prelude.{◌≡◌, ℕ};
+ghost use Rattle.tal_types.specs.Contexts.{LiveContext, Live};
 ghost use Rattle.tal_flow.specs.Strongest.{HasOneHead};
 ghost use Rattle.tal_image.specs.Image.{ImageParts};
-ghost use Rattle.tal_checker.specs.WellTyped.{StrongestDecides, OneRefusal, strongest_at};
+ghost use Rattle.tal_checker.specs.WellTyped.{WellTyped, StrongestDecides, OneRefusal, strongest_at};
 ghost use Rattle.tal_checker.specs.Running.{AcceptedRuns};
+
+use ia32_code::Reg;
+use tal_types::Ty;
 
 /// The law of the strongest context: an image is well typed exactly where no rule fails in the strongest contexts.
 pub fn strongest_decides()
@@ -28,6 +32,14 @@ pub fn one_head()
     ensures { (image : ImageParts) (pc : ℕ) → HasOneHead (strongest_at image pc) }
 {
     tal_flow::laws::one_head();
+}
+
+/// Nothing is known of what ESP holds in a live strongest context of a well typed image: its type is Junk.
+pub fn esp_is_junk()
+    ensures { (image : ImageParts) (pc : ℕ) (c : LiveContext) → WellTyped image → strongest_at image pc ≡ Live c → c.regs Reg.Esp ≡ Ty.Junk }
+{
+    strongest_decides();
+    tal_flow::laws::esp_is_junk();
 }
 
 /// The rows of an image's frames by their addresses: one exactly where an instruction begins, by the strongest context there.

@@ -23,13 +23,13 @@ use Rattle.tal_flow.specs.declared.calls.Called.{Called}
 use Rattle.tal_flow.specs.declared.edges.Told.{Told}
 use Rattle.tal_flow.specs.declared.edges.Told.TheVariants.{Equal, Unequal, Below}
 use Rattle.std.specs.Option.{option_map_or}
-use Rattle.tal_flow.specs.Places.{type_of, writable, operand_place, is_writable}
+use Rattle.tal_flow.specs.Places.{operand_type, writable, operand_place, is_writable}
 use Rattle.tal_flow.specs.Calls.{call_to, call_by, is_callable, is_fit, result_of}
-use Rattle.tal_flow.specs.Afterwards.{kind_without, without, write, with_kind, with_slots, store_place, store, add_head, note_head, write_high, give_kind, after_call, slots_in, pop_to, after}
+use Rattle.tal_flow.specs.Afterwards.{kind_without, without, write, with_kind, with_slots, store_place, store, add_head, note_head, write_high, give_kind, after_call, slots_in, pop_to, after_form}
 use Rattle.tal_flow.specs.Edges.{not_null, refine_reg, add_pair, meet_class, meet, refine}
 use Rattle.tal_flow.specs.Rules.{operand_rule}
 use Rattle.tal_flow.specs.Strongest.{OneHead}
-use Rattle.tal_flow.proofs.PlacesBelow.{PlaceBelow, FoundBelow, place-below, operand_place-below, type_of-below}
+use Rattle.tal_flow.proofs.PlacesBelow.{PlaceBelow, FoundBelow, place-below, operand_place-below, operand_type-below}
 use Rattle.tal_flow.proofs.RowsBelow.{KindBelow, compare_kind-below, test_kind-below}
 use Rattle.tal_flow.proofs.CallsBelow.{CalledBelow, call_to-below, call_by-below}
 
@@ -169,34 +169,34 @@ unfolding pop_to
 pop_to-below s a b r h = with_slots-below s _ _ _ _ (write-below s a b r _ _ h (top-below s a.slots b.slots h.slots)) (all_sub-drop s a.slots b.slots 1 h.slots)
 
 -- the lower context leaves a lower one
-pub after-below : (v : ShownImage) → ClassLaws v.shapes → (a b : LiveContext) (pc : ℕ) (f : Form) → LiveBelow v.shapes a b → OneHead a → operand_rule v b pc f ≡ None
-    → LiveBelow v.shapes (after v a pc f) (after v b pc f)
-unfolding after operand_rule
-after-below v l a b pc Refused h one e = h
-after-below v l a b pc (Compute xs d r k) h one e =
+pub after_form-below : (v : ShownImage) → ClassLaws v.shapes → (a b : LiveContext) (pc : ℕ) (f : Form) → LiveBelow v.shapes a b → OneHead a → operand_rule v b pc f ≡ None
+    → LiveBelow v.shapes (after_form v a pc f) (after_form v b pc f)
+unfolding after_form operand_rule
+after_form-below v l a b pc Refused h one e = h
+after_form-below v l a b pc (Compute xs d r k) h one e =
     let w : writable v b d ≡ true = grind arith in
     give_kind-below v.shapes _ _ k (write_high-below v.shapes _ _ r (store-below v l a b d Num Num h w (sub-refl v.shapes Num)))
-after-below v l a b pc (Move d x) h one e =
+after_form-below v l a b pc (Move d x) h one e =
     let w : writable v b d ≡ true = grind arith in
-    note_head-below v.shapes _ _ d _ _ (store-below v l a b d _ _ h w (type_of-below v l a b pc x h)) (operand_place-below v l a b x h)
-after-below v l a b pc (Address r m) h one e = write-below v.shapes a b r Num Num h (sub-refl v.shapes Num)
-after-below v l a b pc (Compare d x) h one e = with_kind-below v.shapes a b _ _ h (kind_given-below _ _ (compare_kind-below v l a b pc d x h one))
-after-below v l a b pc (TestBits d x) h one e = with_kind-below v.shapes a b _ _ h (kind_given-below _ _ (test_kind-below v l a b pc d x h))
-after-below v l a b pc (PushOf x) h one e = with_slots-below v.shapes a b _ _ h (all_sub-push v.shapes _ _ a.slots b.slots (type_of-below v l a b pc x h) h.slots)
-after-below v l a b pc (PopTo r) h one e = pop_to-below v.shapes a b r h
-after-below v l a b pc (DropSlots n) h one e = with_kind-below v.shapes _ _ _ _ (with_slots-below v.shapes a b _ _ h (all_sub-drop v.shapes a.slots b.slots (unwrap_or (slots_in n) 0) h.slots)) (kind_below-refl Lost)
-after-below v l a b pc (CallTo t) h one e =
+    note_head-below v.shapes _ _ d _ _ (store-below v l a b d _ _ h w (operand_type-below v l a b pc x h)) (operand_place-below v l a b x h)
+after_form-below v l a b pc (Address r m) h one e = write-below v.shapes a b r Num Num h (sub-refl v.shapes Num)
+after_form-below v l a b pc (Compare d x) h one e = with_kind-below v.shapes a b _ _ h (kind_given-below _ _ (compare_kind-below v l a b pc d x h one))
+after_form-below v l a b pc (TestBits d x) h one e = with_kind-below v.shapes a b _ _ h (kind_given-below _ _ (test_kind-below v l a b pc d x h))
+after_form-below v l a b pc (PushOf x) h one e = with_slots-below v.shapes a b _ _ h (all_sub-push v.shapes _ _ a.slots b.slots (operand_type-below v l a b pc x h) h.slots)
+after_form-below v l a b pc (PopTo r) h one e = pop_to-below v.shapes a b r h
+after_form-below v l a b pc (DropSlots n) h one e = with_kind-below v.shapes _ _ _ _ (with_slots-below v.shapes a b _ _ h (all_sub-drop v.shapes a.slots b.slots (unwrap_or (slots_in n) 0) h.slots)) (kind_below-refl Lost)
+after_form-below v l a b pc (CallTo t) h one e =
     let f : is_callable (call_to v b t) ≡ true = grind arith in
     let g : is_fit (call_to v b t) ≡ true = grind arith in
     after_call-below v.shapes a b _ _ h (result-below v.shapes _ _ (call_to-below v l a b t h) f g)
-after-below v l a b pc (CallBy x) h one e =
-    let f : is_callable (call_by v b (type_of v b pc x)) ≡ true = grind arith in
-    let g : is_fit (call_by v b (type_of v b pc x)) ≡ true = grind arith in
-    after_call-below v.shapes a b _ _ h (result-below v.shapes _ _ (call_by-below v l a b _ _ h (type_of-below v l a b pc x h)) f g)
-after-below v l a b pc Return h one e = h
-after-below v l a b pc (Jump t) h one e = h
-after-below v l a b pc (Branch k t) h one e = h
-after-below v l a b pc Nothing h one e = h
+after_form-below v l a b pc (CallBy x) h one e =
+    let f : is_callable (call_by v b (operand_type v b pc x)) ≡ true = grind arith in
+    let g : is_fit (call_by v b (operand_type v b pc x)) ≡ true = grind arith in
+    after_call-below v.shapes a b _ _ h (result-below v.shapes _ _ (call_by-below v l a b _ _ h (operand_type-below v l a b pc x h)) f g)
+after_form-below v l a b pc Return h one e = h
+after_form-below v l a b pc (Jump t) h one e = h
+after_form-below v l a b pc (Branch k t) h one e = h
+after_form-below v l a b pc Nothing h one e = h
 
 -- refinement
 

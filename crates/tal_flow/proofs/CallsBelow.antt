@@ -13,7 +13,7 @@ use Rattle.tal_types.proofs.Orders.{sub-refl, sub-trans, every-all, every-from}
 use Rattle.tal_flow.specs.declared.calls.Arguments.{Arguments}
 use Rattle.tal_flow.specs.declared.calls.Called.{Called}
 use Rattle.tal_flow.specs.declared.calls.Called.TheVariants.{Nowhere, Misfit, Gives}
-use Rattle.tal_flow.specs.Calls.{arguments_fit, called_with, call_of_signature, nucleus_arguments, entry_number, entry_gives, entry_or, call_to, signature_in, call_by}
+use Rattle.tal_flow.specs.Calls.{arguments_fit, called_with, call_of_signature, nucleus_arguments, entry_number, entry_gives, entry_or, call_to, code_signature, call_by}
 
 -- Calls in two contexts, one below the other.
 
@@ -68,7 +68,7 @@ unfolding call_to
 call_to-below v l a b address h = entry_or-below v l a b (v.function_at address) (option_and_then (slice_get nucleus_arguments) (entry_number address)) h
 
 -- a lower type has the same signature
-signature-below : (s : ShapesView) (t u : Ty) (g : ℕ) → sub s t u ≡ true → signature_in u ≡ Some g → signature_in t ≡ Some g
+signature-below : (s : ShapesView) (t u : Ty) (g : ℕ) → sub s t u ≡ true → code_signature u ≡ Some g → code_signature t ≡ Some g
 unfolding sub
 signature-below s t u g e f = grind (arith, nat_tests)
 
@@ -85,8 +85,8 @@ nowhere-there v b p = nowhere-above v.shapes p
 pub call_by-below : (v : ShownImage) → ClassLaws v.shapes → (a b : LiveContext) (t u : Ty) → LiveBelow v.shapes a b → sub v.shapes t u ≡ true
     → CalledBelow v.shapes (call_by v a t) (call_by v b u)
 unfolding call_by
-call_by-below v l a b t u h e = go (signature_in u) refl
+call_by-below v l a b t u h e = go (code_signature u) refl
   where
-    go : (o : Option ℕ) → signature_in u ≡ o → CalledBelow v.shapes (call_of_signature v a (signature_in t)) (call_of_signature v b o)
-    go None f = nowhere-there v b (call_of_signature v a (signature_in t))
+    go : (o : Option ℕ) → code_signature u ≡ o → CalledBelow v.shapes (call_of_signature v a (code_signature t)) (call_of_signature v b o)
+    go None f = nowhere-there v b (call_of_signature v a (code_signature t))
     go (Some g) f = rw (signature-below v.shapes t u g e f) (call_of_signature-below v l a b (Some g) h)

@@ -9,16 +9,18 @@ use Rattle.tal_types.specs.Contexts.{LiveContext, ContextView, Dead, Live, conte
 use Rattle.tal_types.specs.Kept.{context_of, live_of}
 use Rattle.tal_types.specs.Shown.{ShownImage}
 use Rattle.tal_flow.specs.declared.edges.Edges.{Edges}
-use Rattle.tal_flow.specs.declared.edges.Rule.{Rule}
 use Rattle.tal_flow.specs.declared.edges.Told.{Told}
 use Rattle.tal_types.specs.declared.types.FlagKind.{FlagKind}
 use Rattle.tal_flow.specs.declared.forms.Form.{Form}
 use Rattle.tal_flow.specs.declared.forms.Form.TheVariants.{Refused, Return, Jump, Branch}
 use Rattle.tal_flow.specs.Forms.{form_of}
-use Rattle.tal_flow.specs.Afterwards.{after}
+use Rattle.tal_flow.specs.Afterwards.{after_form}
 use Rattle.tal_flow.specs.Edges.{told_by_branch, told_by_fall, refine, falling, branching, target_of, falls_to, branches_to, goes_on, is_refused}
 use Rattle.tal_flow.specs.Flows.{Flows, FormFlows}
-use Rattle.tal_flow.specs.Rules.{operand_rule, edge_fits, is_dead, demand, edge_rule, in_function, rule_of_form, rule_of, next_of, LeastRule}
+use Rattle.tal_flow.specs.declared.trials.RuleName.{RuleName}
+use Rattle.tal_flow.specs.declared.trials.RuleName.TheVariants as rule
+use Rattle.tal_flow.specs.Trials.{rule_number, demand}
+use Rattle.tal_flow.specs.Rules.{operand_rule, edge_fits, is_dead, edge_rule, in_function, rule_of_form, rule_of, next_address, LeastRule}
 use Rattle.tal_flow.proofs.LeastRules.{rule-least, form-none}
 
 -- The edges of instructions, by their forms.
@@ -30,7 +32,7 @@ edge_fits-dead s None = refl
 edge_fits-dead s (Some c) = refl
 
 -- what falls through an instruction that goes on is what it leaves
-pub goes_on-falls : (v : ShownImage) (c : LiveContext) (pc : ℕ) (f : Form) → goes_on f ≡ true → falling v c pc f ≡ Live (after v c pc f)
+pub goes_on-falls : (v : ShownImage) (c : LiveContext) (pc : ℕ) (f : Form) → goes_on f ≡ true → falling v c pc f ≡ Live (after_form v c pc f)
 unfolding goes_on falling
 goes_on-falls v c pc Return e = absurd (grind arith)
 goes_on-falls v c pc (Jump t) e = absurd (grind arith)
@@ -66,52 +68,52 @@ dead-of d = go d.dead
 -- a rule of the operands, or one of the edges
 
 -- a rule of the operands that fails is the least
-pub operand-fails : (v : ShownImage) (c : LiveContext) (pc next n : ℕ) (f : Form) → operand_rule v c pc f ≡ Some n → rule_of_form v (Live c) pc next f ≡ Some n
+pub operand-fails : (v : ShownImage) (c : LiveContext) (pc next : ℕ) (r : RuleName) (f : Form) → operand_rule v c pc f ≡ Some r → rule_of_form v (Live c) pc next f ≡ Some r
 unfolding rule_of_form
-operand-fails v c pc next n f e = rw e refl
+operand-fails v c pc next r f e = rw e refl
 
 -- where no rule of the operands fails, the edges decide
-edge-fails : (v : ShownImage) (c : LiveContext) (pc next : ℕ) (f : Form) (o : Option ℕ) → operand_rule v c pc f ≡ None → edge_rule v c pc next f ≡ o
+edge-fails : (v : ShownImage) (c : LiveContext) (pc next : ℕ) (f : Form) (o : Option RuleName) → operand_rule v c pc f ≡ None → edge_rule v c pc next f ≡ o
     → rule_of_form v (Live c) pc next f ≡ o
 unfolding rule_of_form
 edge-fails v c pc next f o e g = rw (e, g) refl
 
 -- the rules 16 and 17 by their two tests
-abbrev by_edges : Bool → Bool → Option ℕ
-by_edges fits stays = if fits then (if stays then None else Some 17) else Some 16
+abbrev by_edges : Bool → Bool → Option RuleName
+by_edges fits stays = if fits then (if stays then None else Some rule.FunctionEnd) else Some rule.Annotation
 
-demands : (x y : Bool) → demand 16 x (demand 17 y None) ≡ by_edges x y
+demands : (x y : Bool) → demand rule.Annotation x (demand rule.FunctionEnd y None) ≡ by_edges x y
 demands true true = refl
 demands true false = refl
 demands false y = refl
 
 -- the rules 16 and 17 of an instruction that falls through
 fall-rules : (v : ShownImage) (c : LiveContext) (pc next : ℕ) (f : Form) → goes_on f ≡ true
-    → edge_rule v c pc next f ≡ by_edges (edge_fits v.shapes (Live (after v c pc f)) (v.block_at next)) (in_function v pc next)
+    → edge_rule v c pc next f ≡ by_edges (edge_fits v.shapes (Live (after_form v c pc f)) (v.block_at next)) (in_function v pc next)
 unfolding edge_rule is_dead
 fall-rules v c pc next f e =
     let a = goes_on-falls v c pc f e in
     let b = goes_on-branches v c f e in
-    rw (a, b, edge_fits-dead v.shapes (option_and_then v.block_at (target_of f))) (demands (edge_fits v.shapes (Live (after v c pc f)) (v.block_at next)) (in_function v pc next))
+    rw (a, b, edge_fits-dead v.shapes (option_and_then v.block_at (target_of f))) (demands (edge_fits v.shapes (Live (after_form v c pc f)) (v.block_at next)) (in_function v pc next))
 
 -- what the code keeps is what the instruction leaves
-left : (v : ShownImage) (c : LiveContext) (pc : ℕ) (f : Form) (d : Context) → d.dead ≡ false → live_of d ≡ after v c pc f → context_of d ≡ Live (after v c pc f)
+left : (v : ShownImage) (c : LiveContext) (pc : ℕ) (f : Form) (d : Context) → d.dead ≡ false → live_of d ≡ after_form v c pc f → context_of d ≡ Live (after_form v c pc f)
 left v c pc f d e k = live-context d e ∙ ap Live k
 
 -- what falls through is not below the annotation
 pub fall-sixteen : (v : ShownImage) (c : LiveContext) (pc next : ℕ) (f : Form) (d : Context) → goes_on f ≡ true → operand_rule v c pc f ≡ None → d.dead ≡ false
-    → live_of d ≡ after v c pc f → edge_fits v.shapes (context_of d) (v.block_at next) ≡ false → rule_of_form v (Live c) pc next f ≡ Some 16
+    → live_of d ≡ after_form v c pc f → edge_fits v.shapes (context_of d) (v.block_at next) ≡ false → rule_of_form v (Live c) pc next f ≡ Some rule.Annotation
 fall-sixteen v c pc next f d g op e k h =
     let i = rw (left v c pc f d e k) at h in
-    edge-fails v c pc next f (Some 16) op (rw (fall-rules v c pc next f g, i) refl)
+    edge-fails v c pc next f (Some rule.Annotation) op (rw (fall-rules v c pc next f g, i) refl)
 
 -- the next instruction, a block, is not of the function
 pub fall-seventeen : (v : ShownImage) (c : LiveContext) (pc next : ℕ) (f : Form) (d : Context) → goes_on f ≡ true → operand_rule v c pc f ≡ None → d.dead ≡ false
-    → live_of d ≡ after v c pc f → edge_fits v.shapes (context_of d) (v.block_at next) ≡ true → in_function v pc next ≡ false
-    → rule_of_form v (Live c) pc next f ≡ Some 17
+    → live_of d ≡ after_form v c pc f → edge_fits v.shapes (context_of d) (v.block_at next) ≡ true → in_function v pc next ≡ false
+    → rule_of_form v (Live c) pc next f ≡ Some rule.FunctionEnd
 fall-seventeen v c pc next f d g op e k h j =
     let i = rw (left v c pc f d e k) at h in
-    edge-fails v c pc next f (Some 17) op (rw (fall-rules v c pc next f g, i, j) refl)
+    edge-fails v c pc next f (Some rule.FunctionEnd) op (rw (fall-rules v c pc next f g, i, j) refl)
 
 -- where no block is
 pub fits-nothing : (v : ShownImage) (c : ContextView) (next : ℕ) (o : Option Context) → option_map context_of o ≡ v.block_at next → o ≡ None
@@ -122,12 +124,12 @@ fits-nothing v c next (Some d) h e = absurd (grind arith)
 
 -- the same where no context was made for it
 pub fall-outside : (v : ShownImage) (c : LiveContext) (pc next : ℕ) (f : Form) → goes_on f ≡ true → operand_rule v c pc f ≡ None
-    → edge_fits v.shapes (Live (after v c pc f)) (v.block_at next) ≡ true → in_function v pc next ≡ false → rule_of_form v (Live c) pc next f ≡ Some 17
-fall-outside v c pc next f g op h j = edge-fails v c pc next f (Some 17) op (rw (fall-rules v c pc next f g, h, j) refl)
+    → edge_fits v.shapes (Live (after_form v c pc f)) (v.block_at next) ≡ true → in_function v pc next ≡ false → rule_of_form v (Live c) pc next f ≡ Some rule.FunctionEnd
+fall-outside v c pc next f g op h j = edge-fails v c pc next f (Some rule.FunctionEnd) op (rw (fall-rules v c pc next f g, h, j) refl)
 
 -- no rule fails, and what falls through is kept
 pub fall-flows : (v : ShownImage) (c : LiveContext) (pc next : ℕ) (f : Form) (d : Context) → goes_on f ≡ true → operand_rule v c pc f ≡ None → d.dead ≡ false
-    → live_of d ≡ after v c pc f → edge_fits v.shapes (context_of d) (v.block_at next) ≡ true → in_function v pc next ≡ true
+    → live_of d ≡ after_form v c pc f → edge_fits v.shapes (context_of d) (v.block_at next) ≡ true → in_function v pc next ≡ true
     → FormFlows v (Live c) pc next f (context_of d) (record { branch = None; falls = true })
 unfolding falls_to branches_to is_dead
 fall-flows v c pc next f d g op e k h j =
@@ -156,20 +158,20 @@ return-flows v c pc next f d g op e = absurd (grind arith)
 -- JMP
 
 -- the rules 16 and 17 of a jump
-jump-rules : (v : ShownImage) (c : LiveContext) (pc next t : ℕ) → edge_rule v c pc next (Jump t) ≡ (if edge_fits v.shapes (Live c) (v.block_at t) then None else Some 16)
+jump-rules : (v : ShownImage) (c : LiveContext) (pc next t : ℕ) → edge_rule v c pc next (Jump t) ≡ (if edge_fits v.shapes (Live c) (v.block_at t) then None else Some rule.Annotation)
 unfolding edge_rule is_dead branching falling target_of
 jump-rules v c pc next t = rw (edge_fits-dead v.shapes (v.block_at next)) (go (edge_fits v.shapes (Live c) (v.block_at t)))
   where
-    go : (x : Bool) → demand 16 (x && true) (demand 17 true None) ≡ (if x then None else Some 16)
+    go : (x : Bool) → demand rule.Annotation (x && true) (demand rule.FunctionEnd true None) ≡ (if x then None else Some rule.Annotation)
     go true = refl
     go false = refl
 
 -- what a jump takes along is not below the annotation
 pub jump-sixteen : (v : ShownImage) (d : Context) (pc next t : ℕ) → operand_rule v (live_of d) pc (Jump t) ≡ None → d.dead ≡ false
-    → edge_fits v.shapes (context_of d) (v.block_at t) ≡ false → rule_of_form v (Live (live_of d)) pc next (Jump t) ≡ Some 16
+    → edge_fits v.shapes (context_of d) (v.block_at t) ≡ false → rule_of_form v (Live (live_of d)) pc next (Jump t) ≡ Some rule.Annotation
 jump-sixteen v d pc next t op e h =
     let i = rw (live-context d e) at h in
-    edge-fails v (live_of d) pc next (Jump t) (Some 16) op (rw (jump-rules v (live_of d) pc next t, i) refl)
+    edge-fails v (live_of d) pc next (Jump t) (Some rule.Annotation) op (rw (jump-rules v (live_of d) pc next t, i) refl)
 
 -- no rule of a jump fails
 pub jump-flows : (v : ShownImage) (d after : Context) (pc next t : ℕ) → operand_rule v (live_of d) pc (Jump t) ≡ None → d.dead ≡ false
@@ -211,14 +213,14 @@ kept-rules v d pc next t k p q h = rw (h.taken, h.fallen) (branch-rules v (live_
 -- what one of the ways takes along is not below the annotation there
 pub branch-sixteen : (v : ShownImage) (d : Context) (pc next t : ℕ) (k : Cond) (p q : Context) → operand_rule v (live_of d) pc (Branch k t) ≡ None → Refined v d k p q
     → (edge_fits v.shapes (context_of p) (v.block_at t) && edge_fits v.shapes (context_of q) (v.block_at next)) ≡ false
-    → rule_of_form v (Live (live_of d)) pc next (Branch k t) ≡ Some 16
-branch-sixteen v d pc next t k p q op h e = edge-fails v (live_of d) pc next (Branch k t) (Some 16) op (rw (kept-rules v d pc next t k p q h, e) refl)
+    → rule_of_form v (Live (live_of d)) pc next (Branch k t) ≡ Some rule.Annotation
+branch-sixteen v d pc next t k p q op h e = edge-fails v (live_of d) pc next (Branch k t) (Some rule.Annotation) op (rw (kept-rules v d pc next t k p q h, e) refl)
 
 -- a run may fall out of the function
 pub branch-seventeen : (v : ShownImage) (d : Context) (pc next t : ℕ) (k : Cond) (p q : Context) → operand_rule v (live_of d) pc (Branch k t) ≡ None → Refined v d k p q
     → (edge_fits v.shapes (context_of p) (v.block_at t) && edge_fits v.shapes (context_of q) (v.block_at next)) ≡ true
-    → (is_dead (context_of q) || in_function v pc next) ≡ false → rule_of_form v (Live (live_of d)) pc next (Branch k t) ≡ Some 17
-branch-seventeen v d pc next t k p q op h e f = edge-fails v (live_of d) pc next (Branch k t) (Some 17) op (rw (kept-rules v d pc next t k p q h, e, f) refl)
+    → (is_dead (context_of q) || in_function v pc next) ≡ false → rule_of_form v (Live (live_of d)) pc next (Branch k t) ≡ Some rule.FunctionEnd
+branch-seventeen v d pc next t k p q op h e f = edge-fails v (live_of d) pc next (Branch k t) (Some rule.FunctionEnd) op (rw (kept-rules v d pc next t k p q h, e, f) refl)
 
 -- the edge that is answered
 taken-edge : (v : ShownImage) (d : Context) (t : ℕ) (k : Cond) (p : Context) (o : Option (ℕ × Context)) → context_of p ≡ branches_to v (Live (live_of d)) (Branch k t)
@@ -245,35 +247,14 @@ branch-flows v d pc next t k p q edges op h e f g m = record {
 pub refined : (s t : ShapesView) (c : LiveContext) (k : FlagKind) (e f : Told) → s ≡ t → e ≡ f → refine s c k e ≡ refine t c k f
 refined s t c k e f p q = rw (p, q) refl
 
--- from forms to instructions
-
--- no rule of the instruction fails where none of its form does
-pub whole-flows : (v : ShownImage) (d : Context) (pc next : ℕ) (form : Form) (inst : Inst) (len : ℕ) (after : ContextView) → d.dead ≡ false → next ≡ next_of pc len
-    → form ≡ form_of next inst → (r : Result Edges Rule) → IfOk r (λ edges. FormFlows v (Live (live_of d)) pc next form after edges)
-    → IfOk r (λ edges. Flows v (context_of d) pc inst len after edges)
-whole-flows v d pc next form inst len after e n f (Err rule) h = h
-whole-flows v d pc next form inst len after e n f (Ok edges) h =
-    let i = subst (λ x. FormFlows v (Live (live_of d)) pc next x after edges) f h in
-    let j = subst (λ x. FormFlows v (Live (live_of d)) pc x (form_of x inst) after edges) n i in
-    subst (λ x. FormFlows v x pc (next_of pc len) (form_of (next_of pc len) inst) after edges) (sym (live-context d e)) j
-
--- the least rule of the instruction is that of its form
-pub whole-fails : (v : ShownImage) (d : Context) (pc next : ℕ) (form : Form) (inst : Inst) (len : ℕ) → d.dead ≡ false → next ≡ next_of pc len → form ≡ form_of next inst
-    → (r : Result Edges Rule) → IfErr r (λ rule. rule_of_form v (Live (live_of d)) pc next form ≡ Some rule.0)
-    → IfErr r (λ rule. LeastRule v (context_of d) pc inst len rule.0)
-unfolding rule_of
-whole-fails v d pc next form inst len e n f (Ok edges) h = h
-whole-fails v d pc next form inst len e n f (Err rule) h =
-    let i = subst (λ x. rule_of_form v (Live (live_of d)) pc next x ≡ Some rule.0) f h in
-    let j = subst (λ x. rule_of_form v (Live (live_of d)) pc x (form_of x inst) ≡ Some rule.0) n i in
-    rule-least v (context_of d) pc inst len rule.0 (subst (λ x. rule_of_form v x pc (next_of pc len) (form_of (next_of pc len) inst) ≡ Some rule.0) (sym (live-context d e)) j)
-
 -- the dead context
 
 -- rule 1 fails at a refused form in the dead context
-refused-dead : (v : ShownImage) (pc next : ℕ) → rule_of_form v Dead pc next Refused ≡ Some 1
+pub dead-fails : (v : ShownImage) (d : Context) (pc next : ℕ) (form : Form) → d.dead ≡ true → is_refused form ≡ true
+    → rule_of_form v (context_of d) pc next form ≡ Some rule.Instruction
 unfolding rule_of_form
-refused-dead v pc next = refl
+dead-fails v d pc next Refused e r = rw (dead-context d e) refl
+dead-fails v d pc next form e r = absurd (grind arith)
 
 -- none fails there at another form
 no-dead-rule : (v : ShownImage) (pc next : ℕ) (form : Form) → is_refused form ≡ false → rule_of_form v Dead pc next form ≡ None
@@ -282,26 +263,37 @@ no-dead-rule v pc next Refused r = absurd (grind arith)
 no-dead-rule v pc next form r = refl
 
 -- and nothing goes on from there
-none-dead : (v : ShownImage) (pc next : ℕ) (form : Form) → is_refused form ≡ false → FormFlows v Dead pc next form Dead (record { branch = None; falls = false })
+pub dead-flows : (v : ShownImage) (d : Context) (pc next : ℕ) (form : Form) → d.dead ≡ true → is_refused form ≡ false
+    → FormFlows v (context_of d) pc next form (context_of d) (record { branch = None; falls = false })
 unfolding falls_to branches_to is_dead
-none-dead v pc next form r = record { none_fails = form-none v Dead pc next form (no-dead-rule v pc next form r); falls = refl; falls_on = refl; branch = refl }
+dead-flows v d pc next form e r =
+    rw (dead-context d e)
+    (record { none_fails = form-none v Dead pc next form (no-dead-rule v pc next form r); falls = refl; falls_on = refl; branch = refl })
 
--- rule 1 fails in the dead context, too
-pub dead-fails : (v : ShownImage) (d : Context) (pc next : ℕ) (form : Form) (inst : Inst) (len : ℕ) → d.dead ≡ true → next ≡ next_of pc len → form ≡ form_of next inst
-    → is_refused form ≡ true → LeastRule v (context_of d) pc inst len 1
+-- a context that is not dead
+
+-- no rule fails in it
+pub live-flows : (v : ShownImage) (d : Context) (pc next : ℕ) (form : Form) (after : ContextView) → d.dead ≡ false → (r : Result Edges RuleName)
+    → IfOk r (λ edges. FormFlows v (Live (live_of d)) pc next form after edges) → IfOk r (λ edges. FormFlows v (context_of d) pc next form after edges)
+live-flows v d pc next form after e r h = rw (live-context d e) h
+
+-- a rule fails in it
+pub live-fails : (v : ShownImage) (d : Context) (pc next : ℕ) (form : Form) → d.dead ≡ false → (r : Result Edges RuleName)
+    → IfErr r (λ q. rule_of_form v (Live (live_of d)) pc next form ≡ Some q) → IfErr r (λ q. rule_of_form v (context_of d) pc next form ≡ Some q)
+live-fails v d pc next form e r h = rw (live-context d e) h
+
+-- from forms to instructions
+
+-- no rule of the instruction fails where none of its form does
+pub whole-flows : (v : ShownImage) (c : ContextView) (pc next : ℕ) (form : Form) (inst : Inst) (len : ℕ) (after : ContextView) (edges : Edges) → next ≡ next_address pc len
+    → form ≡ form_of next inst → FormFlows v c pc next form after edges → Flows v c pc inst len after edges
+whole-flows v c pc next form inst len after edges n f h =
+    subst (λ x. FormFlows v c pc x (form_of x inst) after edges) n (subst (λ x. FormFlows v c pc next x after edges) f h)
+
+-- the least rule of the instruction is that of its form
+pub whole-fails : (v : ShownImage) (c : ContextView) (pc next : ℕ) (form : Form) (inst : Inst) (len : ℕ) (r : RuleName) → next ≡ next_address pc len → form ≡ form_of next inst
+    → rule_of_form v c pc next form ≡ Some r → LeastRule v c pc inst len (rule_number r)
 unfolding rule_of
-dead-fails v d pc next form inst len e n f r =
-    rw (dead-context d e)
-    (rule-least v Dead pc inst len 1 (subst (λ x. rule_of_form v Dead pc x (form_of x inst) ≡ Some 1) n (subst (λ x. rule_of_form v Dead pc next x ≡ Some 1) f (go form r))))
-  where
-    go : (form : Form) → is_refused form ≡ true → rule_of_form v Dead pc next form ≡ Some 1
-    go Refused r = refused-dead v pc next
-    go form r = absurd (grind arith)
-
--- no other rule fails in the dead context
-pub dead-flows : (v : ShownImage) (d : Context) (pc next : ℕ) (form : Form) (inst : Inst) (len : ℕ) → d.dead ≡ true → next ≡ next_of pc len → form ≡ form_of next inst
-    → is_refused form ≡ false → Flows v (context_of d) pc inst len (context_of d) (record { branch = None; falls = false })
-dead-flows v d pc next form inst len e n f r =
-    rw (dead-context d e)
-    (subst (λ x. FormFlows v Dead pc x (form_of x inst) Dead (record { branch = None; falls = false })) n
-    (subst (λ x. FormFlows v Dead pc next x Dead (record { branch = None; falls = false })) f (none-dead v pc next form r)))
+whole-fails v c pc next form inst len r n f h =
+    let i = subst (λ x. rule_of_form v c pc x (form_of x inst) ≡ Some r) n (subst (λ x. rule_of_form v c pc next x ≡ Some r) f h) in
+    rule-least v c pc inst len (rule_number r) (ap (option_map rule_number) i)

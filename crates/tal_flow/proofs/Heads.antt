@@ -22,9 +22,9 @@ use Rattle.tal_flow.specs.declared.edges.Told.{Told}
 use Rattle.tal_flow.specs.declared.edges.Told.TheVariants.{Equal, Unequal, Below}
 use Rattle.tal_flow.specs.Forms.{form_of}
 use Rattle.tal_flow.specs.Places.{operand_place}
-use Rattle.tal_flow.specs.Afterwards.{without, write, store_place, store, add_head, note_head, write_high, give_kind, after_call, pop_to, after}
+use Rattle.tal_flow.specs.Afterwards.{without, write, store_place, store, add_head, note_head, write_high, give_kind, after_call, pop_to, after_form}
 use Rattle.tal_flow.specs.Edges.{refine_reg, add_pair, meet_class, meet, refine, told_by_fall, falling, falls_to}
-use Rattle.tal_flow.specs.Rules.{next_of, Falls}
+use Rattle.tal_flow.specs.Rules.{next_address, Falls}
 use Rattle.tal_flow.specs.Strongest.{Placed, falls_from, known_at, carried, start, at_in, At, OneHead, HasOneHead, BlocksHaveOneHead}
 
 -- No table register has two heads in a strongest context.
@@ -95,15 +95,15 @@ unfolding pop_to
 pop_to-head c r h = write-head c r _ h
 
 -- what an instruction leaves has one head at most
-after-head : (v : ShownImage) (c : LiveContext) (pc : ℕ) (f : Form) → OneHead c → OneHead (after v c pc f)
-unfolding after
-after-head v c pc (Compute xs d r k) h = give_kind-head _ k (write_high-head _ r (store-head v c d Num h))
-after-head v c pc (Move d x) h = note_head-one v c d _ (operand_place v c x) h
-after-head v c pc (Address r m) h = write-head c r Num h
-after-head v c pc (PopTo r) h = pop_to-head c r h
-after-head v c pc (CallTo t) h = after_call-head c _
-after-head v c pc (CallBy x) h = after_call-head c _
-after-head v c pc f h = h
+after_form-head : (v : ShownImage) (c : LiveContext) (pc : ℕ) (f : Form) → OneHead c → OneHead (after_form v c pc f)
+unfolding after_form
+after_form-head v c pc (Compute xs d r k) h = give_kind-head _ k (write_high-head _ r (store-head v c d Num h))
+after_form-head v c pc (Move d x) h = note_head-one v c d _ (operand_place v c x) h
+after_form-head v c pc (Address r m) h = write-head c r Num h
+after_form-head v c pc (PopTo r) h = pop_to-head c r h
+after_form-head v c pc (CallTo t) h = after_call-head c _
+after_form-head v c pc (CallBy x) h = after_call-head c _
+after_form-head v c pc f h = h
 
 -- each of two contexts has one head at most, and so has the one that a test picks
 either-head : (b : Bool) (c d : ContextView) → HasOneHead c → HasOneHead d → HasOneHead (if b then c else d)
@@ -149,12 +149,12 @@ falls_to-head v Dead pc f h = tt
 falls_to-head v (Live c) pc Return h = tt
 falls_to-head v (Live c) pc (Jump t) h = tt
 falls_to-head v (Live c) pc (Branch k t) h = refine-head v.shapes c c.kind (told_by_fall k) h
-falls_to-head v (Live c) pc f h = after-head v c pc f h
+falls_to-head v (Live c) pc f h = after_form-head v c pc f h
 
 -- what falls through has one head a register
 pub falls-head : (v : ShownImage) (a : ContextView) (x : Placed) → HasOneHead a → HasOneHead (falls_from v a x)
 unfolding Falls
-falls-head v a x h = falls_to-head v a x.pc (form_of (next_of x.pc x.len) x.inst) h
+falls-head v a x h = falls_to-head v a x.pc (form_of (next_address x.pc x.len) x.inst) h
 
 -- the context of a signature has none
 entry-head : (sig : Sig) → HasOneHead (entry sig)

@@ -10,3 +10,4 @@ pub mod StrongestContexts
 pub mod Fields
 pub mod SlotRoom
 pub mod EdgeRules
+pub mod JunkEsp

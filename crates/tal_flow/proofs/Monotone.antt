@@ -1,5 +1,5 @@
-use Rattle.std.proofs.Common.{◌≡◌, ℕ, true, Option, Some, None, arith, refl}
-use Rattle.std.specs.Option.{option_and_then}
+use Rattle.std.proofs.Common.{◌≡◌, ℕ, true, Option, Some, None, ap, arith, refl}
+use Rattle.std.specs.Option.{option_map, option_and_then}
 use Rattle.ia32_code.specs.declared.instruction.Inst.{Inst}
 use Rattle.object_layout.specs.Classes.{ShapesView}
 use Rattle.object_layout.specs.Laws.{ClassLaws}
@@ -10,11 +10,12 @@ use Rattle.tal_flow.specs.declared.forms.Form.{Form}
 use Rattle.tal_flow.specs.declared.forms.Form.TheVariants.{Refused, Return, Jump, Branch}
 use Rattle.tal_flow.specs.Forms.{form_of}
 use Rattle.tal_flow.specs.Edges.{falling, branching, target_of, falls_to, branches_to}
-use Rattle.tal_flow.specs.Rules.{operand_rule, edge_fits, is_dead, edge_rule, rule_of_form, rule_of, next_of, NoRuleFails, Falls, Branches}
+use Rattle.tal_flow.specs.Trials.{rule_number}
+use Rattle.tal_flow.specs.Rules.{operand_rule, edge_fits, is_dead, edge_rule, rule_of_form, rule_of, next_address, NoRuleFails, Falls, Branches}
 use Rattle.tal_flow.specs.Strongest.{OneHead, HasOneHead}
-use Rattle.tal_flow.proofs.LeastRules.{rule-none, none-rule}
+use Rattle.tal_flow.proofs.LeastRules.{no_number, rule-none, none-rule}
 use Rattle.tal_flow.proofs.RulesBelow.{operand_rule-below}
-use Rattle.tal_flow.proofs.AfterwardsBelow.{after-below, refine-below}
+use Rattle.tal_flow.proofs.AfterwardsBelow.{after_form-below, refine-below}
 
 -- The monotone law.
 
@@ -25,7 +26,7 @@ unfolding falling
 falling-below v l a b pc Return h one e = tt
 falling-below v l a b pc (Jump t) h one e = tt
 falling-below v l a b pc (Branch k t) h one e = refine-below v.shapes l a b _ _ _ h h.kind
-falling-below v l a b pc f h one e = after-below v l a b pc f h one e
+falling-below v l a b pc f h one e = after_form-below v l a b pc f h one e
 
 -- what branches in two live contexts
 branching-below : (v : ShownImage) → ClassLaws v.shapes → (a b : LiveContext) (f : Form) → LiveBelow v.shapes a b → ContextBelow v.shapes (branching v a f) (branching v b f)
@@ -84,7 +85,8 @@ form_rule-below v l Dead b pc next f h one e = dead_rule-below v b pc next f e
 first-below : (v : ShownImage) → ClassLaws v.shapes → (a b : ContextView) (pc : ℕ) (inst : Inst) (len : ℕ) → ContextBelow v.shapes a b → HasOneHead a
     → rule_of v b pc inst len ≡ None → rule_of v a pc inst len ≡ None
 unfolding rule_of
-first-below v l a b pc inst len h one e = form_rule-below v l a b pc (next_of pc len) (form_of (next_of pc len) inst) h one e
+first-below v l a b pc inst len h one e =
+    ap (option_map rule_number) (form_rule-below v l a b pc (next_address pc len) (form_of (next_address pc len) inst) h one (no_number _ e))
 
 -- where no rule fails in the higher context, none fails in the lower one
 pub rule-below : (v : ShownImage) → ClassLaws v.shapes → (a b : ContextView) (pc : ℕ) (inst : Inst) (len : ℕ) → ContextBelow v.shapes a b → HasOneHead a
@@ -92,7 +94,7 @@ pub rule-below : (v : ShownImage) → ClassLaws v.shapes → (a b : ContextView)
 rule-below v l a b pc inst len h one e = rule-none v a pc inst len (first-below v l a b pc inst len h one (none-rule v b pc inst len e))
 
 -- where no rule fails, none of the operands does
-no_operand_rule : (v : ShownImage) (b : LiveContext) (pc next : ℕ) (f : Form) → rule_of_form v (Live b) pc next f ≡ None → operand_rule v b pc f ≡ None
+pub no_operand_rule : (v : ShownImage) (b : LiveContext) (pc next : ℕ) (f : Form) → rule_of_form v (Live b) pc next f ≡ None → operand_rule v b pc f ≡ None
 unfolding rule_of_form
 no_operand_rule v b pc next f e = grind arith
 
@@ -108,7 +110,7 @@ falls_to-below v l Dead b pc next f h one e = tt
 pub falls-below : (v : ShownImage) → ClassLaws v.shapes → (a b : ContextView) (pc : ℕ) (inst : Inst) (len : ℕ) → ContextBelow v.shapes a b → HasOneHead a
     → NoRuleFails v b pc inst len → ContextBelow v.shapes (Falls v a pc inst len) (Falls v b pc inst len)
 unfolding Falls rule_of
-falls-below v l a b pc inst len h one e = falls_to-below v l a b pc (next_of pc len) (form_of (next_of pc len) inst) h one (none-rule v b pc inst len e)
+falls-below v l a b pc inst len h one e = falls_to-below v l a b pc (next_address pc len) (form_of (next_address pc len) inst) h one (no_number _ (none-rule v b pc inst len e))
 
 -- what branches in contexts that may be dead
 branches_to-below : (v : ShownImage) → ClassLaws v.shapes → (a b : ContextView) (f : Form) → ContextBelow v.shapes a b
@@ -122,4 +124,4 @@ branches_to-below v l Dead b f h = tt
 pub branches-below : (v : ShownImage) → ClassLaws v.shapes → (a b : ContextView) (pc : ℕ) (inst : Inst) (len : ℕ) → ContextBelow v.shapes a b
     → ContextBelow v.shapes (Branches v a pc inst len) (Branches v b pc inst len)
 unfolding Branches
-branches-below v l a b pc inst len h = branches_to-below v l a b (form_of (next_of pc len) inst) h
+branches-below v l a b pc inst len h = branches_to-below v l a b (form_of (next_address pc len) inst) h

@@ -20,7 +20,7 @@ use Rattle.tal_types.specs.Shown.{ShownImage}
 use Rattle.tal_types.proofs.Orders.{sub-refl, sub-trans, within-refl}
 use Rattle.tal_flow.specs.declared.places.Place.{Place}
 use Rattle.tal_flow.specs.declared.places.Place.TheVariants.{Whole, Slot, Length, Head, Method, Display}
-use Rattle.tal_flow.specs.Places.{whole, static_place, slot_place, object_place, array_place, element_place, display_place, table_place, based, stack_place, located, place_in, place_type, is_readable, is_writable, takes, operand_place, immediate_type, type_of, found, readable, writable, is_num, storable}
+use Rattle.tal_flow.specs.Places.{field_place, static_place, slot_place, object_place, array_place, element_place, display_place, table_place, based, stack_place, located, place_in, place_type, is_readable, is_writable, takes, operand_place, immediate_type, operand_type, found, readable, writable, is_num, storable}
 
 -- Places and operands in two contexts, one below the other.
 
@@ -61,9 +61,9 @@ unfolding within
 slot-within s l c d n g h e = grind (arith, nat_tests, l.slot_kept c d n g)
 
 -- a field that the higher class has, the lower one has
-whole-below : (s : ShapesView) (x y : Option FieldTy) → ((t : FieldTy) → y ≡ Some t → x ≡ Some t) → FoundBelow s (whole x) (whole y)
-whole-below s x None h = tt
-whole-below s x (Some t) h = rw (h t refl) refl
+field_place-below : (s : ShapesView) (x y : Option FieldTy) → ((t : FieldTy) → y ≡ Some t → x ≡ Some t) → FoundBelow s (field_place x) (field_place y)
+field_place-below s x None h = tt
+field_place-below s x (Some t) h = rw (h t refl) refl
 
 -- and so is it with a method
 method-below : (s : ShapesView) (x y : Option ℕ) → ((g : ℕ) → y ≡ Some g → x ≡ Some g) → FoundBelow s (option_map Method x) (option_map Method y)
@@ -79,9 +79,9 @@ if-both P false x y z w p q = q
 pub object_place-below : (s : ShapesView) → ClassLaws s → (r : Reg) (c d n : ℕ) → within s c d ≡ true → FoundBelow s (object_place s r c n) (object_place s r d n)
 unfolding object_place
 object_place-below s l r c d n h =
-    if-both (FoundBelow s) _ (Some (Head r c)) (whole (field_at s c n)) (Some (Head r d)) (whole (field_at s d n))
+    if-both (FoundBelow s) _ (Some (Head r c)) (field_place (field_at s c n)) (Some (Head r d)) (field_place (field_at s d n))
     (refl, h)
-    (whole-below s _ _ (λ t e. field-within s l c d n t h e))
+    (field_place-below s _ _ (λ t e. field-within s l c d n t h e))
 
 -- methods and displays
 pub table_place-below : (s : ShapesView) → ClassLaws s → (r : Reg) (c d n : ℕ) → within s c d ≡ true → FoundBelow s (table_place s r c n) (table_place s r d n)
@@ -97,9 +97,9 @@ pub element_place-below : (s : ShapesView) (a b : LiveContext) (r : Reg) (j k : 
 unfolding element_place
 element_place-below s a b r j k i scale n h e = rw e (go (b.pairs i r) (h.pairs i r))
   where
-    go : (t : Bool) → (t ≡ true → a.pairs i r ≡ true) → FoundBelow s (element_place s a r k i scale n) (if t && ((scale == 2) && (n == 8)) then whole (Element s k) else None)
+    go : (t : Bool) → (t ≡ true → a.pairs i r ≡ true) → FoundBelow s (element_place s a r k i scale n) (if t && ((scale == 2) && (n == 8)) then field_place (Element s k) else None)
     go false f = tt
-    go true f = rw (f refl) (place-same s (if (scale == 2) && (n == 8) then whole (Element s k) else None))
+    go true f = rw (f refl) (place-same s (if (scale == 2) && (n == 8) then field_place (Element s k) else None))
 
 -- places at a base other than ESP
 pub based-below : (s : ShapesView) → ClassLaws s → (a b : LiveContext) (r : Reg) (t u : Ty) (x : Option Reg) (k n : ℕ) → LiveBelow s a b → sub s t u ≡ true
@@ -201,12 +201,12 @@ found_type-below s a b (Some p) (Some q) h e = place_type-below s a b p q h e
 found_type-below s a b None (Some q) h e = absurd e
 
 -- an operand has a lower type
-pub type_of-below : (v : ShownImage) → ClassLaws v.shapes → (a b : LiveContext) (pc : ℕ) (x : Operand) → LiveBelow v.shapes a b
-    → sub v.shapes (type_of v a pc x) (type_of v b pc x) ≡ true
-unfolding type_of
-type_of-below v l a b pc (R r) h = h.regs r
-type_of-below v l a b pc (M m) h = found_type-below v.shapes a b _ _ h (place-below v.shapes l v.statics a b m h)
-type_of-below v l a b pc (I n) h = sub-refl v.shapes (immediate_type v pc n)
+pub operand_type-below : (v : ShownImage) → ClassLaws v.shapes → (a b : LiveContext) (pc : ℕ) (x : Operand) → LiveBelow v.shapes a b
+    → sub v.shapes (operand_type v a pc x) (operand_type v b pc x) ≡ true
+unfolding operand_type
+operand_type-below v l a b pc (R r) h = h.regs r
+operand_type-below v l a b pc (M m) h = found_type-below v.shapes a b _ _ h (place-below v.shapes l v.statics a b m h)
+operand_type-below v l a b pc (I n) h = sub-refl v.shapes (immediate_type v pc n)
 
 -- a place that the higher context has, the lower one has
 is_found-below : (s : ShapesView) (p q : Option Place) → FoundBelow s p q → is_some q ≡ true → is_some p ≡ true
@@ -297,8 +297,8 @@ all_found-below v l a b xs h e = all-below (found v a) (found v b) xs (λ x. fou
 
 -- rule 5 of all sources
 pub all_num-below : (v : ShownImage) → ClassLaws v.shapes → (a b : LiveContext) (pc : ℕ) (xs : List Operand) → LiveBelow v.shapes a b
-    → list_all (λ x. is_num (type_of v b pc x)) xs ≡ true → list_all (λ x. is_num (type_of v a pc x)) xs ≡ true
-all_num-below v l a b pc xs h e = all-below (λ x. is_num (type_of v a pc x)) (λ x. is_num (type_of v b pc x)) xs (λ x. is_num-below v.shapes _ _ (type_of-below v l a b pc x h)) e
+    → list_all (λ x. is_num (operand_type v b pc x)) xs ≡ true → list_all (λ x. is_num (operand_type v a pc x)) xs ≡ true
+all_num-below v l a b pc xs h e = all-below (λ x. is_num (operand_type v a pc x)) (λ x. is_num (operand_type v b pc x)) xs (λ x. is_num-below v.shapes _ _ (operand_type-below v l a b pc x h)) e
 
 -- rule 4 of all sources
 pub all_readable-below : (v : ShownImage) → ClassLaws v.shapes → (a b : LiveContext) (xs : List Operand) → LiveBelow v.shapes a b → list_all (found v b) xs ≡ true

@@ -15,10 +15,10 @@ use Rattle.tal_flow.specs.declared.places.Place.{Place}
 use Rattle.tal_flow.specs.declared.places.Place.TheVariants.{Display}
 use Rattle.tal_flow.specs.declared.rows.Family.{Family}
 use Rattle.tal_flow.specs.declared.rows.Family.TheVariants.{Numbers, Others}
-use Rattle.tal_flow.specs.Places.{place_type, operand_place, immediate_type, type_of}
+use Rattle.tal_flow.specs.Places.{place_type, operand_place, immediate_type, operand_type}
 use Rattle.tal_flow.specs.Rows.{family, has_null, unmarked_zero, marked_class, base_of_length, length_base, first_head, class_test, display_row, bound_kind, compare_row, compare_kind, test_row, test_kind}
 use Rattle.tal_flow.specs.Strongest.{OneHead}
-use Rattle.tal_flow.proofs.PlacesBelow.{FoundBelow, place-below, operand_place-below, type_of-below}
+use Rattle.tal_flow.proofs.PlacesBelow.{FoundBelow, place-below, operand_place-below, operand_type-below}
 
 -- The kinds that CMP and TEST give in two contexts, one below the other.
 
@@ -135,15 +135,15 @@ compare_row-below s a b d f f' g g' p p' x x' z m h one j w e i k y = go (is_dis
     go true q = unreadable_row-below s a b d f f' g g' p p' x x' z m (j (display-above s p p' k q)) e (display_row-below s a b p p' m h one k)
 
 -- a display has no family
-display-other : (v : ShownImage) (a : LiveContext) (pc : ℕ) (x : Operand) → is_display (operand_place v a x) ≡ true → family (type_of v a pc x) ≡ Others
-unfolding operand_place type_of place_type family
+display-other : (v : ShownImage) (a : LiveContext) (pc : ℕ) (x : Operand) → is_display (operand_place v a x) ≡ true → family (operand_type v a pc x) ≡ Others
+unfolding operand_place operand_type place_type family
 display-other v a pc (R r) e = absurd (grind arith)
 display-other v a pc (M m) e = grind arith
 display-other v a pc (I n) e = absurd (grind arith)
 
 -- an unmarked 0 is a number
-zero-number : (v : ShownImage) (a : LiveContext) (pc : ℕ) (x : Operand) → unmarked_zero v pc x ≡ true → family (type_of v a pc x) ≡ Numbers
-unfolding type_of unmarked_zero immediate_type family
+zero-number : (v : ShownImage) (a : LiveContext) (pc : ℕ) (x : Operand) → unmarked_zero v pc x ≡ true → family (operand_type v a pc x) ≡ Numbers
+unfolding operand_type unmarked_zero immediate_type family
 zero-number v a pc x e = grind arith
 
 -- a length in the higher context is one in the lower
@@ -165,8 +165,8 @@ compare_kind-below v l a b pc d x h one =
     compare_row-below v.shapes a b d _ _ _ _ _ _ _ _ (unmarked_zero v pc x) (marked_class v pc x) h one
     (display-other v a pc d)
     (zero-number v a pc x)
-    (family-below v.shapes _ _ (type_of-below v l a b pc d h))
-    (family-below v.shapes _ _ (type_of-below v l a b pc x h))
+    (family-below v.shapes _ _ (operand_type-below v l a b pc d h))
+    (family-below v.shapes _ _ (operand_type-below v l a b pc x h))
     (operand_place-below v l a b d h)
     (length_base-below v l a b x h)
 
@@ -179,4 +179,4 @@ test_row-below d f f' g g' z e i = grind (arith, same-refl)
 pub test_kind-below : (v : ShownImage) → ClassLaws v.shapes → (a b : LiveContext) (pc : ℕ) (d x : Operand) → LiveBelow v.shapes a b
     → KindBelow (test_kind v a pc d x) (test_kind v b pc d x)
 unfolding test_kind
-test_kind-below v l a b pc d x h = test_row-below d _ _ _ _ _ (family-below v.shapes _ _ (type_of-below v l a b pc d h)) (family-below v.shapes _ _ (type_of-below v l a b pc x h))
+test_kind-below v l a b pc d x h = test_row-below d _ _ _ _ _ (family-below v.shapes _ _ (operand_type-below v l a b pc d h)) (family-below v.shapes _ _ (operand_type-below v l a b pc x h))

@@ -19,13 +19,13 @@ use Rattle.tal_types.proofs.Orders.{sub-trans}
 use Rattle.tal_flow.specs.declared.forms.Form.{Form}
 use Rattle.tal_flow.specs.declared.forms.Form.TheVariants.{Refused, Compute, Move, Address, Compare, TestBits, PushOf, PopTo, DropSlots, CallTo, CallBy, Return, Jump, Branch, Nothing}
 use Rattle.tal_flow.specs.declared.calls.Called.{Called}
-use Rattle.tal_flow.specs.Places.{type_of, writable, storable, is_num}
+use Rattle.tal_flow.specs.Places.{operand_type, writable, storable, is_num}
 use Rattle.tal_flow.specs.Rows.{compare_kind, test_kind}
 use Rattle.tal_flow.specs.Calls.{call_to, call_by, is_callable, is_fit}
 use Rattle.tal_flow.specs.Edges.{allows}
 use Rattle.tal_flow.specs.Rules.{operand_rule, fits_result, address_is_num, may_drop}
 use Rattle.tal_flow.specs.Strongest.{OneHead}
-use Rattle.tal_flow.proofs.PlacesBelow.{type_of-below, found-below, readable-below, writable-below, storable-below, all_found-below, all_readable-below, all_num-below, is_num-below}
+use Rattle.tal_flow.proofs.PlacesBelow.{operand_type-below, found-below, readable-below, writable-below, storable-below, all_found-below, all_readable-below, all_num-below, is_num-below}
 use Rattle.tal_flow.proofs.RowsBelow.{KindBelow, compare_kind-below, test_kind-below}
 use Rattle.tal_flow.proofs.CallsBelow.{CalledBelow, call_to-below, call_by-below}
 
@@ -50,8 +50,8 @@ kind_there j k h e = grind arith
 
 -- a lower value may be stored where a higher one may
 stored-below : (v : ShownImage) → ClassLaws v.shapes → (a b : LiveContext) (pc : ℕ) (d x : Operand) → LiveBelow v.shapes a b → writable v b d ≡ true
-    → storable v b (type_of v b pc x) d ≡ true → storable v a (type_of v a pc x) d ≡ true
-stored-below v l a b pc d x h w e = storable-below v l a b d _ _ h (type_of-below v l a b pc x h) w e
+    → storable v b (operand_type v b pc x) d ≡ true → storable v a (operand_type v a pc x) d ≡ true
+stored-below v l a b pc d x h w e = storable-below v l a b d _ _ h (operand_type-below v l a b pc x h) w e
 
 -- a register of an address that holds a number above holds one below
 reg_num-below : (s : ShapesView) (a b : LiveContext) (o : Option Reg) → LiveBelow s a b → option_map_or (λ q. is_num (b.regs q)) o true ≡ true
@@ -94,9 +94,9 @@ call_to-holds v l a b address h e f = called-below v.shapes _ _ (call_to-below v
 
 -- nor has a CALL of an operand
 call_by-holds : (v : ShownImage) → ClassLaws v.shapes → (a b : LiveContext) (pc : ℕ) (x : Operand) → LiveBelow v.shapes a b
-    → is_callable (call_by v b (type_of v b pc x)) ≡ true → is_fit (call_by v b (type_of v b pc x)) ≡ true
-    → (is_callable (call_by v a (type_of v a pc x)) && is_fit (call_by v a (type_of v a pc x))) ≡ true
-call_by-holds v l a b pc x h e f = called-below v.shapes _ _ (call_by-below v l a b _ _ h (type_of-below v l a b pc x h)) e f
+    → is_callable (call_by v b (operand_type v b pc x)) ≡ true → is_fit (call_by v b (operand_type v b pc x)) ≡ true
+    → (is_callable (call_by v a (operand_type v a pc x)) && is_fit (call_by v a (operand_type v a pc x))) ≡ true
+call_by-holds v l a b pc x h e f = called-below v.shapes _ _ (call_by-below v l a b _ _ h (operand_type-below v l a b pc x h)) e f
 
 -- none of the rules 1 to 15 fails in the lower context alone
 pub operand_rule-below : (v : ShownImage) → ClassLaws v.shapes → (a b : LiveContext) (pc : ℕ) (f : Form) → LiveBelow v.shapes a b → OneHead a

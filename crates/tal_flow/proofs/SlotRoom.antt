@@ -12,7 +12,7 @@ use Rattle.tal_types.specs.Contexts.{LiveContext, same}
 use Rattle.tal_types.specs.Shown.{ShownImage}
 use Rattle.tal_flow.specs.declared.places.Place.{Place}
 use Rattle.tal_flow.specs.declared.places.Place.TheVariants.{Slot, Method}
-use Rattle.tal_flow.specs.Places.{whole, static_place, slot_place, object_place, array_place, element_place, display_place, table_place, based, stack_place, located, place_in, operand_place}
+use Rattle.tal_flow.specs.Places.{field_place, static_place, slot_place, object_place, array_place, element_place, display_place, table_place, based, stack_place, located, place_in, operand_place}
 
 -- A slot that is a place is one of the frame's.
 
@@ -32,9 +32,9 @@ slot_place-room c n i e = go (word_index 0 n) e
     go (Some j) f = there-within c.slots i (grind arith)
 
 -- a field's place is no slot
-whole-no_slot : (f : Option FieldTy) (i : ℕ) → whole f ≢ Some (Slot i)
-whole-no_slot None i e = absurd (grind arith)
-whole-no_slot (Some t) i e = absurd (grind arith)
+field_place-no_slot : (f : Option FieldTy) (i : ℕ) → field_place f ≢ Some (Slot i)
+field_place-no_slot None i e = absurd (grind arith)
+field_place-no_slot (Some t) i e = absurd (grind arith)
 
 -- a method's place is no slot
 method-no_slot : (g : Option ℕ) (i : ℕ) → option_map Method g ≢ Some (Slot i)
@@ -49,12 +49,12 @@ display-no_slot r n i e = grind arith
 -- a place at a base other than ESP is no slot
 based-no_slot : (s : ShapesView) (c : LiveContext) (r : Reg) (t : Ty) (x : Option Reg) (k n i : ℕ) → based s c r t x k n ≢ Some (Slot i)
 unfolding based object_place array_place element_place table_place
-based-no_slot s c r t x k n i e = grind (arith, whole-no_slot, method-no_slot, display-no_slot)
+based-no_slot s c r t x k n i e = grind (arith, field_place-no_slot, method-no_slot, display-no_slot)
 
 -- a slot that an operand means is one of the frame's
 located-room : (s : ShapesView) (statics : List FieldTy) (c : LiveContext) (r x : Option Reg) (k n i : ℕ) → located s statics c r x k n ≡ Some (Slot i) → i < length c.slots
 unfolding static_place
-located-room s statics c None None k n i e = absurd (whole-no_slot _ i e)
+located-room s statics c None None k n i e = absurd (field_place-no_slot _ i e)
 located-room s statics c None (Some x) k n i e = absurd (grind arith)
 located-room s statics c (Some r) x k n i e = go (same r Esp) x e
   where

@@ -4,7 +4,7 @@ use Rattle.object_layout.specs.Laws.{ClassLaws}
 use Rattle.tal_types.specs.Contexts.{ContextView, Dead, ContextBelow}
 use Rattle.tal_types.specs.Shown.{ShownImage}
 use Rattle.tal_types.proofs.Orders.{context-refl, context-trans}
-use Rattle.tal_flow.specs.Rules.{next_of}
+use Rattle.tal_flow.specs.Rules.{next_address}
 use Rattle.tal_flow.specs.Strongest.{Placed, NoRuleAt, falls_from, known_at, carried, start, contexts, at_in, At, NoneFails, Joined, placed_at, Chained, HasOneHead, BlocksHaveOneHead}
 use Rattle.tal_flow.proofs.Monotone.{rule-below, falls-below}
 use Rattle.tal_flow.proofs.Heads.{start-head, falls-head}
@@ -60,13 +60,13 @@ unfolding At
 at-row v xs pc x n e = at_in-row v xs Dead pc x n e
 
 -- an instruction in the rest ends above where the rest begins
-row-after : (n : ℕ) (xs : List Placed) (pc : ℕ) (x : Placed) → Chained n xs → placed_at xs pc ≡ Some x → n < next_of x.pc x.len
+row-after : (n : ℕ) (xs : List Placed) (pc : ℕ) (x : Placed) → Chained n xs → placed_at xs pc ≡ Some x → n < next_address x.pc x.len
 unfolding placed_at
 row-after n [] pc x h e = absurd (grind arith)
-row-after n (y ∷ xs) pc x h e = go (nat_eq y.pc pc) e (λ u. row-after (next_of y.pc y.len) xs pc x h.2 u)
+row-after n (y ∷ xs) pc x h e = go (nat_eq y.pc pc) e (λ u. row-after (next_address y.pc y.len) xs pc x h.2 u)
   where
-    go : (b : Bool) → (if b then Some y else placed_at xs pc) ≡ Some x → (placed_at xs pc ≡ Some x → next_of y.pc y.len < next_of x.pc x.len) → n < next_of x.pc x.len
-    go true e r = let f : y ≡ x = grind arith in subst (λ z. n < next_of z.pc z.len) f h.1
+    go : (b : Bool) → (if b then Some y else placed_at xs pc) ≡ Some x → (placed_at xs pc ≡ Some x → next_address y.pc y.len < next_address x.pc x.len) → n < next_address x.pc x.len
+    go true e r = let f : y ≡ x = grind arith in subst (λ z. n < next_address z.pc z.len) f h.1
     go false e r = let a = r e in let b = h.1 in omega arith
 
 -- the first instruction of the rest
@@ -77,29 +77,29 @@ at-first v n (z ∷ xs) c y h e = rw (h.0, eq-eqb n n refl) refl
 
 -- the context at the next address is what that has by itself, or else what falls to it
 at_in-next : (v : ShownImage) (xs : List Placed) (n : ℕ) (c : ContextView) (pc : ℕ) (x y : Placed) → Chained n xs → placed_at xs pc ≡ Some x
-    → placed_at xs (next_of x.pc x.len) ≡ Some y → at_in v xs c (next_of x.pc x.len) ≡ start v (next_of x.pc x.len) (falls_from v (at_in v xs c pc) x)
+    → placed_at xs (next_address x.pc x.len) ≡ Some y → at_in v xs c (next_address x.pc x.len) ≡ start v (next_address x.pc x.len) (falls_from v (at_in v xs c pc) x)
 unfolding placed_at at_in
 at_in-next v [] n c pc x y h e f = absurd (grind arith)
-at_in-next v (z ∷ xs) n c pc x y h e f = go (nat_eq z.pc pc) e (λ u g. at_in-next v xs (next_of z.pc z.len) (falls_from v (start v z.pc c) z) pc x y h.2 u g)
+at_in-next v (z ∷ xs) n c pc x y h e f = go (nat_eq z.pc pc) e (λ u g. at_in-next v xs (next_address z.pc z.len) (falls_from v (start v z.pc c) z) pc x y h.2 u g)
   where
-    passed : nat_eq z.pc (next_of z.pc z.len) ≡ false
+    passed : nat_eq z.pc (next_address z.pc z.len) ≡ false
     passed = let a = h.0 in let b = h.1 in grind (arith, nat_tests)
 
-    further : placed_at xs pc ≡ Some x → nat_eq z.pc (next_of x.pc x.len) ≡ false
-    further u = let a = h.0 in let b = h.1 in let d = row-after (next_of z.pc z.len) xs pc x h.2 u in grind (arith, nat_tests)
+    further : placed_at xs pc ≡ Some x → nat_eq z.pc (next_address x.pc x.len) ≡ false
+    further u = let a = h.0 in let b = h.1 in let d = row-after (next_address z.pc z.len) xs pc x h.2 u in grind (arith, nat_tests)
 
     go : (b : Bool) → (if b then Some z else placed_at xs pc) ≡ Some x
-        → (placed_at xs pc ≡ Some x → placed_at xs (next_of x.pc x.len) ≡ Some y → at_in v xs (falls_from v (start v z.pc c) z) (next_of x.pc x.len) ≡ start v (next_of x.pc x.len) (falls_from v (at_in v xs (falls_from v (start v z.pc c) z) pc) x))
-        → (if nat_eq z.pc (next_of x.pc x.len) then start v z.pc c else at_in v xs (falls_from v (start v z.pc c) z) (next_of x.pc x.len)) ≡ start v (next_of x.pc x.len) (falls_from v (if b then start v z.pc c else at_in v xs (falls_from v (start v z.pc c) z) pc) x)
-    go true e r = let q : z ≡ x = grind arith in subst (λ w. (if nat_eq z.pc (next_of w.pc w.len) then start v z.pc c else at_in v xs (falls_from v (start v z.pc c) z) (next_of w.pc w.len)) ≡ start v (next_of w.pc w.len) (falls_from v (start v z.pc c) w)) q (rw passed (at-first v (next_of z.pc z.len) xs _ y h.2 (let g : (if nat_eq z.pc (next_of x.pc x.len) then Some z else placed_at xs (next_of x.pc x.len)) ≡ Some y = f in let k : next_of x.pc x.len ≡ next_of z.pc z.len = ap (λ w. next_of w.pc w.len) (sym q) in rest k g)))
+        → (placed_at xs pc ≡ Some x → placed_at xs (next_address x.pc x.len) ≡ Some y → at_in v xs (falls_from v (start v z.pc c) z) (next_address x.pc x.len) ≡ start v (next_address x.pc x.len) (falls_from v (at_in v xs (falls_from v (start v z.pc c) z) pc) x))
+        → (if nat_eq z.pc (next_address x.pc x.len) then start v z.pc c else at_in v xs (falls_from v (start v z.pc c) z) (next_address x.pc x.len)) ≡ start v (next_address x.pc x.len) (falls_from v (if b then start v z.pc c else at_in v xs (falls_from v (start v z.pc c) z) pc) x)
+    go true e r = let q : z ≡ x = grind arith in subst (λ w. (if nat_eq z.pc (next_address w.pc w.len) then start v z.pc c else at_in v xs (falls_from v (start v z.pc c) z) (next_address w.pc w.len)) ≡ start v (next_address w.pc w.len) (falls_from v (start v z.pc c) w)) q (rw passed (at-first v (next_address z.pc z.len) xs _ y h.2 (let g : (if nat_eq z.pc (next_address x.pc x.len) then Some z else placed_at xs (next_address x.pc x.len)) ≡ Some y = f in let k : next_address x.pc x.len ≡ next_address z.pc z.len = ap (λ w. next_address w.pc w.len) (sym q) in rest k g)))
       where
-        rest : next_of x.pc x.len ≡ next_of z.pc z.len → (if nat_eq z.pc (next_of x.pc x.len) then Some z else placed_at xs (next_of x.pc x.len)) ≡ Some y
-            → placed_at xs (next_of z.pc z.len) ≡ Some y
+        rest : next_address x.pc x.len ≡ next_address z.pc z.len → (if nat_eq z.pc (next_address x.pc x.len) then Some z else placed_at xs (next_address x.pc x.len)) ≡ Some y
+            → placed_at xs (next_address z.pc z.len) ≡ Some y
         rest k g = rw (k, passed) at g
-    go false e r = let p = further e in let g : placed_at xs (next_of x.pc x.len) ≡ Some y = rw p at f in rw p (r e g)
+    go false e r = let p = further e in let g : placed_at xs (next_address x.pc x.len) ≡ Some y = rw p at f in rw p (r e g)
 
 -- the strongest context at the next instruction
-pub at-next : (v : ShownImage) (xs : List Placed) (n pc : ℕ) (x y : Placed) → Chained n xs → placed_at xs pc ≡ Some x → placed_at xs (next_of x.pc x.len) ≡ Some y
-    → At v xs (next_of x.pc x.len) ≡ start v (next_of x.pc x.len) (falls_from v (At v xs pc) x)
+pub at-next : (v : ShownImage) (xs : List Placed) (n pc : ℕ) (x y : Placed) → Chained n xs → placed_at xs pc ≡ Some x → placed_at xs (next_address x.pc x.len) ≡ Some y
+    → At v xs (next_address x.pc x.len) ≡ start v (next_address x.pc x.len) (falls_from v (At v xs pc) x)
 unfolding At
 at-next v xs n pc x y h e f = at_in-next v xs n Dead pc x y h e f

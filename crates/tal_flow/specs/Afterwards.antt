@@ -15,7 +15,7 @@ use Rattle.tal_flow.specs.declared.forms.Form.{Form}
 use Rattle.tal_flow.specs.declared.forms.Form.TheVariants.{Refused, Compute, Move, Address, Compare, TestBits, PushOf, PopTo, DropSlots, CallTo, CallBy, Return, Jump, Branch, Nothing}
 use Rattle.tal_flow.specs.declared.places.Place.{Place}
 use Rattle.tal_flow.specs.declared.places.Place.TheVariants.{Slot, Head}
-use Rattle.tal_flow.specs.Places.{operand_place, type_of}
+use Rattle.tal_flow.specs.Places.{operand_place, operand_type}
 use Rattle.tal_flow.specs.Rows.{compare_kind, test_kind}
 use Rattle.tal_flow.specs.Calls.{call_to, call_by, result_of}
 
@@ -96,19 +96,19 @@ unfoldable pub pop_to : Reg → LiveContext → LiveContext
 pop_to r c = with_slots (drop 1 c.slots) (write r (unwrap_or (slice_get c.slots 0) Junk) c)
 
 -- what an instruction leaves where it falls through, by its form
-unfoldable pub after : ShownImage → LiveContext → ℕ → Form → LiveContext
-after v c pc Refused = c
-after v c pc (Compute sources d wide k) = give_kind k (write_high wide (store v d Num c))
-after v c pc (Move d x) = note_head d (operand_place v c x) (store v d (type_of v c pc x) c)
-after v c pc (Address r m) = write r Num c
-after v c pc (Compare d x) = with_kind (unwrap_or (compare_kind v c pc d x) kind.Lost) c
-after v c pc (TestBits d x) = with_kind (unwrap_or (test_kind v c pc d x) kind.Lost) c
-after v c pc (PushOf x) = with_slots (type_of v c pc x ∷ c.slots) c
-after v c pc (PopTo r) = pop_to r c
-after v c pc (DropSlots bytes) = with_kind kind.Lost (with_slots (drop (unwrap_or (slots_in bytes) 0) c.slots) c)
-after v c pc (CallTo address) = after_call (result_of (call_to v c address)) c
-after v c pc (CallBy x) = after_call (result_of (call_by v c (type_of v c pc x))) c
-after v c pc Return = c
-after v c pc (Jump address) = c
-after v c pc (Branch condition address) = c
-after v c pc Nothing = c
+unfoldable pub after_form : ShownImage → LiveContext → ℕ → Form → LiveContext
+after_form v c pc Refused = c
+after_form v c pc (Compute sources d wide k) = give_kind k (write_high wide (store v d Num c))
+after_form v c pc (Move d x) = note_head d (operand_place v c x) (store v d (operand_type v c pc x) c)
+after_form v c pc (Address r m) = write r Num c
+after_form v c pc (Compare d x) = with_kind (unwrap_or (compare_kind v c pc d x) kind.Lost) c
+after_form v c pc (TestBits d x) = with_kind (unwrap_or (test_kind v c pc d x) kind.Lost) c
+after_form v c pc (PushOf x) = with_slots (operand_type v c pc x ∷ c.slots) c
+after_form v c pc (PopTo r) = pop_to r c
+after_form v c pc (DropSlots bytes) = with_kind kind.Lost (with_slots (drop (unwrap_or (slots_in bytes) 0) c.slots) c)
+after_form v c pc (CallTo address) = after_call (result_of (call_to v c address)) c
+after_form v c pc (CallBy x) = after_call (result_of (call_by v c (operand_type v c pc x))) c
+after_form v c pc Return = c
+after_form v c pc (Jump address) = c
+after_form v c pc (Branch condition address) = c
+after_form v c pc Nothing = c

@@ -61,13 +61,13 @@ call_to v c address =
     entry_or (call_of_signature v c (v.function_at address)) c (option_and_then (slice_get nucleus_arguments) (entry_number address))
 
 -- the signature of the function whose address it is
-abbrev pub signature_in : Ty → Option ℕ
-signature_in (ty.Code g) = Some g
-signature_in _ = None
+abbrev pub code_signature : Ty → Option ℕ
+code_signature (ty.Code g) = Some g
+code_signature _ = None
 
 -- a CALL of what has the type
 unfoldable pub call_by : ShownImage → LiveContext → Ty → Called
-call_by v c t = call_of_signature v c (signature_in t)
+call_by v c t = call_of_signature v c (code_signature t)
 
 -- rule 10
 unfoldable pub is_callable : Called → Bool

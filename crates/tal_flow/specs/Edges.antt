@@ -15,7 +15,7 @@ use Rattle.tal_flow.specs.declared.forms.Form.{Form}
 use Rattle.tal_flow.specs.declared.forms.Form.TheVariants.{Refused, Return, Jump, Branch}
 use Rattle.tal_flow.specs.declared.edges.Told.{Told}
 use Rattle.tal_flow.specs.declared.edges.Told.TheVariants.{Equal, Unequal, Below, Nothing}
-use Rattle.tal_flow.specs.Afterwards.{after}
+use Rattle.tal_flow.specs.Afterwards.{after_form}
 
 -- rule 15: the conditions that a flag kind allows: all after numbers were compared, else E and NE
 unfoldable pub allows : FlagKind → Cond → Bool
@@ -78,7 +78,7 @@ unfoldable pub falling : ShownImage → LiveContext → ℕ → Form → Context
 falling v c pc Return = Dead
 falling v c pc (Jump address) = Dead
 falling v c pc (Branch condition address) = refine v.shapes c c.kind (told_by_fall condition)
-falling v c pc form = Live (after v c pc form)
+falling v c pc form = Live (after_form v c pc form)
 
 -- what is known where a jump or a branch goes
 unfoldable pub branching : ShownImage → LiveContext → Form → ContextView

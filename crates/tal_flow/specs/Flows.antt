@@ -8,7 +8,8 @@ use Rattle.tal_flow.specs.declared.edges.Edges.{Edges}
 use Rattle.tal_flow.specs.declared.forms.Form.{Form}
 use Rattle.tal_flow.specs.Forms.{form_of}
 use Rattle.tal_flow.specs.Edges.{target_of, falls_to, branches_to}
-use Rattle.tal_flow.specs.Rules.{is_dead, trials, fails_in, next_of}
+use Rattle.tal_flow.specs.Trials.{fails_in}
+use Rattle.tal_flow.specs.Rules.{is_dead, trials, next_address}
 
 -- at an instruction of the form at pc in context c, with the next one at `next`, no rule fails, `after` is
 -- what falls through, and the edges say whether a run may fall through and where a run may branch, with
@@ -21,4 +22,4 @@ pub record FormFlows (v : ShownImage) (c : ContextView) (pc next : ℕ) (form : 
 
 -- the same of an instruction whose spelling has `len` bytes
 abbrev pub Flows : ShownImage → ContextView → ℕ → Inst → ℕ → ContextView → Edges → Type 0
-Flows v c pc inst len after edges = FormFlows v c pc (next_of pc len) (form_of (next_of pc len) inst) after edges
+Flows v c pc inst len after edges = FormFlows v c pc (next_address pc len) (form_of (next_address pc len) inst) after edges

@@ -13,8 +13,8 @@ use Rattle.tal_flow.specs.declared.forms.Form.{Form}
 use Rattle.tal_flow.specs.declared.forms.Form.TheVariants.{Refused, Compute, Move, Address, Compare, TestBits, PushOf, PopTo, DropSlots, CallTo, CallBy, Return, Jump, Branch, Nothing}
 
 -- the address at a distance from the next instruction, modulo 2^32
-unfoldable pub target : ℕ → ℤ → ℕ
-target next distance = (next + cast_unsigned w32 distance) % 2 ^ 32
+unfoldable pub address_at : ℕ → ℤ → ℕ
+address_at next distance = (next + cast_unsigned w32 distance) % 2 ^ 32
 
 -- one, two or three operands
 abbrev pub one : Operand → List Operand
@@ -45,16 +45,16 @@ form_of next (inst.Imul1 x) = Compute (two (R Eax) x) (R Eax) true (Some Lost)
 form_of next (inst.Div x) = Compute (three (R Eax) (R Edx) x) (R Eax) true (Some Lost)
 form_of next (inst.Idiv x) = Compute (three (R Eax) (R Edx) x) (R Eax) true (Some Lost)
 form_of next (inst.Imul2 d x) = Compute (two d x) d false (Some Lost)
-form_of next (inst.Imul3 d x n) = Compute (one x) d false (Some Lost)
+form_of next (inst.Imul3 d x n) = Compute (two x (I n)) d false (Some Lost)
 form_of next (inst.Shift op d (By n)) = Compute (one d) d false (if n % 32 == 0 then None else Some Eq)
 form_of next (inst.Shift op d Cl) = Compute (two d (R Ecx)) d false (Some Lost)
 form_of next inst.Cdq = Compute (one (R Eax)) (R Edx) false None
 form_of next inst.Nop = Nothing
 form_of next (inst.Push x) = PushOf x
 form_of next (inst.Pop r) = PopTo r
-form_of next (inst.CallRel distance) = CallTo (target next distance)
+form_of next (inst.CallRel distance) = CallTo (address_at next distance)
 form_of next (inst.CallAt x) = CallBy x
 form_of next inst.Ret = Return
-form_of next (inst.Jmp distance) = Jump (target next distance)
-form_of next (inst.Jcc condition distance) = Branch condition (target next distance)
+form_of next (inst.Jmp distance) = Jump (address_at next distance)
+form_of next (inst.Jcc condition distance) = Branch condition (address_at next distance)
 form_of next (inst.Priv op arg) = Refused

@@ -4,6 +4,7 @@ pub mod Rows
 pub mod Calls
 pub mod Afterwards
 pub mod Edges
+pub mod Trials
 pub mod Rules
 pub mod Flows
 pub mod Strongest

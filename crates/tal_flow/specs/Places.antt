@@ -21,12 +21,12 @@ use Rattle.tal_flow.specs.declared.places.Place.TheVariants.{Whole, Slot, Length
 -- ---- places, by base and index
 
 -- the place of a value of a field's type
-abbrev pub whole : Option FieldTy → Option Place
-whole field = option_map (λ t. Whole (of_field t)) field
+abbrev pub field_place : Option FieldTy → Option Place
+field_place field = option_map (λ t. Whole (of_field t)) field
 
 -- static: no base, no index, the word of a static, from the first one's on
 unfoldable pub static_place : List FieldTy → ℕ → Option Place
-static_place statics disp = whole (option_and_then (slice_get statics) (word_index statics_start disp))
+static_place statics disp = field_place (option_and_then (slice_get statics) (word_index statics_start disp))
 
 -- slot: base ESP, no index, the word of a slot; slot i stands at ESP + 4i
 unfoldable pub slot_place : LiveContext → ℕ → Option Place
@@ -34,7 +34,7 @@ slot_place c disp = option_and_then (λ i. if is_some (slice_get c.slots i) then
 
 -- head: base Obj c, no index, displacement 0. Field: the displacement of a field
 unfoldable pub object_place : ShapesView → Reg → ℕ → ℕ → Option Place
-object_place s r c disp = if disp == 0 then Some (Head r c) else whole (field_at s c disp)
+object_place s r c disp = if disp == 0 then Some (Head r c) else field_place (field_at s c disp)
 
 -- length: base Arr k, no index, displacement 4
 unfoldable pub array_place : ℕ → Option Place
@@ -42,7 +42,7 @@ array_place disp = if disp == 4 then Some Length else None
 
 -- element: base a of Arr k, index i times 4, displacement 8, the pair (i, a)
 unfoldable pub element_place : ShapesView → LiveContext → Reg → ℕ → Reg → ℕ → ℕ → Option Place
-element_place s c a k i scale disp = if c.pairs i a && ((scale == 2) && (disp == 8)) then whole (Element s k) else None
+element_place s c a k i scale disp = if c.pairs i a && ((scale == 2) && (disp == 8)) then field_place (Element s k) else None
 
 -- display: base Tab c, no index, displacement 12 + 4d, d 0 to 7
 unfoldable pub display_place : Reg → ℕ → Option Place
@@ -133,10 +133,10 @@ unfoldable pub immediate_type : ShownImage → ℕ → ℕ → Ty
 immediate_type v pc n = option_map_or (mark_type v n) (v.mark_at pc) Num
 
 -- the type of an operand of the instruction at pc
-unfoldable pub type_of : ShownImage → LiveContext → ℕ → Operand → Ty
-type_of v c pc (R r) = c.regs r
-type_of v c pc (M m) = option_map_or (place_type c) (place_in v.shapes v.statics c m) Junk
-type_of v c pc (I n) = immediate_type v pc n
+unfoldable pub operand_type : ShownImage → LiveContext → ℕ → Operand → Ty
+operand_type v c pc (R r) = c.regs r
+operand_type v c pc (M m) = option_map_or (place_type c) (place_in v.shapes v.statics c m) Junk
+operand_type v c pc (I n) = immediate_type v pc n
 
 -- ---- what rules ask of one operand
 

@@ -16,7 +16,7 @@ use Rattle.tal_flow.specs.declared.places.Place.{Place}
 use Rattle.tal_flow.specs.declared.places.Place.TheVariants.{Length, Display}
 use Rattle.tal_flow.specs.declared.rows.Family.{Family}
 use Rattle.tal_flow.specs.declared.rows.Family.TheVariants.{Numbers, Objects, Arrays, Routines, Others}
-use Rattle.tal_flow.specs.Places.{place_in, operand_place, type_of, immediate_type}
+use Rattle.tal_flow.specs.Places.{place_in, operand_place, operand_type, immediate_type}
 
 -- what CMP and TEST ask of a type
 unfoldable pub family : Ty → Family
@@ -42,13 +42,13 @@ unmarked_zero v pc (I n) = (n == 0) && not (is_some (v.mark_at pc))
 unmarked_zero v pc _ = false
 
 -- the class whose table has the type
-abbrev pub class_of : Ty → Option ℕ
-class_of (ty.Tab c) = Some c
-class_of _ = None
+abbrev pub table_class : Ty → Option ℕ
+table_class (ty.Tab c) = Some c
+table_class _ = None
 
 -- the class that an immediate is marked with
 unfoldable pub marked_class : ShownImage → ℕ → Operand → Option ℕ
-marked_class v pc (I n) = class_of (immediate_type v pc n)
+marked_class v pc (I n) = table_class (immediate_type v pc n)
 marked_class v pc _ = None
 
 -- the base, where the place is a length
@@ -108,7 +108,7 @@ compare_row s c d f g place array zero class = if has_null f && zero then Some (
 -- the kind that CMP d,x gives
 unfoldable pub compare_kind : ShownImage → LiveContext → ℕ → Operand → Operand → Option FlagKind
 compare_kind v c pc d x =
-    compare_row v.shapes c d (family (type_of v c pc d)) (family (type_of v c pc x)) (operand_place v c d) (length_base v c x) (unmarked_zero v pc x) (marked_class v pc x)
+    compare_row v.shapes c d (family (operand_type v c pc d)) (family (operand_type v c pc x)) (operand_place v c d) (length_base v c x) (unmarked_zero v pc x) (marked_class v pc x)
 
 -- both operands are one register
 abbrev pub same_register : Operand → Operand → Bool
@@ -122,4 +122,4 @@ test_row d f g alike = if alike && has_null f then Some (null_kind d) else None
 
 -- the kind that TEST d,x gives
 unfoldable pub test_kind : ShownImage → LiveContext → ℕ → Operand → Operand → Option FlagKind
-test_kind v c pc d x = test_row d (family (type_of v c pc d)) (family (type_of v c pc x)) (same_register d x)
+test_kind v c pc d x = test_row d (family (operand_type v c pc d)) (family (operand_type v c pc x)) (same_register d x)

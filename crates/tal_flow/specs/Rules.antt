@@ -1,7 +1,7 @@
--- The rules of typing, 1 to 17: which are tried at an instruction, by its form, and which fail.
+-- The rules of typing: which are tried at an instruction, by its form, and which fail.
 use Rattle.std.specs.Prelude.{◌≡◌, ℕ, ◌+◌, ◌%◌, ◌^◌, ◌<◌, ◌==◌, Bool, true, false, not, ◌&&◌, ◌||◌, nat_le, nat_lt, List, [], ◌∷◌, ◌++◌, length, Option, Some, None, is_some}
 use Rattle.std.specs.List.{list_all}
-use Rattle.std.specs.Option.{option_and_then, option_map_or, option_or}
+use Rattle.std.specs.Option.{option_map, option_and_then, option_map_or, option_or}
 use Rattle.ia32_code.specs.declared.instruction.Reg.{Reg}
 use Rattle.ia32_code.specs.declared.instruction.Reg.TheVariants.{Eax, Esp}
 use Rattle.ia32_code.specs.declared.instruction.Mem.{Mem}
@@ -15,36 +15,16 @@ use Rattle.tal_types.specs.Contexts.{LiveContext, ContextView, Dead, Live, same,
 use Rattle.tal_types.specs.Shown.{ShownImage}
 use Rattle.tal_flow.specs.declared.forms.Form.{Form}
 use Rattle.tal_flow.specs.declared.forms.Form.TheVariants.{Refused, Compute, Move, Address, Compare, TestBits, PushOf, PopTo, DropSlots, CallTo, CallBy, Return, Jump, Branch, Nothing}
+use Rattle.tal_flow.specs.declared.trials.RuleName.{RuleName}
+use Rattle.tal_flow.specs.declared.trials.RuleName.TheVariants as rule
+use Rattle.tal_flow.specs.declared.trials.Trial.{Trial}
+use Rattle.tal_flow.specs.Trials.{rule_number, ask, fails_in, first_failing}
 use Rattle.tal_flow.specs.Forms.{form_of}
-use Rattle.tal_flow.specs.Places.{spares_esp, is_esp, found, readable, writable, is_num, storable, type_of}
+use Rattle.tal_flow.specs.Places.{spares_esp, is_esp, found, readable, writable, is_num, storable, immediate_type, operand_type}
 use Rattle.tal_flow.specs.Rows.{compare_kind, test_kind}
 use Rattle.tal_flow.specs.Calls.{call_to, call_by, is_callable, is_fit}
 use Rattle.tal_flow.specs.Afterwards.{slots_in}
 use Rattle.tal_flow.specs.Edges.{allows, falling, branching, target_of, falls_to, branches_to, is_refused}
-
--- a rule that is tried, by its number, and whether it holds
-pub record Trial : Type 0 where
-  pub rule : ℕ
-  pub holds : Bool
-
--- rule n, which asks this
-abbrev pub ask : ℕ → Bool → Trial
-ask n holds = record { rule = n; holds = holds }
-
--- rule n fails where it is tried and does not hold
-unfoldable pub fails_in : List Trial → ℕ → Bool
-fails_in [] n = false
-fails_in (t ∷ ts) n = (t.rule == n) && not t.holds || fails_in ts n
-
--- rule n, where its test fails, and else what follows
-abbrev pub demand : ℕ → Bool → Option ℕ → Option ℕ
-demand n true rest = rest
-demand n false rest = Some n
-
--- the first that fails of the rules that are tried
-abbrev pub first_failing : List Trial → Option ℕ
-first_failing [] = None
-first_failing (t ∷ ts) = demand t.rule t.holds (first_failing ts)
 
 -- the address lies in the function that has the byte at pc
 unfoldable pub in_function : ShownImage → ℕ → ℕ → Bool
@@ -55,8 +35,8 @@ unfoldable pub fits_result : ShownImage → ℕ → Ty → Bool
 fits_result v pc t = option_map_or (λ (sig : Sig). sub v.shapes t sig.result) (option_and_then (λ (span : Span). v.sig span.sig) (v.function_of pc)) false
 
 -- rule 14: a block of the same function begins there
-unfoldable pub is_target : ShownImage → ℕ → ℕ → Bool
-is_target v pc address = is_some (v.block_at address) && in_function v pc address
+unfoldable pub has_block : ShownImage → ℕ → ℕ → Bool
+has_block v pc address = is_some (v.block_at address) && in_function v pc address
 
 -- rule 2, of LEA, whose operand names no ESP
 unfoldable pub address_spares_esp : Reg → Mem → Bool
@@ -73,74 +53,75 @@ may_drop c bytes = option_map_or (λ n. nat_le n (length c.slots)) (slots_in byt
 -- the rules 1 to 15 that are tried, by the instruction's form
 abbrev pub operand_trials : ShownImage → LiveContext → ℕ → Form → List Trial
 operand_trials v c pc Refused =
-    ask 1 false
+    ask rule.Instruction false
     ∷ []
 operand_trials v c pc (Compute sources d wide kind) =
-    ask 2 (list_all spares_esp sources && spares_esp d)
-    ∷ ask 3 (list_all (found v c) sources && found v c d)
-    ∷ ask 4 (list_all (readable v c) sources && writable v c d)
-    ∷ ask 5 (list_all (λ x. is_num (type_of v c pc x)) sources)
+    ask rule.EspRole (list_all spares_esp sources && spares_esp d)
+    ∷ ask rule.Place (list_all (found v c) sources && found v c d)
+    ∷ ask rule.Access (list_all (readable v c) sources && writable v c d)
+    ∷ ask rule.Number (list_all (λ x. is_num (operand_type v c pc x)) sources)
     ∷ []
 operand_trials v c pc (Move d x) =
-    ask 2 (spares_esp d && spares_esp x)
-    ∷ ask 3 (found v c d && found v c x)
-    ∷ ask 4 (writable v c d && readable v c x)
-    ∷ ask 6 (storable v c (type_of v c pc x) d)
+    ask rule.EspRole (spares_esp d && spares_esp x)
+    ∷ ask rule.Place (found v c d && found v c x)
+    ∷ ask rule.Access (writable v c d && readable v c x)
+    ∷ ask rule.Stored (storable v c (operand_type v c pc x) d)
     ∷ []
 operand_trials v c pc (Address r m) =
-    ask 2 (address_spares_esp r m)
-    ∷ ask 5 (address_is_num c m)
+    ask rule.EspRole (address_spares_esp r m)
+    ∷ ask rule.Number (address_is_num c m)
     ∷ []
 operand_trials v c pc (Compare d x) =
-    ask 2 (spares_esp d && spares_esp x)
-    ∷ ask 3 (found v c d && found v c x)
-    ∷ ask 9 (is_some (compare_kind v c pc d x))
+    ask rule.EspRole (spares_esp d && spares_esp x)
+    ∷ ask rule.Place (found v c d && found v c x)
+    ∷ ask rule.Comparison (is_some (compare_kind v c pc d x))
     ∷ []
 operand_trials v c pc (TestBits d x) =
-    ask 2 (spares_esp d && spares_esp x)
-    ∷ ask 3 (found v c d && found v c x)
-    ∷ ask 4 (readable v c d && readable v c x)
-    ∷ ask 9 (is_some (test_kind v c pc d x))
+    ask rule.EspRole (spares_esp d && spares_esp x)
+    ∷ ask rule.Place (found v c d && found v c x)
+    ∷ ask rule.Access (readable v c d && readable v c x)
+    ∷ ask rule.Comparison (is_some (test_kind v c pc d x))
     ∷ []
 operand_trials v c pc (PushOf x) =
-    ask 2 (spares_esp x)
-    ∷ ask 3 (found v c x)
-    ∷ ask 4 (readable v c x)
-    ∷ ask 7 (nat_lt (length c.slots) 64)
+    ask rule.EspRole (spares_esp x)
+    ∷ ask rule.Place (found v c x)
+    ∷ ask rule.Access (readable v c x)
+    ∷ ask rule.SlotRoom (nat_lt (length c.slots) 64)
     ∷ []
 operand_trials v c pc (PopTo r) =
-    ask 2 (not (same r Esp))
-    ∷ ask 8 (nat_le 1 (length c.slots))
+    ask rule.EspRole (not (same r Esp))
+    ∷ ask rule.SlotsThere (nat_le 1 (length c.slots))
     ∷ []
 operand_trials v c pc (DropSlots bytes) =
-    ask 8 (may_drop c bytes)
+    ask rule.Number (is_num (immediate_type v pc bytes))
+    ∷ ask rule.SlotsThere (may_drop c bytes)
     ∷ []
 operand_trials v c pc (CallTo address) =
-    ask 10 (is_callable (call_to v c address))
-    ∷ ask 11 (is_fit (call_to v c address))
+    ask rule.Callee (is_callable (call_to v c address))
+    ∷ ask rule.Arguments (is_fit (call_to v c address))
     ∷ []
 operand_trials v c pc (CallBy x) =
-    ask 2 (spares_esp x)
-    ∷ ask 3 (found v c x)
-    ∷ ask 4 (readable v c x)
-    ∷ ask 10 (is_callable (call_by v c (type_of v c pc x)))
-    ∷ ask 11 (is_fit (call_by v c (type_of v c pc x)))
+    ask rule.EspRole (spares_esp x)
+    ∷ ask rule.Place (found v c x)
+    ∷ ask rule.Access (readable v c x)
+    ∷ ask rule.Callee (is_callable (call_by v c (operand_type v c pc x)))
+    ∷ ask rule.Arguments (is_fit (call_by v c (operand_type v c pc x)))
     ∷ []
 operand_trials v c pc Return =
-    ask 12 (length c.slots == 0)
-    ∷ ask 13 (fits_result v pc (c.regs Eax))
+    ask rule.SlotsLeft (length c.slots == 0)
+    ∷ ask rule.Returned (fits_result v pc (c.regs Eax))
     ∷ []
 operand_trials v c pc (Jump address) =
-    ask 14 (is_target v pc address)
+    ask rule.Target (has_block v pc address)
     ∷ []
 operand_trials v c pc (Branch condition address) =
-    ask 14 (is_target v pc address)
-    ∷ ask 15 (allows c.kind condition)
+    ask rule.Target (has_block v pc address)
+    ∷ ask rule.Condition (allows c.kind condition)
     ∷ []
 operand_trials v c pc Nothing = []
 
 -- the first of the rules 1 to 15 that fails, or none
-unfoldable pub operand_rule : ShownImage → LiveContext → ℕ → Form → Option ℕ
+unfoldable pub operand_rule : ShownImage → LiveContext → ℕ → Form → Option RuleName
 operand_rule v c pc form = first_failing (operand_trials v c pc form)
 
 -- rule 16: what is known on an edge is below the block's annotation, where the edge comes to a block
@@ -155,33 +136,33 @@ is_dead (Live c) = false
 -- the rules 16 and 17, on both edges
 abbrev pub edge_trials : ShownImage → LiveContext → ℕ → ℕ → Form → List Trial
 edge_trials v c pc next form =
-    ask 16 (edge_fits v.shapes (branching v c form) (option_and_then v.block_at (target_of form)) && edge_fits v.shapes (falling v c pc form) (v.block_at next))
-    ∷ ask 17 (is_dead (falling v c pc form) || in_function v pc next)
+    ask rule.Annotation (edge_fits v.shapes (branching v c form) (option_and_then v.block_at (target_of form)) && edge_fits v.shapes (falling v c pc form) (v.block_at next))
+    ∷ ask rule.FunctionEnd (is_dead (falling v c pc form) || in_function v pc next)
     ∷ []
 
 -- the first of the rules 16 and 17 that fails, or none
-unfoldable pub edge_rule : ShownImage → LiveContext → ℕ → ℕ → Form → Option ℕ
+unfoldable pub edge_rule : ShownImage → LiveContext → ℕ → ℕ → Form → Option RuleName
 edge_rule v c pc next form = first_failing (edge_trials v c pc next form)
 
 -- the rules that are tried at the instruction at pc of this form, with the next one at `next`; in the dead
 -- context rule 1 alone
 abbrev pub trials : ShownImage → ContextView → ℕ → ℕ → Form → List Trial
-trials v Dead pc next form = ask 1 (not (is_refused form)) ∷ []
+trials v Dead pc next form = ask rule.Instruction (not (is_refused form)) ∷ []
 trials v (Live c) pc next form = operand_trials v c pc form ++ edge_trials v c pc next form
 
 -- the first rule that fails at such an instruction, or none
-unfoldable pub rule_of_form : ShownImage → ContextView → ℕ → ℕ → Form → Option ℕ
-rule_of_form v Dead pc next Refused = Some 1
+unfoldable pub rule_of_form : ShownImage → ContextView → ℕ → ℕ → Form → Option RuleName
+rule_of_form v Dead pc next Refused = Some rule.Instruction
 rule_of_form v Dead pc next form = None
 rule_of_form v (Live c) pc next form = option_or (operand_rule v c pc form) (edge_rule v c pc next form)
 
 -- the address behind an instruction, modulo 2^32
-unfoldable pub next_of : ℕ → ℕ → ℕ
-next_of pc len = (pc + len) % 2 ^ 32
+unfoldable pub next_address : ℕ → ℕ → ℕ
+next_address pc len = (pc + len) % 2 ^ 32
 
 -- rule n fails at an instruction
 abbrev pub RuleFails : ShownImage → ContextView → ℕ → Inst → ℕ → ℕ → Type 0
-RuleFails v c pc inst len n = fails_in (trials v c pc (next_of pc len) (form_of (next_of pc len) inst)) n ≡ true
+RuleFails v c pc inst len n = fails_in (trials v c pc (next_address pc len) (form_of (next_address pc len) inst)) n ≡ true
 
 -- no rule fails at it
 abbrev pub NoRuleFails : ShownImage → ContextView → ℕ → Inst → ℕ → Type 0
@@ -192,18 +173,18 @@ pub record LeastRule (v : ShownImage) (c : ContextView) (pc : ℕ) (inst : Inst)
   pub fails : RuleFails v c pc inst len n
   pub least : (m : ℕ) → m < n → RuleFails v c pc inst len m → ⊥
 
--- the first rule that fails at an instruction, or none. It is the least one, since the rules are tried in their order
+-- the number of the first rule that fails at an instruction, or none. It is the least one, since the rules are tried in their order
 unfoldable pub rule_of : ShownImage → ContextView → ℕ → Inst → ℕ → Option ℕ
-rule_of v c pc inst len = rule_of_form v c pc (next_of pc len) (form_of (next_of pc len) inst)
+rule_of v c pc inst len = option_map rule_number (rule_of_form v c pc (next_address pc len) (form_of (next_address pc len) inst))
 
 -- what falls through an instruction
 unfoldable pub Falls : ShownImage → ContextView → ℕ → Inst → ℕ → ContextView
-Falls v c pc inst len = falls_to v c pc (form_of (next_of pc len) inst)
+Falls v c pc inst len = falls_to v c pc (form_of (next_address pc len) inst)
 
 -- what its jump or branch takes along
 unfoldable pub Branches : ShownImage → ContextView → ℕ → Inst → ℕ → ContextView
-Branches v c pc inst len = branches_to v c (form_of (next_of pc len) inst)
+Branches v c pc inst len = branches_to v c (form_of (next_address pc len) inst)
 
 -- where its jump or branch goes
 unfoldable pub Target : ℕ → Inst → ℕ → Option ℕ
-Target pc inst len = target_of (form_of (next_of pc len) inst)
+Target pc inst len = target_of (form_of (next_address pc len) inst)

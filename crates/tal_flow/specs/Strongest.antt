@@ -2,10 +2,12 @@
 use Rattle.std.specs.Prelude.{◌≡◌, ℕ, ◌<◌, ◌==◌, true, List, [], ◌∷◌, Option, Some, None, if◌then◌else◌}
 use Rattle.std.specs.Option.{option_map, option_and_then, option_or}
 use Rattle.ia32_code.specs.declared.instruction.Reg.{Reg}
+use Rattle.ia32_code.specs.declared.instruction.Reg.TheVariants.{Esp}
 use Rattle.ia32_code.specs.declared.instruction.Inst.{Inst}
+use Rattle.tal_types.specs.declared.types.Ty.TheVariants.{Junk}
 use Rattle.tal_types.specs.Contexts.{LiveContext, ContextView, Dead, Live, ContextBelow, entry}
 use Rattle.tal_types.specs.Shown.{ShownImage}
-use Rattle.tal_flow.specs.Rules.{NoRuleFails, LeastRule, rule_of, next_of, Falls}
+use Rattle.tal_flow.specs.Rules.{NoRuleFails, LeastRule, rule_of, next_address, Falls}
 
 -- an instruction of the code, with its address and the length of its spelling
 pub record Placed : Type 0 where
@@ -57,15 +59,17 @@ at_in v (x ∷ xs) c pc = if x.pc == pc then start v x.pc c else at_in v xs (fal
 unfoldable pub At : ShownImage → List Placed → ℕ → ContextView
 At v xs pc = at_in v xs Dead pc
 
--- no rule fails at any instruction, in the context that stands for it in the list
+-- there is a context for each instruction, and no rule fails at any in its context
 abbrev pub NoneFails : ShownImage → List Placed → List ContextView → Type 0
-NoneFails v [] cs = Unit {0}
+NoneFails v [] [] = Unit {0}
+NoneFails v [] (c ∷ cs) = ⊥
 NoneFails v (x ∷ xs) [] = ⊥
 NoneFails v (x ∷ xs) (c ∷ cs) = NoRuleAt v c x × NoneFails v xs cs
 
 -- each context is above what its address has by itself, or else above what falls to it
 abbrev pub Joined : ShownImage → List Placed → List ContextView → ContextView → Type 0
-Joined v [] cs falls = Unit {0}
+Joined v [] [] falls = Unit {0}
+Joined v [] (c ∷ cs) falls = ⊥
 Joined v (x ∷ xs) [] falls = ⊥
 Joined v (x ∷ xs) (c ∷ cs) falls = ContextBelow v.shapes (start v x.pc falls) c × Joined v xs cs (falls_from v c x)
 
@@ -77,7 +81,16 @@ placed_at (x ∷ xs) pc = if x.pc == pc then Some x else placed_at xs pc
 -- each instruction begins where the one before ends, from n on, and addresses rise
 abbrev pub Chained : ℕ → List Placed → Type 0
 Chained n [] = Unit {0}
-Chained n (x ∷ xs) = (x.pc ≡ n) × (n < next_of x.pc x.len) × Chained (next_of x.pc x.len) xs
+Chained n (x ∷ xs) = (x.pc ≡ n) × (n < next_address x.pc x.len) × Chained (next_address x.pc x.len) xs
+
+-- nothing is known of what ESP holds
+abbrev pub HasJunkEsp : ContextView → Type 0
+HasJunkEsp Dead = Unit {0}
+HasJunkEsp (Live c) = c.regs Esp ≡ Junk
+
+-- no block's annotation tells of ESP
+abbrev pub BlocksHaveJunkEsp : ShownImage → Type 0
+BlocksHaveJunkEsp v = (pc : ℕ) (c : ContextView) → v.block_at pc ≡ Some c → HasJunkEsp c
 
 -- no table register has two heads
 abbrev pub OneHead : LiveContext → Type 0

@@ -1,13 +1,13 @@
 ghost use Rattle.std.specs.Prelude.{◌≡◌, true, None, drop, unwrap_or};
 ghost use Rattle.tal_types.specs.Kept.{live_of};
-ghost use Rattle.tal_flow.specs.Places.{spares_esp, operand_place, type_of};
-ghost use Rattle.tal_flow.specs.Afterwards.{store, note_head, write_high, give_kind, slots_in, with_kind, with_slots, after};
+ghost use Rattle.tal_flow.specs.Places.{spares_esp, operand_place, operand_type};
+ghost use Rattle.tal_flow.specs.Afterwards.{store, note_head, write_high, give_kind, slots_in, with_kind, with_slots, after_form};
 ghost use Rattle.tal_flow.specs.Rules.{operand_rule, may_drop};
 
 use crate::calls::{call_by, call_to, result_of};
 use crate::forms::Form;
 use crate::known::{add_head, after_call, drop_slots, pop_to, push, set_kind, set_slot, write};
-use crate::operands::{operand_place, type_of};
+use crate::operands::{operand_place, operand_type};
 use crate::places::Place;
 use crate::rows::{compare_kind, test_kind};
 use ia32_code::{Operand, Reg};
@@ -88,10 +88,10 @@ fn compute<V: ImageView>(
 fn move_to<V: ImageView>(image: &V, context: &mut Context, pc: u32, d: &Operand, x: &Operand)
     requires { spares_esp d.now ≡ true }
     ensures known { live_of context.new ≡ note_head d.now (operand_place (V.shown image.now) (live_of context.old) x.now)
-        (store (V.shown image.now) d.now (type_of (V.shown image.now) (live_of context.old) pc x.now) (live_of context.old)) }
+        (store (V.shown image.now) d.now (operand_type (V.shown image.now) (live_of context.old) pc x.now) (live_of context.old)) }
     ensures dead { context.new.dead ≡ context.old.dead }
 {
-    let t = type_of(image, context, pc, x);
+    let t = operand_type(image, context, pc, x);
     let place = operand_place(image, context, x);
     store(image, context, d, t);
     note_head(context, d, place);
@@ -112,10 +112,10 @@ fn drop_bytes(context: &mut Context, bytes: u32)
 
 /// Turns what is known before an instruction, none of whose rules 1 to 15 fails, into what is known
 /// where it falls through.
-#[tactic(auto, unfolding(crate::specs::Afterwards::after, crate::specs::Rules::operand_rule, crate::specs::Rules::address_spares_esp))]
+#[tactic(auto, unfolding(crate::specs::Afterwards::after_form, crate::specs::Rules::operand_rule, crate::specs::Rules::address_spares_esp))]
 pub(crate) fn step<V: ImageView>(image: &V, context: &mut Context, pc: u32, form: &Form)
     requires { operand_rule (V.shown image.now) (live_of context.old) pc form.now ≡ None }
-    ensures known { live_of context.new ≡ after (V.shown image.now) (live_of context.old) pc form.now }
+    ensures known { live_of context.new ≡ after_form (V.shown image.now) (live_of context.old) pc form.now }
     ensures dead { context.new.dead ≡ context.old.dead }
 {
     match form {
@@ -136,7 +136,7 @@ pub(crate) fn step<V: ImageView>(image: &V, context: &mut Context, pc: u32, form
             set_kind(context, kind);
         }
         Form::PushOf(x) => {
-            let t = type_of(image, context, pc, x);
+            let t = operand_type(image, context, pc, x);
             push(context, t);
         }
         Form::PopTo(r) => pop_to(context, *r),
@@ -146,7 +146,7 @@ pub(crate) fn step<V: ImageView>(image: &V, context: &mut Context, pc: u32, form
             after_call(context, result_of(called));
         }
         Form::CallBy(x) => {
-            let called = call_by(image, context, type_of(image, context, pc, x));
+            let called = call_by(image, context, operand_type(image, context, pc, x));
             after_call(context, result_of(called));
         }
         _ => {}

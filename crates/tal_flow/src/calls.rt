@@ -150,3 +150,25 @@ pub(crate) fn result_of(called: Called) -> Ty
         _ => Ty::Junk,
     }
 }
+
+/// Whether there is something that can be called.
+#[tactic(auto, unfolding(crate::specs::Calls::is_callable))]
+pub(crate) fn is_callable(called: Called) -> bool
+    ensures { result ≡ is_callable called }
+{
+    match called {
+        Called::Nowhere => false,
+        Called::Misfit | Called::Gives(_) => true,
+    }
+}
+
+/// Whether the arguments fit, where something can be called.
+#[tactic(auto, unfolding(crate::specs::Calls::is_fit))]
+pub(crate) fn is_fit(called: Called) -> bool
+    ensures { result ≡ is_fit called }
+{
+    match called {
+        Called::Misfit => false,
+        Called::Nowhere | Called::Gives(_) => true,
+    }
+}

@@ -3,12 +3,13 @@ ghost use Rattle.tal_types.specs.Contexts.{Live};
 ghost use Rattle.tal_types.specs.Kept.{live_of, context_of};
 ghost use Rattle.tal_flow.specs.Edges.{goes_on, is_refused};
 ghost use Rattle.tal_flow.specs.Flows.{Flows, FormFlows};
-ghost use Rattle.tal_flow.specs.Rules.{operand_rule, edge_fits, is_dead, in_function, rule_of_form, next_of, LeastRule};
+ghost use Rattle.tal_flow.specs.Rules.{operand_rule, edge_fits, is_dead, in_function, rule_of_form, next_address, LeastRule};
 
 use crate::afterwards::step;
 use crate::edges::{Edges, Rule, refine, told_by_branch, told_by_fall};
 use crate::forms::{Form, form_of};
 use crate::rules::{in_function, operand_rule};
+use crate::trials::{RuleName, rule_number};
 use ia32_code::{Cond, Inst};
 use tal_types::{Context, ImageView, context_below};
 
@@ -40,12 +41,12 @@ fn fall<V: ImageView>(
     pc: u32,
     next: u32,
     form: &Form,
-) -> Result<Edges, Rule>
+) -> Result<Edges, RuleName>
     requires alive { context.old.dead ≡ false }
     requires form { goes_on form.now ≡ true }
     requires rules { operand_rule (V.shown image.now) (live_of context.old) pc form.now ≡ None }
     ensures ok { IfOk result (λ edges. FormFlows (V.shown image.now) (Live (live_of context.old)) pc next form.now (context_of context.new) edges) }
-    ensures rule { IfErr result (λ rule. rule_of_form (V.shown image.now) (Live (live_of context.old)) pc next form.now ≡ Some rule.0) }
+    ensures rule { IfErr result (λ rule. rule_of_form (V.shown image.now) (Live (live_of context.old)) pc next form.now ≡ Some rule) }
     ensures same { IfErr result (λ rule. context.new ≡ context.old) }
 {
     match image.block_at(next) {
@@ -53,16 +54,16 @@ fn fall<V: ImageView>(
             let mut after = *context;
             step(image, &mut after, pc, form);
             if !fits_block(image, &after, next, &block) {
-                return Err(Rule(16));
+                return Err(RuleName::Annotation);
             }
             if !in_function(image, pc, next) {
-                return Err(Rule(17));
+                return Err(RuleName::FunctionEnd);
             }
             *context = after;
         }
         None => {
             if !in_function(image, pc, next) {
-                return Err(Rule(17));
+                return Err(RuleName::FunctionEnd);
             }
             step(image, context, pc, form);
         }
@@ -80,15 +81,15 @@ fn jump<V: ImageView>(
     pc: u32,
     next: u32,
     target: u32,
-) -> Result<Edges, Rule>
+) -> Result<Edges, RuleName>
     requires alive { context.old.dead ≡ false }
     requires rules { operand_rule (V.shown image.now) (live_of context.old) pc (Form.Jump target) ≡ None }
     ensures ok { IfOk result (λ edges. FormFlows (V.shown image.now) (Live (live_of context.old)) pc next (Form.Jump target) (context_of context.new) edges) }
-    ensures rule { IfErr result (λ rule. rule_of_form (V.shown image.now) (Live (live_of context.old)) pc next (Form.Jump target) ≡ Some rule.0) }
+    ensures rule { IfErr result (λ rule. rule_of_form (V.shown image.now) (Live (live_of context.old)) pc next (Form.Jump target) ≡ Some rule) }
     ensures same { IfErr result (λ rule. context.new ≡ context.old) }
 {
     if !fits(image, context, target) {
-        return Err(Rule(16));
+        return Err(RuleName::Annotation);
     }
     let branch = Some((target, *context));
     context.dead = true;
@@ -139,11 +140,11 @@ fn branch<V: ImageView>(
     next: u32,
     condition: Cond,
     target: u32,
-) -> Result<Edges, Rule>
+) -> Result<Edges, RuleName>
     requires alive { context.old.dead ≡ false }
     requires rules { operand_rule (V.shown image.now) (live_of context.old) pc (Form.Branch condition target) ≡ None }
     ensures ok { IfOk result (λ edges. FormFlows (V.shown image.now) (Live (live_of context.old)) pc next (Form.Branch condition target) (context_of context.new) edges) }
-    ensures rule { IfErr result (λ rule. rule_of_form (V.shown image.now) (Live (live_of context.old)) pc next (Form.Branch condition target) ≡ Some rule.0) }
+    ensures rule { IfErr result (λ rule. rule_of_form (V.shown image.now) (Live (live_of context.old)) pc next (Form.Branch condition target) ≡ Some rule) }
     ensures same { IfErr result (λ rule. context.new ≡ context.old) }
 {
     let mut taken = *context;
@@ -151,10 +152,10 @@ fn branch<V: ImageView>(
     let mut fallen = *context;
     refine(image.shapes(), &mut fallen, told_by_fall(condition));
     if !both_fit(image, &taken, target, &fallen, next) {
-        return Err(Rule(16));
+        return Err(RuleName::Annotation);
     }
     if !stays(image, &fallen, pc, next) {
-        return Err(Rule(17));
+        return Err(RuleName::FunctionEnd);
     }
     *context = fallen;
     Ok(Edges {
@@ -170,14 +171,14 @@ fn flow_live<V: ImageView>(
     pc: u32,
     next: u32,
     form: &Form,
-) -> Result<Edges, Rule>
+) -> Result<Edges, RuleName>
     requires { context.old.dead ≡ false }
     ensures ok { IfOk result (λ edges. FormFlows (V.shown image.now) (Live (live_of context.old)) pc next form.now (context_of context.new) edges) }
-    ensures rule { IfErr result (λ rule. rule_of_form (V.shown image.now) (Live (live_of context.old)) pc next form.now ≡ Some rule.0) }
+    ensures rule { IfErr result (λ rule. rule_of_form (V.shown image.now) (Live (live_of context.old)) pc next form.now ≡ Some rule) }
     ensures same { IfErr result (λ rule. context.new ≡ context.old) }
 {
-    if let Some(n) = operand_rule(image, context, pc, form) {
-        return Err(Rule(n));
+    if let Some(rule) = operand_rule(image, context, pc, form) {
+        return Err(rule);
     }
     match form {
         Form::Return => {
@@ -194,9 +195,9 @@ fn flow_live<V: ImageView>(
 }
 
 /// The address behind an instruction.
-#[tactic(auto, unfolding(crate::specs::Rules::next_of))]
-fn next_of(pc: u32, len: u8) -> u32
-    ensures { result ≡ next_of pc len }
+#[tactic(auto, unfolding(crate::specs::Rules::next_address))]
+fn next_address(pc: u32, len: u8) -> u32
+    ensures { result ≡ next_address pc len }
 {
     pc.wrapping_add(u32::from(len))
 }
@@ -209,6 +210,30 @@ fn is_refused(form: &Form) -> bool
         Form::Refused => true,
         _ => false,
     }
+}
+
+/// The rules of an instruction by its form. In the dead context rule 1 alone is tried.
+fn flow_form<V: ImageView>(
+    image: &V,
+    context: &mut Context,
+    pc: u32,
+    next: u32,
+    form: &Form,
+) -> Result<Edges, RuleName>
+    ensures ok { IfOk result (λ edges. FormFlows (V.shown image.now) (context_of context.old) pc next form.now (context_of context.new) edges) }
+    ensures rule { IfErr result (λ rule. rule_of_form (V.shown image.now) (context_of context.old) pc next form.now ≡ Some rule) }
+    ensures same { IfErr result (λ rule. context.new ≡ context.old) }
+{
+    if !context.dead {
+        return flow_live(image, context, pc, next, form);
+    }
+    if is_refused(form) {
+        return Err(RuleName::Instruction);
+    }
+    Ok(Edges {
+        branch: None,
+        falls: false,
+    })
 }
 
 /// Tries the rules of typing at the instruction at `pc`, whose spelling has `len` bytes, where `context`
@@ -226,16 +251,10 @@ pub fn flow<V: ImageView>(
     ensures rule { IfErr result (λ rule. LeastRule (V.shown image.now) (context_of context.old) pc inst.now len rule.0) }
     ensures same { IfErr result (λ rule. context.new ≡ context.old) }
 {
-    let next = next_of(pc, len);
+    let next = next_address(pc, len);
     let form = form_of(next, inst);
-    if !context.dead {
-        return flow_live(image, context, pc, next, &form);
+    match flow_form(image, context, pc, next, &form) {
+        Ok(edges) => Ok(edges),
+        Err(rule) => Err(Rule(rule_number(rule))),
     }
-    if is_refused(&form) {
-        return Err(Rule(1));
-    }
-    Ok(Edges {
-        branch: None,
-        falls: false,
-    })
 }

@@ -1,5 +1,5 @@
 ghost use Rattle.std.specs.Prelude.{◌≡◌, Some, true, false};
-ghost use Rattle.tal_flow.specs.Forms.{target, one, two, three, form_of};
+ghost use Rattle.tal_flow.specs.Forms.{address_at, one, two, three, form_of};
 
 use ia32_code::{Alu, Cond, Count, Inst, Mem, Operand, Reg, Shift};
 use std::marker::Model;
@@ -97,9 +97,9 @@ pub enum Form {
 }
 
 /// The address at a distance from the next instruction.
-#[tactic(auto, unfolding(crate::specs::Forms::target))]
-fn target(next: u32, distance: i32) -> u32
-    ensures { result ≡ target next distance }
+#[tactic(auto, unfolding(crate::specs::Forms::address_at))]
+fn address_at(next: u32, distance: i32) -> u32
+    ensures { result ≡ address_at next distance }
 {
     next.wrapping_add(distance.cast_unsigned())
 }
@@ -184,16 +184,18 @@ pub(crate) fn form_of(next: u32, inst: &Inst) -> Form
         Inst::Mul(src) | Inst::Imul1(src) => wide(two(eax, src)),
         Inst::Div(src) | Inst::Idiv(src) => wide(three(eax, edx, src)),
         Inst::Imul2 { dst, src } => compute(two(dst, src), dst, Some(FlagKind::Lost)),
-        Inst::Imul3 { dst, src, .. } => compute(one(src), dst, Some(FlagKind::Lost)),
+        Inst::Imul3 { dst, src, imm } => {
+            compute(two(src, Operand::I(imm)), dst, Some(FlagKind::Lost))
+        }
         Inst::Shift { op, dst, by } => shift_form(next, op, dst, by),
         Inst::Cdq => compute(one(eax), edx, None),
         Inst::Nop => Form::Nothing,
         Inst::Push(src) => Form::PushOf(src),
         Inst::Pop(r) => Form::PopTo(r),
-        Inst::CallRel(distance) => Form::CallTo(target(next, distance)),
+        Inst::CallRel(distance) => Form::CallTo(address_at(next, distance)),
         Inst::CallAt(src) => Form::CallBy(src),
         Inst::Ret => Form::Return,
-        Inst::Jmp(distance) => Form::Jump(target(next, distance)),
-        Inst::Jcc(condition, distance) => Form::Branch(condition, target(next, distance)),
+        Inst::Jmp(distance) => Form::Jump(address_at(next, distance)),
+        Inst::Jcc(condition, distance) => Form::Branch(condition, address_at(next, distance)),
     }
 }

@@ -4,8 +4,8 @@ ghost use Rattle.object_layout.specs.Classes.{ShapesView};
 ghost use Rattle.object_layout.specs.Laws.{ClassLaws};
 ghost use Rattle.tal_types.specs.Contexts.{LiveContext, ContextView, ContextBelow, Dead, Live};
 ghost use Rattle.tal_types.specs.Shown.{ShownImage};
-ghost use Rattle.tal_flow.specs.Rules.{rule_of, LeastRule, NoRuleFails, next_of, Falls, Branches};
-ghost use Rattle.tal_flow.specs.Strongest.{Placed, NoRuleAt, falls_from, start, placed_at, Chained, contexts, At, NoneFails, Joined, OneHead, HasOneHead, BlocksHaveOneHead};
+ghost use Rattle.tal_flow.specs.Rules.{rule_of, LeastRule, NoRuleFails, next_address, Falls, Branches};
+ghost use Rattle.tal_flow.specs.Strongest.{Placed, NoRuleAt, falls_from, start, placed_at, Chained, contexts, At, NoneFails, Joined, OneHead, HasOneHead, BlocksHaveOneHead, HasJunkEsp, BlocksHaveJunkEsp};
 
 /// The rule of an instruction, the first that fails of those that are tried, is the least rule that fails; where there is
 /// none, none fails.
@@ -31,7 +31,12 @@ pub fn one_head()
     ensures above { (s : ShapesView) (a : LiveContext) (b : ContextView) → ContextBelow s (Live a) b → OneHead a → HasOneHead b }
 {}
 
-/// There are contexts in which no rule fails, each above what falls to it, exactly where no rule fails
+/// Where no rule fails in the strongest contexts, these know nothing of what ESP holds.
+pub fn esp_is_junk()
+    ensures { (v : ShownImage) → BlocksHaveJunkEsp v → (xs : List Placed) (pc : ℕ) → NoneFails v xs (contexts v xs Dead) → HasJunkEsp (At v xs pc) }
+{}
+
+/// There are contexts, one for each instruction, in which no rule fails, each above what falls to it, exactly where no rule fails
 /// in the strongest contexts. These are `At` at each instruction, and `At` at the next one is what that
 /// has by itself or what falls to it.
 pub fn strongest_contexts()
@@ -40,5 +45,5 @@ pub fn strongest_contexts()
     ensures rows { (v : ShownImage) (xs : List Placed) (pc : ℕ) (x : Placed) → NoneFails v xs (contexts v xs Dead) → placed_at xs pc ≡ Some x →
         NoRuleAt v (At v xs pc) x }
     ensures next { (v : ShownImage) (xs : List Placed) (n pc : ℕ) (x y : Placed) → Chained n xs → placed_at xs pc ≡ Some x →
-        placed_at xs (next_of x.pc x.len) ≡ Some y → At v xs (next_of x.pc x.len) ≡ start v (next_of x.pc x.len) (falls_from v (At v xs pc) x) }
+        placed_at xs (next_address x.pc x.len) ≡ Some y → At v xs (next_address x.pc x.len) ≡ start v (next_address x.pc x.len) (falls_from v (At v xs pc) x) }
 {}

@@ -19,6 +19,7 @@ mod operands;
 mod places;
 mod rows;
 mod rules;
+mod trials;
 
 pub use calls::is_entry;
 pub use edges::{Edges, Rule};

@@ -1,7 +1,7 @@
 ghost use Rattle.std.specs.Prelude.{◌≡◌};
 ghost use Rattle.std.specs.List.{list_all};
 ghost use Rattle.tal_types.specs.Kept.{live_of};
-ghost use Rattle.tal_flow.specs.Places.{place_in, place_type, is_readable, is_writable, takes, operand_place, mark_type, immediate_type, type_of, is_esp, spares_esp, found, readable, writable, is_num, storable};
+ghost use Rattle.tal_flow.specs.Places.{place_in, place_type, is_readable, is_writable, takes, operand_place, mark_type, immediate_type, operand_type, is_esp, spares_esp, found, readable, writable, is_num, storable};
 
 use crate::known::register;
 use crate::places::{Place, place_in};
@@ -76,9 +76,9 @@ pub(crate) fn operand_place<V: ImageView>(
 }
 
 /// The type of an operand of the instruction at `pc`.
-#[tactic(auto, unfolding(crate::specs::Places::type_of, crate::specs::Places::operand_place))]
-pub(crate) fn type_of<V: ImageView>(image: &V, context: &Context, pc: u32, x: &Operand) -> Ty
-    ensures { result ≡ type_of (V.shown image.now) (live_of context.now) pc x.now }
+#[tactic(auto, unfolding(crate::specs::Places::operand_type, crate::specs::Places::operand_place))]
+pub(crate) fn operand_type<V: ImageView>(image: &V, context: &Context, pc: u32, x: &Operand) -> Ty
+    ensures { result ≡ operand_type (V.shown image.now) (live_of context.now) pc x.now }
 {
     match x {
         Operand::R(r) => register(context, *r),
@@ -195,7 +195,7 @@ pub(crate) fn all_numbers<V: ImageView>(
     pc: u32,
     xs: &[Operand],
 ) -> bool
-    ensures { result ≡ list_all (λ x. is_num (type_of (V.shown image.now) (live_of context.now) pc x)) xs.now }
+    ensures { result ≡ list_all (λ x. is_num (operand_type (V.shown image.now) (live_of context.now) pc x)) xs.now }
 {
-    xs.iter().all(|x| is_num(type_of(image, context, pc, x)))
+    xs.iter().all(|x| is_num(operand_type(image, context, pc, x)))
 }

@@ -1,6 +1,6 @@
 ghost use Rattle.std.specs.Prelude.{◌≡◌, Option, Some, None};
 ghost use Rattle.tal_types.specs.Kept.{live_of, context_of};
-ghost use Rattle.tal_flow.specs.Places.{whole, static_place, slot_place, object_place, array_place, element_place, display_place, table_place, based, place_in, PlaceType};
+ghost use Rattle.tal_flow.specs.Places.{field_place, static_place, slot_place, object_place, array_place, element_place, display_place, table_place, based, place_in, PlaceType};
 
 use crate::known::{has_pair, register};
 use ia32_code::{Mem, Reg};
@@ -26,8 +26,8 @@ pub enum Place {
 }
 
 /// A place that holds values of a field's type.
-fn whole(field: Option<FieldTy>) -> Option<Place>
-    ensures { result ≡ whole field }
+fn field_place(field: Option<FieldTy>) -> Option<Place>
+    ensures { result ≡ field_place field }
 {
     Some(Place::Whole(Ty::from(field?)))
 }
@@ -37,7 +37,7 @@ fn static_place(statics: &[FieldTy], disp: u32) -> Option<Place>
     ensures { result ≡ static_place statics.now disp }
 {
     let j = word_index(STATICS_START, disp)?;
-    whole(statics.get(j as usize).copied())
+    field_place(statics.get(j as usize).copied())
 }
 
 #[tactic(auto, unfolding(crate::specs::Places::slot_place, tal_types::specs::Kept::live_of))]
@@ -56,7 +56,7 @@ fn object_place(shapes: &Shapes, r: Reg, c: u32, disp: u32) -> Option<Place>
     if disp == 0 {
         Some(Place::Head(r, c))
     } else {
-        whole(shapes.field_at(c, disp))
+        field_place(shapes.field_at(c, disp))
     }
 }
 
@@ -79,7 +79,7 @@ fn element_place(
     ensures { result ≡ element_place shapes.now (live_of context.now) a k i mem.now.scale mem.now.disp }
 {
     if has_pair(context.pairs, i, a) && mem.scale == 2 && mem.disp == 8 {
-        whole(shapes.element_of(k))
+        field_place(shapes.element_of(k))
     } else {
         None
     }

@@ -1,9 +1,9 @@
 ghost use Rattle.std.specs.Prelude.{◌≡◌};
 ghost use Rattle.tal_types.specs.Kept.{live_of};
-ghost use Rattle.tal_flow.specs.Rows.{family, has_null, unmarked_zero, class_of, marked_class, base_of_length, length_base, has_depth, first_head, class_test, display_row, bound_kind, null_kind, compare_row, compare_kind, same_register, test_row, test_kind};
+ghost use Rattle.tal_flow.specs.Rows.{family, has_null, unmarked_zero, table_class, marked_class, base_of_length, length_base, has_depth, first_head, class_test, display_row, bound_kind, null_kind, compare_row, compare_kind, same_register, test_row, test_kind};
 
 use crate::known::has_pair;
-use crate::operands::{immediate_type, operand_place, type_of};
+use crate::operands::{immediate_type, operand_place, operand_type};
 use crate::places::Place;
 use ia32_code::{Operand, Reg};
 use object_layout::Shapes;
@@ -181,8 +181,8 @@ pub(crate) fn compare_kind<V: ImageView>(
 ) -> Option<FlagKind>
     ensures { result ≡ compare_kind (V.shown image.now) (live_of context.now) pc d.now x.now }
 {
-    let f = family_of(type_of(image, context, pc, d));
-    let g = family_of(type_of(image, context, pc, x));
+    let f = family_of(operand_type(image, context, pc, d));
+    let g = family_of(operand_type(image, context, pc, x));
     match (f, g) {
         (Family::Numbers, Family::Numbers) => Some(bound_kind(d, length_base(image, context, x))),
         (Family::Objects, Family::Objects) | (Family::Arrays, Family::Arrays) => Some(FlagKind::Eq),
@@ -219,8 +219,8 @@ pub(crate) fn test_kind<V: ImageView>(
 ) -> Option<FlagKind>
     ensures { result ≡ test_kind (V.shown image.now) (live_of context.now) pc d.now x.now }
 {
-    let f = family_of(type_of(image, context, pc, d));
-    let g = family_of(type_of(image, context, pc, x));
+    let f = family_of(operand_type(image, context, pc, d));
+    let g = family_of(operand_type(image, context, pc, x));
     match (f, g) {
         (Family::Numbers, Family::Numbers) => Some(FlagKind::Num),
         _ => if same_register(d, x) && has_null(f) {

@@ -2,21 +2,21 @@ ghost use Rattle.std.specs.Prelude.{◌≡◌, ℕ, Bool, true, Option, None};
 ghost use Rattle.std.specs.Option.{option_map_or};
 ghost use Rattle.tal_types.specs.declared.types.FlagKind.{FlagKind};
 ghost use Rattle.tal_types.specs.Shown.{ShownImage};
-ghost use Rattle.tal_flow.specs.Calls.{is_callable, is_fit};
 ghost use Rattle.tal_types.specs.Kept.{live_of};
-ghost use Rattle.tal_flow.specs.Places.{is_num, spares_esp, found, readable};
-ghost use Rattle.tal_flow.specs.Rules.{demand, in_function, fits_result, is_target, address_spares_esp, address_is_num, may_drop, operand_rule};
+ghost use Rattle.tal_flow.specs.Places.{is_num};
+ghost use Rattle.tal_flow.specs.Rules.{in_function, fits_result, has_block, address_spares_esp, address_is_num, may_drop, operand_rule};
 
-use crate::calls::{Called, call_by, call_to};
+use crate::calls::{call_by, call_to, is_callable, is_fit};
 use crate::edges::allows;
 use crate::forms::Form;
 use crate::known::register;
 use crate::operands::{
-    all_found, all_numbers, all_readable, all_spare_esp, found, is_esp, is_num, readable,
-    spares_esp, storable, type_of, writable,
+    all_found, all_numbers, all_readable, all_spare_esp, found, immediate_type, is_esp, is_num,
+    operand_type, readable, spares_esp, storable, writable,
 };
 use crate::rows::{compare_kind, test_kind};
-use ia32_code::{Mem, Operand, Reg};
+use crate::trials::{RuleName, ask, first_failing};
+use ia32_code::{Cond, Mem, Operand, Reg};
 use object_layout::areas::word_index;
 use tal_types::{Context, ImageView, Ty, same, sub};
 
@@ -46,9 +46,9 @@ fn fits_result<V: ImageView>(image: &V, pc: u32, t: Ty) -> bool
 }
 
 /// Whether a block of the function that has the byte at `pc` begins at an address.
-#[tactic(auto, unfolding(crate::specs::Rules::is_target))]
-fn is_target<V: ImageView>(image: &V, pc: u32, address: u32) -> bool
-    ensures { result ≡ is_target (V.shown image.now) pc address }
+#[tactic(auto, unfolding(crate::specs::Rules::has_block))]
+fn has_block<V: ImageView>(image: &V, pc: u32, address: u32) -> bool
+    ensures { result ≡ has_block (V.shown image.now) pc address }
 {
     image.block_at(address).is_some() && in_function(image, pc, address)
 }
@@ -63,7 +63,7 @@ fn holds_number(context: &Context, r: Option<Reg>) -> bool
     }
 }
 
-/// The least rule of a computation that fails.
+/// The first rule of a computation that fails.
 #[tactic(auto, unfolding(crate::specs::Rules::operand_rule))]
 fn compute_rule<V: ImageView>(
     image: &V,
@@ -71,25 +71,24 @@ fn compute_rule<V: ImageView>(
     pc: u32,
     sources: &[Operand],
     d: &Operand,
-) -> Option<u8>
+) -> Option<RuleName>
     ensures { (wide : Bool) (kind : Option FlagKind) → result ≡ operand_rule (V.shown image.now) (live_of context.now) pc (Form.Compute sources.now d.now wide kind) }
 {
-    if !(all_spare_esp(sources) && spares_esp(d)) {
-        return Some(2);
-    }
-    if !(all_found(image, context, sources) && found(image, context, d)) {
-        return Some(3);
-    }
-    if !(all_readable(image, context, sources) && writable(image, context, d)) {
-        return Some(4);
-    }
-    if !all_numbers(image, context, pc, sources) {
-        return Some(5);
-    }
-    None
+    first_failing(&[
+        ask(RuleName::EspRole, all_spare_esp(sources) && spares_esp(d)),
+        ask(
+            RuleName::Place,
+            all_found(image, context, sources) && found(image, context, d),
+        ),
+        ask(
+            RuleName::Access,
+            all_readable(image, context, sources) && writable(image, context, d),
+        ),
+        ask(RuleName::Number, all_numbers(image, context, pc, sources)),
+    ])
 }
 
-/// The least rule of a MOV that fails.
+/// The first rule of a MOV that fails.
 #[tactic(auto, unfolding(crate::specs::Rules::operand_rule))]
 fn move_rule<V: ImageView>(
     image: &V,
@@ -97,39 +96,42 @@ fn move_rule<V: ImageView>(
     pc: u32,
     d: &Operand,
     x: &Operand,
-) -> Option<u8>
+) -> Option<RuleName>
     ensures { result ≡ operand_rule (V.shown image.now) (live_of context.now) pc (Form.Move d.now x.now) }
 {
-    if !(spares_esp(d) && spares_esp(x)) {
-        return Some(2);
-    }
-    if !(found(image, context, d) && found(image, context, x)) {
-        return Some(3);
-    }
-    if !(writable(image, context, d) && readable(image, context, x)) {
-        return Some(4);
-    }
-    if !storable(image, context, type_of(image, context, pc, x), d) {
-        return Some(6);
-    }
-    None
+    let t = operand_type(image, context, pc, x);
+    first_failing(&[
+        ask(RuleName::EspRole, spares_esp(d) && spares_esp(x)),
+        ask(
+            RuleName::Place,
+            found(image, context, d) && found(image, context, x),
+        ),
+        ask(
+            RuleName::Access,
+            writable(image, context, d) && readable(image, context, x),
+        ),
+        ask(RuleName::Stored, storable(image, context, t, d)),
+    ])
 }
 
-/// The least rule of a LEA that fails.
+/// The first rule of a LEA that fails.
 #[tactic(auto, unfolding(crate::specs::Rules::operand_rule, crate::specs::Rules::address_spares_esp, crate::specs::Rules::address_is_num))]
-fn address_rule(context: &Context, r: Reg, m: &Mem) -> Option<u8>
+fn address_rule(context: &Context, r: Reg, m: &Mem) -> Option<RuleName>
     ensures { (v : ShownImage) (pc : ℕ) → result ≡ operand_rule v (live_of context.now) pc (Form.Address r m.now) }
 {
-    if same(r, Reg::Esp) || is_esp(m.base) || is_esp(m.index) {
-        return Some(2);
-    }
-    if !(holds_number(context, m.base) && holds_number(context, m.index)) {
-        return Some(5);
-    }
-    None
+    first_failing(&[
+        ask(
+            RuleName::EspRole,
+            !same(r, Reg::Esp) && (!is_esp(m.base) && !is_esp(m.index)),
+        ),
+        ask(
+            RuleName::Number,
+            holds_number(context, m.base) && holds_number(context, m.index),
+        ),
+    ])
 }
 
-/// The least rule of a CMP that fails.
+/// The first rule of a CMP that fails.
 #[tactic(auto, unfolding(crate::specs::Rules::operand_rule))]
 fn compare_rule<V: ImageView>(
     image: &V,
@@ -137,22 +139,23 @@ fn compare_rule<V: ImageView>(
     pc: u32,
     d: &Operand,
     x: &Operand,
-) -> Option<u8>
+) -> Option<RuleName>
     ensures { result ≡ operand_rule (V.shown image.now) (live_of context.now) pc (Form.Compare d.now x.now) }
 {
-    if !(spares_esp(d) && spares_esp(x)) {
-        return Some(2);
-    }
-    if !(found(image, context, d) && found(image, context, x)) {
-        return Some(3);
-    }
-    if compare_kind(image, context, pc, d, x).is_none() {
-        return Some(9);
-    }
-    None
+    first_failing(&[
+        ask(RuleName::EspRole, spares_esp(d) && spares_esp(x)),
+        ask(
+            RuleName::Place,
+            found(image, context, d) && found(image, context, x),
+        ),
+        ask(
+            RuleName::Comparison,
+            compare_kind(image, context, pc, d, x).is_some(),
+        ),
+    ])
 }
 
-/// The least rule of a TEST that fails.
+/// The first rule of a TEST that fails.
 #[tactic(auto, unfolding(crate::specs::Rules::operand_rule))]
 fn test_rule<V: ImageView>(
     image: &V,
@@ -160,129 +163,162 @@ fn test_rule<V: ImageView>(
     pc: u32,
     d: &Operand,
     x: &Operand,
-) -> Option<u8>
+) -> Option<RuleName>
     ensures { result ≡ operand_rule (V.shown image.now) (live_of context.now) pc (Form.TestBits d.now x.now) }
 {
-    if !(spares_esp(d) && spares_esp(x)) {
-        return Some(2);
-    }
-    if !(found(image, context, d) && found(image, context, x)) {
-        return Some(3);
-    }
-    if !(readable(image, context, d) && readable(image, context, x)) {
-        return Some(4);
-    }
-    if test_kind(image, context, pc, d, x).is_none() {
-        return Some(9);
-    }
-    None
+    first_failing(&[
+        ask(RuleName::EspRole, spares_esp(d) && spares_esp(x)),
+        ask(
+            RuleName::Place,
+            found(image, context, d) && found(image, context, x),
+        ),
+        ask(
+            RuleName::Access,
+            readable(image, context, d) && readable(image, context, x),
+        ),
+        ask(
+            RuleName::Comparison,
+            test_kind(image, context, pc, d, x).is_some(),
+        ),
+    ])
 }
 
-/// The least of the rules 2 to 4 that fails at an operand that is read.
-fn read_rule<V: ImageView>(image: &V, context: &Context, x: &Operand) -> Option<u8>
-    ensures { result ≡ demand 2 (spares_esp x.now) (demand 3 (found (V.shown image.now) (live_of context.now) x.now)
-        (demand 4 (readable (V.shown image.now) (live_of context.now) x.now) None)) }
-{
-    if !spares_esp(x) {
-        return Some(2);
-    }
-    if !found(image, context, x) {
-        return Some(3);
-    }
-    if !readable(image, context, x) {
-        return Some(4);
-    }
-    None
-}
-
-/// The least rule of a PUSH that fails.
+/// The first rule of a PUSH that fails.
 #[tactic(auto, unfolding(crate::specs::Rules::operand_rule, tal_types::specs::Kept::live_of))]
-fn push_rule<V: ImageView>(image: &V, context: &Context, pc: u32, x: &Operand) -> Option<u8>
+fn push_rule<V: ImageView>(
+    image: &V,
+    context: &Context,
+    pc: u32,
+    x: &Operand,
+) -> Option<RuleName>
     ensures { result ≡ operand_rule (V.shown image.now) (live_of context.now) pc (Form.PushOf x.now) }
 {
-    if let Some(n) = read_rule(image, context, x) {
-        return Some(n);
-    }
-    if context.slots().len() >= 64 {
-        return Some(7);
-    }
-    None
+    first_failing(&[
+        ask(RuleName::EspRole, spares_esp(x)),
+        ask(RuleName::Place, found(image, context, x)),
+        ask(RuleName::Access, readable(image, context, x)),
+        ask(RuleName::SlotRoom, context.slots().len() < 64),
+    ])
 }
 
-/// The least rule of a POP that fails.
+/// The first rule of a POP that fails.
 #[tactic(auto, unfolding(crate::specs::Rules::operand_rule, tal_types::specs::Kept::live_of))]
-fn pop_rule(context: &Context, r: Reg) -> Option<u8>
+fn pop_rule(context: &Context, r: Reg) -> Option<RuleName>
     ensures { (v : ShownImage) (pc : ℕ) → result ≡ operand_rule v (live_of context.now) pc (Form.PopTo r) }
 {
-    if same(r, Reg::Esp) {
-        return Some(2);
-    }
-    if context.slots().is_empty() {
-        return Some(8);
-    }
-    None
+    first_failing(&[
+        ask(RuleName::EspRole, !same(r, Reg::Esp)),
+        ask(RuleName::SlotsThere, 1 <= context.slots().len()),
+    ])
 }
 
-/// The rule of ADD to ESP, if it fails.
-#[tactic(auto, unfolding(crate::specs::Rules::operand_rule, crate::specs::Rules::may_drop, crate::specs::Afterwards::slots_in, tal_types::specs::Kept::live_of))]
-fn drop_rule(context: &Context, bytes: u32) -> Option<u8>
-    ensures { (v : ShownImage) (pc : ℕ) → result ≡ operand_rule v (live_of context.now) pc (Form.DropSlots bytes) }
+/// Whether so many slots are there as a number of bytes has.
+#[tactic(auto, unfolding(crate::specs::Rules::may_drop, crate::specs::Afterwards::slots_in, tal_types::specs::Kept::live_of))]
+fn may_drop(context: &Context, bytes: u32) -> bool
+    ensures { result ≡ may_drop (live_of context.now) bytes }
 {
     match word_index(0, bytes) {
-        Some(n) if n as usize <= context.slots().len() => None,
-        _ => Some(8),
+        Some(n) => n as usize <= context.slots().len(),
+        None => false,
     }
 }
 
-/// The least of the rules 10 and 11 that fails at a call.
-#[tactic(auto, unfolding(crate::specs::Calls::is_callable, crate::specs::Calls::is_fit))]
-fn called_rule(called: Called) -> Option<u8>
-    ensures { result ≡ demand 10 (is_callable called) (demand 11 (is_fit called) None) }
-{
-    match called {
-        Called::Nowhere => Some(10),
-        Called::Misfit => Some(11),
-        Called::Gives(_) => None,
-    }
-}
-
-/// The least rule of a CALL of an operand that fails.
+/// The first rule of ADD to ESP that fails.
 #[tactic(auto, unfolding(crate::specs::Rules::operand_rule))]
-fn call_by_rule<V: ImageView>(image: &V, context: &Context, pc: u32, x: &Operand) -> Option<u8>
+fn drop_rule<V: ImageView>(
+    image: &V,
+    context: &Context,
+    pc: u32,
+    bytes: u32,
+) -> Option<RuleName>
+    ensures { result ≡ operand_rule (V.shown image.now) (live_of context.now) pc (Form.DropSlots bytes) }
+{
+    first_failing(&[
+        ask(RuleName::Number, is_num(immediate_type(image, pc, bytes))),
+        ask(RuleName::SlotsThere, may_drop(context, bytes)),
+    ])
+}
+
+/// The first rule of a CALL of an address that fails.
+#[tactic(auto, unfolding(crate::specs::Rules::operand_rule))]
+fn call_to_rule<V: ImageView>(
+    image: &V,
+    context: &Context,
+    pc: u32,
+    address: u32,
+) -> Option<RuleName>
+    ensures { result ≡ operand_rule (V.shown image.now) (live_of context.now) pc (Form.CallTo address) }
+{
+    let called = call_to(image, context, address);
+    first_failing(&[
+        ask(RuleName::Callee, is_callable(called)),
+        ask(RuleName::Arguments, is_fit(called)),
+    ])
+}
+
+/// The first rule of a CALL of an operand that fails.
+#[tactic(auto, unfolding(crate::specs::Rules::operand_rule))]
+fn call_by_rule<V: ImageView>(
+    image: &V,
+    context: &Context,
+    pc: u32,
+    x: &Operand,
+) -> Option<RuleName>
     ensures { result ≡ operand_rule (V.shown image.now) (live_of context.now) pc (Form.CallBy x.now) }
 {
-    if let Some(n) = read_rule(image, context, x) {
-        return Some(n);
-    }
-    called_rule(call_by(image, context, type_of(image, context, pc, x)))
+    let called = call_by(image, context, operand_type(image, context, pc, x));
+    first_failing(&[
+        ask(RuleName::EspRole, spares_esp(x)),
+        ask(RuleName::Place, found(image, context, x)),
+        ask(RuleName::Access, readable(image, context, x)),
+        ask(RuleName::Callee, is_callable(called)),
+        ask(RuleName::Arguments, is_fit(called)),
+    ])
 }
 
-/// The least rule of RET that fails.
+/// The first rule of RET that fails.
 #[tactic(auto, unfolding(crate::specs::Rules::operand_rule, tal_types::specs::Kept::live_of))]
-fn return_rule<V: ImageView>(image: &V, context: &Context, pc: u32) -> Option<u8>
+fn return_rule<V: ImageView>(image: &V, context: &Context, pc: u32) -> Option<RuleName>
     ensures { result ≡ operand_rule (V.shown image.now) (live_of context.now) pc Form.Return }
 {
-    if !context.slots().is_empty() {
-        return Some(12);
-    }
-    if !fits_result(image, pc, register(context, Reg::Eax)) {
-        return Some(13);
-    }
-    None
+    first_failing(&[
+        ask(RuleName::SlotsLeft, context.slots().len() == 0),
+        ask(
+            RuleName::Returned,
+            fits_result(image, pc, register(context, Reg::Eax)),
+        ),
+    ])
 }
 
-/// The least of the rules 1 to 15 that fails, in a context that is not dead.
+/// The first rule of a branch that fails.
 #[tactic(auto, unfolding(crate::specs::Rules::operand_rule, tal_types::specs::Kept::live_of))]
+fn branch_rule<V: ImageView>(
+    image: &V,
+    context: &Context,
+    pc: u32,
+    condition: Cond,
+    address: u32,
+) -> Option<RuleName>
+    ensures { result ≡ operand_rule (V.shown image.now) (live_of context.now) pc (Form.Branch condition address) }
+{
+    first_failing(&[
+        ask(RuleName::Target, has_block(image, pc, address)),
+        ask(RuleName::Condition, allows(context.kind, condition)),
+    ])
+}
+
+/// The first of the rules 1 to 15 that fails, in a context that is not dead.
+#[tactic(auto, unfolding(crate::specs::Rules::operand_rule))]
 pub(crate) fn operand_rule<V: ImageView>(
     image: &V,
     context: &Context,
     pc: u32,
     form: &Form,
-) -> Option<u8>
+) -> Option<RuleName>
     ensures { result ≡ operand_rule (V.shown image.now) (live_of context.now) pc form.now }
 {
     match form {
-        Form::Refused => Some(1),
+        Form::Refused => Some(RuleName::Instruction),
         Form::Compute {
             sources,
             destination,
@@ -294,22 +330,14 @@ pub(crate) fn operand_rule<V: ImageView>(
         Form::TestBits(d, x) => test_rule(image, context, pc, d, x),
         Form::PushOf(x) => push_rule(image, context, pc, x),
         Form::PopTo(r) => pop_rule(context, *r),
-        Form::DropSlots(bytes) => drop_rule(context, *bytes),
-        Form::CallTo(address) => called_rule(call_to(image, context, *address)),
+        Form::DropSlots(bytes) => drop_rule(image, context, pc, *bytes),
+        Form::CallTo(address) => call_to_rule(image, context, pc, *address),
         Form::CallBy(x) => call_by_rule(image, context, pc, x),
         Form::Return => return_rule(image, context, pc),
-        Form::Jump(address) => if is_target(image, pc, *address) {
-            None
-        } else {
-            Some(14)
-        },
-        Form::Branch(condition, address) => if !is_target(image, pc, *address) {
-            Some(14)
-        } else if !allows(context.kind, *condition) {
-            Some(15)
-        } else {
-            None
-        },
+        Form::Jump(address) => {
+            first_failing(&[ask(RuleName::Target, has_block(image, pc, *address))])
+        }
+        Form::Branch(condition, address) => branch_rule(image, context, pc, *condition, *address),
         Form::Nothing => None,
     }
 }

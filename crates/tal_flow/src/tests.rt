@@ -12,7 +12,7 @@ const SIG: Sig = Sig {
     result: Ty::Num,
 };
 
-/// An image of one function, with two marks and one block, whose EAX has a type of its own.
+/// An image of one function, with two marks and one block.
 #[derive(Drop)]
 struct Small {
     shapes: Shapes,
@@ -22,22 +22,23 @@ struct Small {
     second: u32,
     second_mark: Mark,
     block: u32,
-    eax: Ty,
+    known: [Ty; 7],
+    result: Ty,
 }
 
 impl ImageView for Small {
     ghost use Rattle.std.specs.Prelude.{List, [], ◌∷◌, None, Some, ◌==◌, ◌&&◌, nat_le, nat_lt, if◌then◌else◌};
     ghost use Rattle.object_layout.specs.declared.rows.FieldTy.TheVariants.{Num as NumField};
-    ghost use Rattle.tal_types.specs.declared.types.Ty.TheVariants.{Num, Junk};
+    ghost use Rattle.tal_types.specs.declared.types.Ty.TheVariants.{Junk};
     ghost use Rattle.tal_types.specs.Contexts.{plain};
 
     ghost shown = { λ v. record {
       shapes = v.shapes;
       statics = NumField ∷ [];
-      sig = λ s. if s == 0 then Some (record { params = Junk ∷ Junk ∷ Junk ∷ Junk ∷ Junk ∷ Junk ∷ Junk ∷ []; result = Num }) else None;
+      sig = λ s. if s == 0 then Some (record { params = Junk ∷ Junk ∷ Junk ∷ Junk ∷ Junk ∷ Junk ∷ Junk ∷ []; result = v.result }) else None;
       function_at = λ a. if a == 0x100000 then Some 0 else None;
       function_of = λ a. if nat_le 0x100000 a && nat_lt a v.end then Some (record { start = 0x100000; end = v.end; sig = 0 }) else None;
-      block_at = λ a. if a == v.block then Some (plain (v.eax ∷ Junk ∷ Junk ∷ Junk ∷ Junk ∷ Junk ∷ Junk ∷ []) []) else None;
+      block_at = λ a. if a == v.block then Some (plain v.known []) else None;
       mark_at = λ a. if a == v.first then Some v.first_mark else if a == v.second then Some v.second_mark else None;
       data_kind = λ d. if d == 0 then Some 0 else None;
     } };
@@ -52,7 +53,14 @@ impl ImageView for Small {
     }
 
     fn sig(&self, s: u32) -> Option<Sig> {
-        if s == 0 { Some(SIG) } else { None }
+        if s == 0 {
+            Some(Sig {
+                params: [Ty::Junk; 7],
+                result: self.result,
+            })
+        } else {
+            None
+        }
     }
 
     fn function_at(&self, address: u32) -> Option<u32> {
@@ -73,16 +81,7 @@ impl ImageView for Small {
 
     fn block_at(&self, pc: u32) -> Option<Context> {
         if pc == self.block {
-            let types = [
-                self.eax,
-                Ty::Junk,
-                Ty::Junk,
-                Ty::Junk,
-                Ty::Junk,
-                Ty::Junk,
-                Ty::Junk,
-            ];
-            Some(Context::plain(&types, &[]))
+            Some(Context::plain(&self.known, &[]))
         } else {
             None
         }
@@ -126,6 +125,17 @@ fn two_classes(alloc: Global) -> Result<Shapes, Fail> {
     Ok(Shapes::of(alloc, &classes, &kinds, &[], 1)?)
 }
 
+/// A number in EAX, and nothing known of the other registers.
+const FIRST_IS_NUMBER: [Ty; 7] = [
+    Ty::Num,
+    Ty::Junk,
+    Ty::Junk,
+    Ty::Junk,
+    Ty::Junk,
+    Ty::Junk,
+    Ty::Junk,
+];
+
 const NO_MARK: Mark = Mark { tag: 0, index: 0 };
 
 /// An image whose code has so many bytes, with no marks and no block.
@@ -138,7 +148,8 @@ fn bare(alloc: Global, bytes: u16) -> Result<Small, Fail> {
         second: 0,
         second_mark: NO_MARK,
         block: 0,
-        eax: Ty::Junk,
+        known: [Ty::Junk; 7],
+        result: Ty::Num,
     })
 }
 
@@ -254,7 +265,7 @@ fn bound_is_kept_until_the_index_is_written(rt: HostRuntime) -> Result<(), Fail>
     image.first = START + 5;
     image.first_mark = Mark { tag: 10, index: 0 };
     image.block = START + 24;
-    image.eax = Ty::Num;
+    image.known = FIRST_IS_NUMBER;
     let element = Operand::M(Mem {
         base: Some(Reg::Ebx),
         index: Some(Reg::Ecx),
@@ -325,5 +336,84 @@ fn statics_are_places(rt: HostRuntime) -> Result<(), Fail> {
         Some(Place::Whole(Ty::Ref(1)))
     );
     assert_eq!(rt; place_of(&shapes, &statics, &context, &at(0x300004)), None);
+    Ok(())
+}
+
+/// An instruction at which a rule fails: the rule, the instruction's address, length and operation, and what is known.
+type Failure<'a> = (u8, u32, u8, Inst, &'a Context);
+
+/// EAX is a number, EBX an object of the first class, and nothing is known of the other registers.
+const NUMBER_AND_OBJECT: [Ty; 7] = [
+    Ty::Num,
+    Ty::Junk,
+    Ty::Junk,
+    Ty::Obj(0),
+    Ty::Junk,
+    Ty::Junk,
+    Ty::Junk,
+];
+
+/// The function ends here, 64 bytes behind its start.
+const LAST: u32 = START + 63;
+
+/// Failures of the rules that ask of operands.
+fn operand_failures(bare: &Context, full: &Context) -> [Failure<'_>; 9] {
+    let eax = Operand::R(Reg::Eax);
+    let ebx = Operand::R(Reg::Ebx);
+    let store = |disp: u32, src: Operand| Inst::Mov {
+        dst: memory(Reg::Ebx, disp),
+        src,
+    };
+    let alu = |op: Alu| Inst::Alu {
+        op,
+        dst: eax,
+        src: ebx,
+    };
+    [
+        (1, START, 1, Inst::Priv { op: 0xF4, arg: 0 }, bare),
+        (2, START, 2, load(Reg::Eax, Operand::R(Reg::Esp)), bare),
+        (3, START, 2, load(Reg::Eax, memory(Reg::Eax, 0)), bare),
+        (4, START, 2, store(0, eax), bare),
+        (5, START, 2, alu(Alu::Add), bare),
+        (6, START, 3, store(4, ebx), bare),
+        (7, START, 1, Inst::Push(eax), full),
+        (8, START, 1, Inst::Pop(Reg::Eax), bare),
+        (9, START, 2, alu(Alu::Cmp), bare),
+    ]
+}
+
+/// Failures of the rules on calls, returns and edges, where a block stands 32 bytes behind the function's start.
+fn edge_failures(bare: &Context, pushed: &Context) -> [Failure<'_>; 8] {
+    [
+        (10, START, 2, Inst::CallAt(Operand::R(Reg::Eax)), bare),
+        (11, START, 5, Inst::CallRel(-0xFF005), bare),
+        (12, START, 1, Inst::Ret, pushed),
+        (13, START, 1, Inst::Ret, bare),
+        (14, START, 2, Inst::Jmp(1), bare),
+        (15, START, 2, Inst::Jcc(Cond::E, 30), bare),
+        (16, START, 2, Inst::Jmp(30), bare),
+        (17, LAST, 1, Inst::Nop, bare),
+    ]
+}
+
+#[test]
+fn each_rule_has_its_failure(rt: HostRuntime) -> Result<(), Fail> {
+    let mut image = bare(rt.alloc(), 64)?;
+    image.result = Ty::Ref(0);
+    image.block = START + 32;
+    image.known[1] = Ty::Num;
+    let no_slots = Context::plain(&NUMBER_AND_OBJECT, &[]);
+    let one_slot = Context::plain(&NUMBER_AND_OBJECT, &[Ty::Num]);
+    let full = Context::plain(&NUMBER_AND_OBJECT, &[Ty::Num; 64]);
+    let operands = operand_failures(&no_slots, &full);
+    let edges = edge_failures(&no_slots, &one_slot);
+    for (rule, pc, len, inst, known) in operands.iter().chain(edges.iter()) {
+        let mut context = **known;
+        assert_eq!(rt;
+            flow(&image, &mut context, *pc, inst, *len).err(),
+            Some(Rule(*rule)),
+            "rule {rule}"
+        );
+    }
     Ok(())
 }

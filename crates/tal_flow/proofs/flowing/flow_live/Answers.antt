@@ -5,7 +5,7 @@ use Rattle.tal_flow.proofs.EdgeRules.{operand-fails, return-flows}
 use Rattle.tal_flow.proofs.flowing.flow_live.Goals as goal
 
 pub returns-in-Some-clause-rule : goal.returns-in-Some-clause-rule
-returns-in-Some-clause-rule g c = operand-fails _ (live_of c.args.context.now) c.args.pc c.args.next c.in-Some.n c.args.form.now (sym c.operand_rule.ensures ∙ c.in-Some.is)
+returns-in-Some-clause-rule g c = operand-fails _ (live_of c.args.context.now) c.args.pc c.args.next c.in-Some.rule c.args.form.now (sym c.operand_rule.ensures ∙ c.in-Some.is)
 
 pub fall-requires : goal.fall-requires
 unfolding goes_on

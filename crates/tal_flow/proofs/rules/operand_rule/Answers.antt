@@ -9,6 +9,3 @@ returns-in-Address g c = rw c.in-Address.is (c.address_rule.ensures _ c.args.pc)
 
 pub returns-in-PopTo : goal.returns-in-PopTo
 returns-in-PopTo g c = rw c.in-PopTo.is (c.pop_rule.ensures _ c.args.pc)
-
-pub returns-in-DropSlots : goal.returns-in-DropSlots
-returns-in-DropSlots g c = rw c.in-DropSlots.is (c.drop_rule.ensures _ c.args.pc)
