@@ -357,7 +357,7 @@ const NUMBER_AND_OBJECT: [Ty; 7] = [
 const LAST: u32 = START + 63;
 
 /// Failures of the rules that ask of operands.
-fn operand_failures(bare: &Context, full: &Context) -> [Failure<'_>; 9] {
+fn operand_failures<'a>(bare: &'a Context, full: &'a Context) -> [Failure<'a>; 9] {
     let eax = Operand::R(Reg::Eax);
     let ebx = Operand::R(Reg::Ebx);
     let store = |disp: u32, src: Operand| Inst::Mov {
@@ -383,7 +383,7 @@ fn operand_failures(bare: &Context, full: &Context) -> [Failure<'_>; 9] {
 }
 
 /// Failures of the rules on calls, returns and edges, where a block stands 32 bytes behind the function's start.
-fn edge_failures(bare: &Context, pushed: &Context) -> [Failure<'_>; 8] {
+fn edge_failures<'a>(bare: &'a Context, pushed: &'a Context) -> [Failure<'a>; 8] {
     [
         (10, START, 2, Inst::CallAt(Operand::R(Reg::Eax)), bare),
         (11, START, 5, Inst::CallRel(-0xFF005), bare),
