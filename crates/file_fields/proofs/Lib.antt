@@ -1,0 +1,5 @@
+pub mod OneEnd
+pub mod ReadFields
+pub mod WholeFiles
+pub mod NumberMeanings
+pub mod Loops

@@ -1,0 +1,22 @@
+use Rattle.std.proofs.Common.{◌≡◌, ◌∙◌, ◌-◌, ◌+◌, suc, arith}
+use Rattle.std.proofs.lemmas.Result.{err_from_is_err_and}
+use Rattle.file_fields.proofs.Loops.{goes_on, ends, is_done}
+use Rattle.file_fields.proofs.reader.Reader.rows_after.Goals as goal
+
+pub returns-in_err-one-clause-gives : goal.returns-in_err-one-clause-gives
+returns-in_err-one-clause-gives g c =
+    let p = err_from_is_err_and c.from_residual.result c.from_residual.ensures.1 in
+    let e : c.args.count - c.loop-i.i ≡ suc (c.args.count - c.loop-i.i - 1) = omega arith in
+    rw (p.1, p.2) (ends c.loop-i.invariant.read _ e c.in_err-one.ensures.gives)
+
+pub loop-i-preserved : goal.loop-i-preserved
+loop-i-preserved g c =
+    let e : c.args.count - c.loop-i.i ≡ suc (c.args.count - (c.loop-i.i + 1)) = omega arith in
+    let later : c.args.count - c.loop-i.i - 1 ≡ c.args.count - (c.loop-i.i + 1) = omega arith in
+    record {
+      read = rw (c.in_ok-push.ensures.items, c.in_ok-one.ensures.file, c.in_ok-one.ensures.kept) (goes_on c.loop-i.invariant.read e (rw later at c.in_ok-one.ensures.gives));
+      file = c.in_ok-one.ensures.file ∙ c.loop-i.invariant.file;
+    }
+
+pub returns-clause-gives : goal.returns-clause-gives
+returns-clause-gives g c = is_done c.loop-i.invariant.read (omega (arith, c.loop-i-test.false))
