@@ -2,4 +2,4 @@ pub mod OneEnd
 pub mod ReadFields
 pub mod WholeFiles
 pub mod NumberMeanings
-pub mod Loops
+pub mod OneNumber

@@ -9,10 +9,10 @@ use Rattle.ia32_code.specs.declared.decoding.Decoded.{Decoded}
 use Rattle.ia32_code.specs.declared.decoding.Decoded.TheVariants as answer
 use Rattle.ia32_code.specs.Decoding.{decoded}
 use Rattle.file_fields.specs.declared.fault.ImageFault.{ImageFault}
-use Rattle.file_fields.specs.declared.fault.ImageFault.TheVariants.{Bad}
+use Rattle.file_fields.specs.declared.fault.ImageFault.TheVariants.{Magic, Version, Short, Rest, Bad, NoMemory}
 use Rattle.file_fields.specs.Grammar.{Grammar, done, chunk, instruction, number, pair, checked, then_with, many, each, bytes_number, Field, Chunk, Instruction, field_text, fields_text, Meets, Sound}
 use Rattle.file_fields.specs.Parts.{FieldsOf, Means, EachAfter, Each, Counted, AreRows}
-use Rattle.file_fields.specs.Reading.{◌▸◌, chunk_at, word_at, pair_at, checked_at, after_decoding, run}
+use Rattle.file_fields.specs.Reading.{◌▸◌, Fails, chunk_at, word_at, pair_at, checked_at, after_decoding, run}
 
 -- ---- what parts stand for
 
@@ -78,6 +78,7 @@ cons_split g f h mid fs y m k = record {
 
 -- fields of one part and of what comes then can be taken apart
 pub split : {A B : Type 0} (g : Grammar A) (f : A → Grammar B) (fs : List Field) (y : B) → Sound (then_with g f) fs (done y) → Split g f fs y
+unfolding then_with
 split (done x) f fs y s = record { value = x; first = []; second = fs; parts = refl; one = refl; more = s }
 split (chunk n ok fault next) f [] y s = absurd (no_end s tt)
 split (instruction room next) f [] y s = absurd (no_end s tt)
@@ -93,6 +94,7 @@ split (instruction room next) f (Chunk t ∷ fs) y s = absurd s.1
 -- fields of one part and of what comes then, put together
 pub join : {A B : Type 0} (g : Grammar A) (f : A → Grammar B) (fs gs : List Field) (x : A) (after : Grammar B)
     → Sound g fs (done x) → Sound (f x) gs after → Sound (then_with g f) (fs ++ gs) after
+unfolding then_with
 join {A} {B} (done z) f [] gs x after p q = subst (λ (v : A). Sound (f v) gs after) (sym (done_is z x p)) q
 join (chunk n ok fault next) f [] gs x after p q = absurd (no_end p tt)
 join (instruction room next) f [] gs x after p q = absurd (no_end p tt)
@@ -232,6 +234,7 @@ cond_bind false r e g = refl
 
 -- a part, and then what comes, is read one after the other
 pub run-then_with : {A B : Type 0} (g : Grammar A) (f : A → Grammar B) (file : List ℕ) (at : ℕ) → run (then_with g f) file at ≡ (run g file at ▸ λ x. run (f x.0) file x.1)
+unfolding then_with
 run-then_with (done x) f file at = refl
 run-then_with (chunk n ok fault next) f file at =
     same_bind (chunk_at n file at) _ _ (λ t. ap (λ r. cond (ok t.0) r (Err (fault t.0 at))) (run-then_with (next t.0) f file t.1) ∙ sym (cond_bind (ok t.0) (run (next t.0) file t.1) (fault t.0 at) _))
@@ -243,6 +246,11 @@ run-then_with {A} {B} (instruction room next) f file at = along (decoded (drop a
     along (answer.One i len) h = ap (λ r. cond (nat_le len room) r (Err (Bad at 23))) (h len i) ∙ sym (cond_bind (nat_le len room) _ (Bad at 23) _)
     along answer.Short h = refl
     along answer.Unknown h = refl
+
+-- the same, where it is known what is read then
+pub then_run : {A B : Type 0} (g : Grammar A) (f : A → Grammar B) (file : List ℕ) (at : ℕ) (more : A × ℕ → Result (B × ℕ) ImageFault)
+    → ((x : A × ℕ) → run (f x.0) file x.1 ≡ more x) → run (then_with g f) file at ≡ (run g file at ▸ more)
+then_run g f file at more same = run-then_with g f file at ∙ same_bind (run g file at) _ _ same
 
 -- a number, and what is read then
 pub number_run : {B : Type 0} (ok : ℕ → Bool) (fault : ℕ → ImageFault) (next : ℕ → Grammar B) (file : List ℕ) (at : ℕ)
@@ -264,3 +272,54 @@ pub many_run : {S A : Type 0} (row : ℕ → S → Grammar A) (step : S → A �
 many_run row step n kept file at =
     run-then_with (row n kept) (λ x. then_with (many n row step (step kept x)) (λ xs. done (x ∷ xs))) file at
     ∙ same_bind (run (row n kept) file at) _ _ (λ x. run-then_with (many n row step (step kept x.0)) (λ xs. done (x.0 ∷ xs)) file x.1)
+
+-- ---- rows one after another
+
+-- a fault that one reading passes on to another
+pub passed_on : {X Y : Type 0} (e : ImageFault) (one : Result X ImageFault) (all : Result Y ImageFault) → ((f : ImageFault) → one ≡ Err f → all ≡ Err f) → Fails e one → Fails e all
+passed_on NoMemory one all h k = tt
+passed_on Magic one all h k = h Magic k
+passed_on Version one all h k = h Version k
+passed_on (Short at) one all h k = h (Short at) k
+passed_on (Rest at) one all h k = h (Rest at) k
+passed_on (Bad at field) one all h k = h (Bad at field) k
+
+-- what was read before, and what is still read
+abbrev pub with_front : {A : Type 0} → List A → Result (List A × ℕ) ImageFault → Result (List A × ℕ) ImageFault
+with_front front read = read ▸ λ x. Ok (front ++ x.0, x.1)
+
+-- a row moves from what is read to what was read before
+pub regroup : {A : Type 0} (front : List A) (n : A) (read : Result (List A × ℕ) ImageFault) → with_front front (read ▸ λ x. Ok (n ∷ x.0, x.1)) ≡ with_front (front ++ n ∷ []) read
+regroup {A} front n (Ok x) = ap (λ (ns : List A). let r : Result (List A × ℕ) ImageFault = Ok (ns, x.1) in r) (sym (append_assoc front (n ∷ []) x.0))
+regroup front n (Err f) = refl
+
+-- So many rows are still to be read; others stand before them, and what is read is the whole.
+pub record RowsLeft {S A : Type 0} (front : List A) (left : ℕ) (row : ℕ → S → Grammar A) (step : S → A → S) (kept : S) (file : List ℕ) (at : ℕ) (total : Result (List A × ℕ) ImageFault) : Type 0 where
+  pub read : with_front front (run (many left row step kept) file at) ≡ total
+
+module _ {S A : Type 0} {front : List A} {left : ℕ} {row : ℕ → S → Grammar A} {step : S → A → S} {kept : S} {file : List ℕ} {at : ℕ} {total : Result (List A × ℕ) ImageFault} (r : RowsLeft front left row step kept file at total) where
+  -- one row, and then the others
+  one_left : {later : ℕ} → left ≡ suc later
+      → with_front front (run (many left row step kept) file at)
+      ≡ with_front front (run (row later kept) file at ▸ λ x. run (many later row step (step kept x.0)) file x.1 ▸ λ xs. Ok (x.0 ∷ xs.0, xs.1))
+  one_left {later} k =
+      ap (λ (n : ℕ). with_front front (run (many n row step kept) file at)) k ∙ ap (with_front front) (many_run row step later kept file at)
+
+  -- one row more
+  pub goes_on : {later : ℕ} {x : A} {after : ℕ} → left ≡ suc later → run (row later kept) file at ≡ Ok (x, after) → RowsLeft (front ++ x ∷ []) later row step (step kept x) file after total
+  goes_on {later} {x} {after} k h =
+      let others : A × ℕ → Result (List A × ℕ) ImageFault = λ y. run (many later row step (step kept y.0)) file y.1 ▸ λ xs. Ok (y.0 ∷ xs.0, xs.1) in
+      let one = one_left k ∙ ap (λ (y : Result (A × ℕ) ImageFault). with_front front (y ▸ others)) h ∙ regroup front x (run (many later row step (step kept x)) file after) in
+      record { read = sym one ∙ r.read }
+
+  -- a row that is refused
+  pub ends : (e : ImageFault) {later : ℕ} → left ≡ suc later → Fails e (run (row later kept) file at) → Fails e total
+  ends e {later} k h =
+      let others : A × ℕ → Result (List A × ℕ) ImageFault = λ y. run (many later row step (step kept y.0)) file y.1 ▸ λ xs. Ok (y.0 ∷ xs.0, xs.1) in
+      passed_on e (run (row later kept) file at) total (λ f q. sym r.read ∙ one_left k ∙ ap (λ (y : Result (A × ℕ) ImageFault). with_front front (y ▸ others)) q) h
+
+  -- no row more
+  pub is_done : left ≡ 0 → total ≡ Ok (front, at)
+  is_done k =
+      sym r.read ∙ ap (λ (n : ℕ). with_front front (run (many n row step kept) file at)) k
+      ∙ ap (λ (xs : List A). let one : Result (List A × ℕ) ImageFault = Ok (xs, at) in one) (append-nil front)

@@ -37,7 +37,7 @@ pair ok fault next =
     (λ t. next (bytes_number (take 4 t)) (bytes_number (drop 4 t)))
 
 -- one part of a file, and what comes then
-abbrev pub then_with : {A B : Type 0} → Grammar A → (A → Grammar B) → Grammar B
+unfoldable pub then_with : {A B : Type 0} → Grammar A → (A → Grammar B) → Grammar B
 then_with (done x) f = f x
 then_with (chunk n ok fault next) f = chunk n ok fault (λ t. then_with (next t) f)
 then_with (instruction room next) f = instruction room (λ t i. then_with (next t i) f)

@@ -1,5 +1,5 @@
 // The rows of a file, one after another.
-ghost use Rattle.std.specs.Prelude.{◌≡◌, ℕ, IfOk};
+ghost use Rattle.std.specs.Prelude.{◌≡◌, ℕ, length, IfOk};
 ghost use Rattle.file_fields.specs.Grammar.{Grammar, many, each};
 ghost use Rattle.file_fields.specs.Reading.{GivesAt, GivesView, run};
 
@@ -48,6 +48,7 @@ impl Reader<'_> {
         count: u32,
     ) -> Result<Vec<T>, ImageFault>
         ensures gives { GivesView (λ v. v.items) result (run (each count (T.fields context.now)) self.old.file.now self.old.at) self.new.at }
+        ensures count { IfOk result (λ v. length v.items ≡ count) }
         ensures file { self.new.file ≡ self.old.file }
     {
         let mut rows = Vec::new(alloc);
@@ -67,6 +68,7 @@ impl Reader<'_> {
         first: S,
     ) -> Result<Vec<T>, ImageFault>
         ensures gives { GivesView (λ v. v.items) result (run (many count (T.fields context.now) T.after first) self.old.file.now self.old.at) self.new.at }
+        ensures count { IfOk result (λ v. length v.items ≡ count) }
         ensures file { self.new.file ≡ self.old.file }
     {
         let mut rows = Vec::new(alloc);

@@ -5,8 +5,8 @@ ghost use Rattle.file_fields.specs.Grammar.{number_bytes};
 
 use no_memory::NoMemory;
 
-/// A part of a file as it is written.
-pub trait Part {
+/// A part of a file of the format F as it is written.
+pub trait Part<F> {
     /// its numbers have 32 bits
     ghost fits: { Self → Type 0 };
 
@@ -20,7 +20,7 @@ pub trait Part {
 }
 
 /// Puts parts at the end of a file, one after another.
-pub fn put_all<T: Part>(file: &mut Vec<u8>, parts: &[T]) -> Result<(), NoMemory>
+pub fn put_all<F, T: Part<F>>(file: &mut Vec<u8>, parts: &[T]) -> Result<(), NoMemory>
     requires { All T.fits parts.now }
     ensures { OnOk result (file.new.items ≡ file.old.items ++ flat_map T.bytes parts.now) }
 {
@@ -31,22 +31,29 @@ pub fn put_all<T: Part>(file: &mut Vec<u8>, parts: &[T]) -> Result<(), NoMemory>
 }
 
 /// Puts the number of parts at the end of a file, and then the parts.
-pub fn put_counted<T: Part>(file: &mut Vec<u8>, parts: &[T]) -> Result<(), NoMemory>
+pub fn put_counted<F, T: Part<F>>(file: &mut Vec<u8>, parts: &[T]) -> Result<(), NoMemory>
     requires few { length parts.now < 2 ^ 32 }
     requires fit { All T.fits parts.now }
     ensures { OnOk result (file.new.items ≡ file.old.items ++ (number_bytes (length parts.now) ++ flat_map T.bytes parts.now)) }
 {
-    (parts.len() as u32).put(file)?;
+    put_number(file, parts.len() as u32)?;
     put_all(file, parts)
 }
 
-impl Part for u32 {
+/// Puts a number at the end of a file.
+pub fn put_number(file: &mut Vec<u8>, number: u32) -> Result<(), NoMemory>
+    ensures { OnOk result (file.new.items ≡ file.old.items ++ number_bytes number) }
+{
+    file.extend_from_slice(&number.to_le_bytes())?;
+    Ok(())
+}
+
+impl<F> Part<F> for u32 {
     ghost fits = { λ n. Unit {0} };
 
     ghost bytes = { λ n. number_bytes n };
 
     fn put(&self, file: &mut Vec<u8>) -> Result<(), NoMemory> {
-        file.extend_from_slice(&self.to_le_bytes())?;
-        Ok(())
+        put_number(file, *self)
     }
 }

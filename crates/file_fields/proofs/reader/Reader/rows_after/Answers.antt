@@ -1,6 +1,7 @@
-use Rattle.std.proofs.Common.{◌≡◌, ◌∙◌, ◌-◌, ◌+◌, suc, arith}
+use Rattle.std.proofs.Common.{◌≡◌, ◌∙◌, ◌-◌, ◌+◌, suc, [], ◌∷◌, arith}
+use Rattle.std.proofs.lemmas.List.{length-append}
 use Rattle.std.proofs.lemmas.Result.{err_from_is_err_and}
-use Rattle.file_fields.proofs.Loops.{goes_on, ends, is_done}
+use Rattle.file_fields.specs.Composed.{goes_on, ends, is_done}
 use Rattle.file_fields.proofs.reader.Reader.rows_after.Goals as goal
 
 pub returns-in_err-one-clause-gives : goal.returns-in_err-one-clause-gives
@@ -15,6 +16,7 @@ loop-i-preserved g c =
     let later : c.args.count - c.loop-i.i - 1 ≡ c.args.count - (c.loop-i.i + 1) = omega arith in
     record {
       read = rw (c.in_ok-push.ensures.items, c.in_ok-one.ensures.file, c.in_ok-one.ensures.kept) (goes_on c.loop-i.invariant.read e (rw later at c.in_ok-one.ensures.gives));
+      count = let n = c.loop-i.invariant.count in let m = length-append c.loop-i.rows.items (c.in_ok-one.one ∷ []) in rw c.in_ok-push.ensures.items (omega arith);
       file = c.in_ok-one.ensures.file ∙ c.loop-i.invariant.file;
     }
 
