@@ -8,7 +8,7 @@ use Rattle.std.proofs.lemmas.List.Sums.{fold_push}
 use Rattle.device_model.specs.declared.events.Event.{Event}
 use Rattle.device_model.specs.declared.events.EventFault.{EventFault}
 use Rattle.device_model.specs.declared.events.EventFault.TheVariants.{Syntax, Range, TooMany, NoMemory}
-use Rattle.device_model.specs.EventFile.{LineForm, Skipped, TickLine, KeyLine, lines_of, last_turn, InRange, event_in, LineLeaves, LinesLeave, EventsOf, BreaksSyntax, BreaksRange, BreaksRoom, FirstFault, IsFirstFault}
+use Rattle.device_model.specs.EventFile.{LineForm, Skipped, TickLine, KeyLine, lines_of, last_turn, InRange, event_in, LineLeaves, LinesLeave, EventsOf, BreaksSyntax, BreaksRange, BreaksRoom, FirstLineThat, IsFirstFault}
 use Rattle.device_model.specs.declared.events.EventKind.TheVariants.{Tick, Key}
 use Rattle.device_model.specs.EventFile.{InOrder, InOrderFrom, IsTurn}
 use Rattle.device_model.specs.EventReading.{LineGives}
@@ -45,7 +45,7 @@ goes_past (g ∷ good) line rest start before list x y =
     goes_past good line rest x.0 before list x.2 (subst (λ (m : List Event). LinesLeave m good before) same y.2)
 
 -- So the line of a fault would leave some list,
-past : (Breaks : List Event → List ℕ → Type 0) (bytes : List ℕ) (number : ℕ) (list : List Event) → (f : FirstFault Breaks bytes number)
+past : (Breaks : List Event → List ℕ → Type 0) (bytes : List ℕ) (number : ℕ) (list : List Event) → (f : FirstLineThat Breaks bytes number)
     → EventsOf bytes list → LeavesSome f.before f.line
 past Breaks bytes number list f is = goes_past f.good f.line f.rest [] f.before list (subst (λ (lines : List (List ℕ)). LinesLeave [] lines list) f.parts is) f.sound
 
@@ -121,7 +121,7 @@ record OnePlace (B C : List Event → List ℕ → Type 0) (m n : ℕ) : Type 0 
 -- Two first faults of any kinds stand at one line, behind one list.
 one_place : (B C : List Event → List ℕ → Type 0) → ((before : List Event) (line : List ℕ) → B before line → LeavesSome before line → ⊥)
     → ((before : List Event) (line : List ℕ) → C before line → LeavesSome before line → ⊥)
-    → (bytes : List ℕ) (m n : ℕ) → FirstFault B bytes m → FirstFault C bytes n → OnePlace B C m n
+    → (bytes : List ℕ) (m n : ℕ) → FirstLineThat B bytes m → FirstLineThat C bytes n → OnePlace B C m n
 one_place B C no_b no_c bytes m n f g =
     let s = same_place f.good g.good f.line g.line f.rest g.rest [] f.before g.before (sym f.parts ∙ g.parts) f.sound g.sound
     (no_b f.before f.line f.breaks) (no_c g.before g.line g.breaks) in
@@ -244,7 +244,7 @@ is_all bytes left number last events s done =
 
 -- Where a line breaks a rule it is the first that does,
 at_fault : (Breaks : List Event → List ℕ → Type 0) (bytes left rest line : List ℕ) (number last at : ℕ) (events : List Event) → SoFar bytes left number last events
-    → lines_of left ≡ line ∷ lines_of rest → at ≡ number + 1 → Breaks events line → FirstFault Breaks bytes at
+    → lines_of left ≡ line ∷ lines_of rest → at ≡ number + 1 → Breaks events line → FirstLineThat Breaks bytes at
 at_fault Breaks bytes left rest line number last at events s first place breaks = record {
   good = s.good;
   line = line;

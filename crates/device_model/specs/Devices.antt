@@ -1,6 +1,7 @@
 -- When devices stand for a history, and what their calls answer and add.
 use Rattle.std.specs.Prelude.{◌≡◌, ◌↔◌, ℕ, ◌<◌, List, [], ◌∷◌, slice_index, Bool, IsTrue, Option, Some, None}
 use Rattle.device_model.specs.LineBits.{is_set}
+use Rattle.device_model.specs.declared.screen.TheConstants.{CELLS}
 use Rattle.device_model.specs.declared.events.Event.{Event}
 use Rattle.device_model.specs.declared.events.EventKind.{EventKind}
 use Rattle.device_model.specs.declared.events.EventKind.TheVariants.{Tick, Key}
@@ -29,7 +30,7 @@ pub record StandsFor (devices : DevicesView) (history : History) : Type 0 where
   pub awaited : devices.awaited ≡ awaited history
   pub waiting : devices.waiting ≡ waiting history
   pub mask : devices.mask ≡ mask history
-  pub cells : (position : ℕ) → position < 2000 → slice_index devices.cells position ≡ cell position history
+  pub cells : (position : ℕ) → position < CELLS → slice_index devices.cells position ≡ cell position history
 
 -- the item of an event
 abbrev pub item_of : EventKind → Item

@@ -141,7 +141,7 @@ pub record BreaksRoom (before : List Event) (line : List ℕ) : Type 0 where
   pub full : 1000000 ≤ length before
 
 -- The first line that breaks a rule has this number, counted from 1.
-pub record FirstFault (Breaks : List Event → List ℕ → Type 0) (bytes : List ℕ) (number : ℕ) : Type 0 where
+pub record FirstLineThat (Breaks : List Event → List ℕ → Type 0) (bytes : List ℕ) (number : ℕ) : Type 0 where
   pub good : List (List ℕ)
   pub line : List ℕ
   pub rest : List (List ℕ)
@@ -153,7 +153,7 @@ pub record FirstFault (Breaks : List Event → List ℕ → Type 0) (bytes : Lis
 
 -- The fault is that of the first line with one: Syntax before Range before TooMany. Want of memory may come at any line.
 abbrev pub IsFirstFault : List ℕ → EventFault → Type 0
-IsFirstFault bytes (Syntax line) = FirstFault BreaksSyntax bytes line
-IsFirstFault bytes (Range line) = FirstFault BreaksRange bytes line
-IsFirstFault bytes (TooMany line) = FirstFault BreaksRoom bytes line
+IsFirstFault bytes (Syntax line) = FirstLineThat BreaksSyntax bytes line
+IsFirstFault bytes (Range line) = FirstLineThat BreaksRange bytes line
+IsFirstFault bytes (TooMany line) = FirstLineThat BreaksRoom bytes line
 IsFirstFault bytes NoMemory = Unit {0}

@@ -4,6 +4,7 @@ use Rattle.std.specs.Prelude.{◌≡◌, ℕ, zero, suc, ◌+◌, ◌-◌, ◌<�
 use Rattle.std.specs.Option.{option_map_or}
 use Rattle.std.specs.List.{AllByRecursion}
 use Rattle.device_model.specs.LineBits.{is_set}
+use Rattle.device_model.specs.declared.screen.TheConstants.{BLANK}
 
 -- one thing that happens
 pub data Item : Type 0 where
@@ -148,7 +149,7 @@ mask (x ∷ before) = mask before
 
 -- what was last written to the cell
 abbrev pub cell : ℕ → History → ℕ
-cell position [] = 0x0720
+cell position [] = BLANK
 cell position (Drew other written ∷ before) = if other == position then written else cell position before
 cell position (x ∷ before) = cell position before
 

@@ -5,6 +5,7 @@ ghost use Rattle.device_model.specs.History.{History, Wrote, Drew, InService, ce
 ghost use Rattle.device_model.specs.Devices.{StandsFor, IsGrant, NoneInService, SomeInService, after_grant, item_of};
 
 use crate::interrupt_lines::{KEYBOARD_BIT, TIMER_BIT, next_of, without_lowest};
+use crate::screen::{BLANK, CELLS};
 use crate::{Event, EventKind, Line};
 use circular_buffer::HeapCircularBuffer;
 use no_memory::NoMemory;
@@ -30,12 +31,6 @@ const SET_COUNT: u8 = 0x34;
 // How many codes the keyboard's queue holds.
 const QUEUE_ROOM: usize = 16;
 
-// The screen has 80 columns and 25 rows.
-const CELLS: usize = 2000;
-
-// A space, in light grey on black.
-const BLANK: u16 = 0x0720;
-
 /// Screen, interrupt controller, timer and keyboard. A contract speaks of each history that they stand for.
 #[derive(Drop)]
 pub struct Devices {
@@ -57,6 +52,7 @@ pub struct Devices {
 
 impl Model for Devices {
     ghost use Rattle.std.specs.Prelude.{◌≡◌, length};
+    ghost use Rattle.device_model.specs.declared.screen.TheConstants.{CELLS};
     ghost use Rattle.device_model.specs.Devices.{DevicesView};
 
     ghost Value = { DevicesView };
@@ -71,7 +67,7 @@ impl Model for Devices {
       cells = d.cells.items;
     } };
 
-    ghost invariant = { λ d. (d.keyboard.capacity ≡ 16) × (length d.cells.items ≡ 2000) };
+    ghost invariant = { λ d. (d.keyboard.capacity ≡ 16) × (length d.cells.items ≡ CELLS) };
 }
 
 impl Devices {
@@ -177,18 +173,18 @@ impl Devices {
         self.service
     }
 
-    /// A cell of the screen, `character + 256 * attribute`, at `80 * row + column`. `None` exactly above 1999.
+    /// A cell of the screen, `character + 256 * attribute`, at `80 * row + column`. `None` exactly from `CELLS` on.
     pub fn cell(&self, position: u32) -> Option<u16>
-        ensures within { is_some result ≡ nat_lt position 2000 }
+        ensures within { is_some result ≡ nat_lt position CELLS }
         ensures value { (h : History) → StandsFor self.now h
-            → result ≡ (if nat_lt position 2000 then Some (cell position h) else None) }
+            → result ≡ (if nat_lt position CELLS then Some (cell position h) else None) }
     {
         self.cells.get(position as usize).copied()
     }
 
-    /// Writes a cell of the screen. False exactly above 1999; then nothing changes.
+    /// Writes a cell of the screen. False exactly from `CELLS` on; then nothing changes.
     pub fn set_cell(&mut self, position: u32, cell: u16) -> bool
-        ensures within { result ≡ nat_lt position 2000 }
+        ensures within { result ≡ nat_lt position CELLS }
         ensures after { (h : History) → StandsFor self.old h → IsTrue result → StandsFor self.new (Drew position cell ∷ h) }
         ensures none { IsFalse result → self.new ≡ self.old }
     {

@@ -12,6 +12,7 @@ mod events;
 mod interrupt_lines;
 pub mod laws;
 mod line_form;
+mod screen;
 #[cfg(test)]
 mod tests;
 
@@ -19,3 +20,4 @@ pub use devices::Devices;
 pub use event_file::read_events;
 pub use events::{Event, EventFault, EventKind};
 pub use interrupt_lines::Line;
+pub use screen::{BLANK, CELLS};

@@ -28,8 +28,8 @@ row_at-missing rows (x ∷ xs) (n ∷ ns) pc differs =
     rw miss (row_at-missing rows xs ns pc (λ i w. differs (suc i) (omega arith)))
 
 -- What rises never falls.
-pub never-falls : (xs : List ℕ) → Rises xs → (i j : ℕ) → i ≤ j → j < length xs → get_or xs i 0 ≤ get_or xs j 0
-never-falls xs rising i j upto within = by_case (cases_eq i j)
+pub never_falls : (xs : List ℕ) → Rises xs → (i j : ℕ) → i ≤ j → j < length xs → get_or xs i 0 ≤ get_or xs j 0
+never_falls xs rising i j upto within = by_case (cases_eq i j)
   where
     by_case : (i ≡ j) ⊎ (i ≡ j → ⊥) → get_or xs i 0 ≤ get_or xs j 0
     by_case (inl same) = rw same (omega arith)

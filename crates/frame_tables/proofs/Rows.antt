@@ -4,20 +4,20 @@ use Rattle.std.proofs.lemmas.Bool.Decides.{nat_tests}
 use Rattle.std.proofs.lemmas.List.{map-append}
 use Rattle.std.specs.List.{list_any}
 use Rattle.tal_types.specs.declared.FrameRow.{FrameRow}
-use Rattle.frame_tables.specs.FrameRows.{RowAt, same_row, joined, different_rows}
+use Rattle.frame_tables.specs.FrameRows.{RowAt, same_row, with_row, different_rows}
 use Rattle.frame_tables.specs.Layout.{row_of, numbered}
 
 -- A row more at the end is joined to the different ones.
-pub different_rows-append : (table : List RowAt) (r : RowAt) → different_rows (table ++ r ∷ []) ≡ joined (different_rows table) r.row
+pub different_rows-append : (table : List RowAt) (r : RowAt) → different_rows (table ++ r ∷ []) ≡ with_row (different_rows table) r.row
 different_rows-append table r = grow table []
   where
-    grow : (table : List RowAt) (rows : List FrameRow) → fold joined rows (map (λ x. x.row) (table ++ r ∷ [])) ≡ joined (fold joined rows (map (λ x. x.row) table)) r.row
+    grow : (table : List RowAt) (rows : List FrameRow) → fold with_row rows (map (λ x. x.row) (table ++ r ∷ [])) ≡ with_row (fold with_row rows (map (λ x. x.row) table)) r.row
     grow [] rows = refl
-    grow (x ∷ table) rows = grow table (joined rows x.row)
+    grow (x ∷ table) rows = grow table (with_row rows x.row)
 
 -- Joining a row keeps the numbers of the others.
-pub numbered-joined : (rows : List FrameRow) (row : FrameRow) (n : ℕ) → n < length rows → numbered (joined rows row) n ≡ numbered rows n
-numbered-joined rows row n below = by_case (list_any (same_row row) rows)
+pub numbered-with_row : (rows : List FrameRow) (row : FrameRow) (n : ℕ) → n < length rows → numbered (with_row rows row) n ≡ numbered rows n
+numbered-with_row rows row n below = by_case (list_any (same_row row) rows)
   where
     front : (rs : List FrameRow) (k : ℕ) → k < length rs → numbered (rs ++ row ∷ []) k ≡ numbered rs k
     front [] k below = absurd (omega arith)
@@ -29,8 +29,8 @@ numbered-joined rows row n below = by_case (list_any (same_row row) rows)
     by_case false = front rows n below
 
 -- There are no fewer rows after one was joined.
-pub length-joined : (rows : List FrameRow) (row : FrameRow) → length rows ≤ length (joined rows row)
-length-joined rows row = by_case (list_any (same_row row) rows)
+pub length-with_row : (rows : List FrameRow) (row : FrameRow) → length rows ≤ length (with_row rows row)
+length-with_row rows row = by_case (list_any (same_row row) rows)
   where
     by_case : (b : Bool) → length rows ≤ length (if b then rows else rows ++ row ∷ [])
     by_case true = omega arith
@@ -46,9 +46,9 @@ list_any-row_of row [] = refl
 list_any-row_of row (k ∷ ks) = ap (λ b. same_row row (row_of k) || b) (list_any-row_of row ks)
 
 -- Where a key joins the kept ones, its row joins theirs.
-pub map-row_of-joined : (row : FrameRow) (ks : List (ℕ × ℕ × ℕ))
-    → map row_of (if list_any (λ k. same_row row (row_of k)) ks then ks else ks ++ (row.regs, row.slots, row.refs) ∷ []) ≡ joined (map row_of ks) row
-map-row_of-joined row ks = rw (list_any-row_of row ks) (by_case (list_any (λ k. same_row row (row_of k)) ks))
+pub map-row_of_joined : (row : FrameRow) (ks : List (ℕ × ℕ × ℕ))
+    → map row_of (if list_any (λ k. same_row row (row_of k)) ks then ks else ks ++ (row.regs, row.slots, row.refs) ∷ []) ≡ with_row (map row_of ks) row
+map-row_of_joined row ks = rw (list_any-row_of row ks) (by_case (list_any (λ k. same_row row (row_of k)) ks))
   where
     by_case : (b : Bool) → map row_of (if b then ks else ks ++ (row.regs, row.slots, row.refs) ∷ []) ≡ (if b then map row_of ks else map row_of ks ++ row ∷ [])
     by_case true = refl

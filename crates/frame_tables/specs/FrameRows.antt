@@ -18,9 +18,9 @@ abbrev pub same_row : FrameRow → FrameRow → Bool
 same_row a b = a.regs == b.regs && a.slots == b.slots && a.refs == b.refs
 
 -- These rows and this one, which is not put there twice.
-abbrev pub joined : List FrameRow → FrameRow → List FrameRow
-joined rows row = if list_any (same_row row) rows then rows else rows ++ row ∷ []
+abbrev pub with_row : List FrameRow → FrameRow → List FrameRow
+with_row rows row = if list_any (same_row row) rows then rows else rows ++ row ∷ []
 
 -- The rows of a table, each different one once, in the order of their first addresses.
 abbrev pub different_rows : List RowAt → List FrameRow
-different_rows table = fold joined [] (map (λ r. r.row) table)
+different_rows table = fold with_row [] (map (λ r. r.row) table)

@@ -36,6 +36,6 @@ chosen refs slot [] = []
 chosen refs slot (w ∷ ws) = if bit_at refs slot == 1 then w ∷ chosen refs (slot + 1) ws else chosen refs (slot + 1) ws
 
 -- A step of a list of words still to come: it gives the first, or there is none.
-abbrev pub Steps : Option ℕ → List ℕ → List ℕ → Type 0
-Steps None before after = (before ≡ []) × (after ≡ [])
-Steps (Some w) before after = before ≡ w ∷ after
+abbrev pub GivesNext : Option ℕ → List ℕ → List ℕ → Type 0
+GivesNext None before after = (before ≡ []) × (after ≡ [])
+GivesNext (Some w) before after = before ≡ w ∷ after

@@ -1,7 +1,7 @@
 // Rows of frames by address. Each different row is kept once, in a set that a hash searches; addresses are kept in
 // order, each with the number of its row, and are searched by halving.
 ghost use Rattle.std.specs.Prelude.{ℕ, ◌≡◌, ◌≢◌, ◌<◌, ◌^◌, ◌∷◌, ◌++◌, [], All, IfOk, OnOk, OnErr, MatchOption, slice_index, length, map};
-ghost use Rattle.frame_tables.specs.FrameRows.{row_at, joined, different_rows};
+ghost use Rattle.frame_tables.specs.FrameRows.{row_at, with_row, different_rows};
 ghost use Rattle.frame_tables.specs.Layout.{Rises, row_of, numbered};
 
 use indexmap::IndexSet;
@@ -32,7 +32,7 @@ fn kept_row(rows: &IndexSet<(u8, u8, u64)>, number: u32) -> FrameRow
 
 // Keeps a row, where it is not kept already, and answers its number. Numbers have 32 bits.
 fn keep_row(rows: &mut IndexSet<(u8, u8, u64)>, row: FrameRow) -> Result<u32, NoMemory>
-    ensures joined { OnOk result (map row_of rows.new.keys ≡ joined (map row_of rows.old.keys) row) }
+    ensures joined { OnOk result (map row_of rows.new.keys ≡ with_row (map row_of rows.old.keys) row) }
     ensures few { OnOk result (length rows.new.keys < 2 ^ 32) }
     ensures number { IfOk result (λ n. (n < length rows.new.keys) × (numbered (map row_of rows.new.keys) n ≡ row)) }
     ensures err { OnErr result (rows.new.keys ≡ rows.old.keys) }

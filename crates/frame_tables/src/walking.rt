@@ -1,7 +1,7 @@
 // The walk over the frames of a stack. It takes no memory, and goes over each word once.
 ghost use Rattle.std.specs.Prelude.{◌≡◌, ◌↔◌, ◌∷◌, [], IfOk, IsTrue};
 ghost use Rattle.std.specs.Int.{bit_at};
-ghost use Rattle.frame_tables.specs.FrameWalks.{IsStack, references, Steps};
+ghost use Rattle.frame_tables.specs.FrameWalks.{IsStack, references, GivesNext};
 
 use crate::FrameTable;
 use std::marker::Model;
@@ -51,7 +51,7 @@ impl<'a> Walk<'a> {
 
     /// The next reference word. None exactly where all were given.
     pub fn next(&mut self) -> Option<u32>
-        ensures { Steps result self.old self.new }
+        ensures { GivesNext result self.old self.new }
     {
         while let Some((word, rest)) = self.words.split_first() {
             self.words = rest;

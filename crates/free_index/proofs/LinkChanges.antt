@@ -6,7 +6,7 @@ use Rattle.heap_words.specs.Laws.{BlockLaws}
 use Rattle.free_index.specs.Free.{OnlyLinks}
 use Rattle.free_index.specs.Steps.{Inserted, Names, Removed}
 use Rattle.free_index.proofs.Chains.{header_apart}
-use Rattle.free_index.proofs.LinkWrites.{trans-blocks, free-through}
+use Rattle.free_index.proofs.LinkWrites.{trans_blocks, free-through}
 
 -- word d of a block is in no other block
 inside_apart : BlockLaws → (u : List ℕ) (i j k d : ℕ) → FormedHeap u → Begins u i → Begins u j → j ≢ i → d < 4 → j ≤ k → k < j + size_at u j → k ≢ i + d
@@ -43,8 +43,8 @@ pub free-only : BlockLaws → (u v : List ℕ) (i : ℕ) → OnlyLinks u v → I
 free-only laws u v i o f = free-through u v i o.blocks (only-headers laws u v i o f.begins) f
 
 -- and no other block becomes free
-pub free-only-back : BlockLaws → (u v : List ℕ) (i : ℕ) → OnlyLinks u v → IsFree v i → IsFree u i
-free-only-back laws u v i o f = let b = o.blocks.back i f.begins in record { begins = b; free = sym (ap used_of (only-headers laws u v i o b)) ∙ f.free }
+pub free-only_back : BlockLaws → (u v : List ℕ) (i : ℕ) → OnlyLinks u v → IsFree v i → IsFree u i
+free-only_back laws u v i o f = let b = o.blocks.back i f.begins in record { begins = b; free = sym (ap used_of (only-headers laws u v i o b)) ∙ f.free }
 
 -- the list of blocks stays
 pub only-list : BlockLaws → (u v : List ℕ) → FormedHeap u → OnlyLinks u v → Blocks v ≡ Blocks u
@@ -56,7 +56,7 @@ only-refl u = record { blocks = record { size = refl; forth = λ _ b. b; back = 
 
 -- two changes of links are one
 pub only-trans : BlockLaws → (u v w : List ℕ) → OnlyLinks u v → OnlyLinks v w → OnlyLinks u w
-only-trans laws u v w a b = record { blocks = trans-blocks u v w a.blocks b.blocks; others = λ k h. b.others k (λ i f. h i (free-only-back laws u v i a f)) ∙ a.others k h }
+only-trans laws u v w a b = record { blocks = trans_blocks u v w a.blocks b.blocks; others = λ k h. b.others k (λ i f. h i (free-only_back laws u v i a f)) ∙ a.others k h }
 
 -- putting in and taking out change links alone
 pub only-inserted : (u v : List ℕ) (i head : ℕ) → IsFree u i → Names u head → Inserted u v i head → OnlyLinks u v

@@ -7,8 +7,8 @@ use Rattle.free_index.specs.Steps.{Inserted, Names, Removed}
 use Rattle.free_index.proofs.Chains.{rows, header_apart}
 
 -- blocks that stay through two changes stay
-pub trans-blocks : (u v w : List ℕ) → SameBlocks u v → SameBlocks v w → SameBlocks u w
-trans-blocks u v w a b = record {
+pub trans_blocks : (u v w : List ℕ) → SameBlocks u v → SameBlocks v w → SameBlocks u w
+trans_blocks u v w a b = record {
   size = b.size ∙ a.size;
   forth = λ i h. b.forth i (a.forth i h);
   back = λ i h. a.back i (b.back i h);
@@ -49,7 +49,7 @@ pub record Fronted (u b : List ℕ) (i head : ℕ) : Type 0 where
 -- what the first two writes of an insertion leave
 pub fronted : BlockLaws → (u a b : List ℕ) (i head : ℕ) → FormedHeap u → Begins u i → a ≡ set u (i + 1) head → SameBlocks u a → b ≡ set a (i + 2) 0 → SameBlocks a b → Fronted u b i head
 fronted laws u a b i head f g e s d t = record {
-  blocks = trans-blocks u a b s t;
+  blocks = trans_blocks u a b s t;
   link = rw (d, get_or-set_other a (i + 2) (i + 1) 0 0 (one i), e) (get_or-set_same u (i + 1) head 0 (word_inside laws u i 1 f g (omega arith)));
   back = rw d (get_or-set_same a (i + 2) 0 0 (rw s.size (word_inside laws u i 2 f g (omega arith))));
   others = λ k n m. rw (d, get_or-set_other a (i + 2) k 0 0 m, e) (get_or-set_other u (i + 1) k head 0 n);
@@ -70,7 +70,7 @@ pub inserted : BlockLaws → (u b v : List ℕ) (i head : ℕ) → Fronted u b i
     → ((p : ℕ) → head ≡ p + 1 → get_or v (p + 2) 0 ≡ i + 1) → ((k : ℕ) → ((p : ℕ) → head ≡ p + 1 → k ≢ p + 2) → get_or v k 0 ≡ get_or b k 0)
     → Inserted u v i head
 inserted laws u b v i head p g n d s w o = record {
-  blocks = trans-blocks u b v p.blocks s;
+  blocks = trans_blocks u b v p.blocks s;
   link = o (i + 1) (λ h e. rows i h (laws.places.row u i g) (named_row laws u head h n e)) ∙ p.link;
   back = o (i + 2) (λ h e q. d (omega arith)) ∙ p.back;
   next = w;
@@ -90,7 +90,7 @@ pub removed : BlockLaws → (u a v : List ℕ) (i next back : ℕ) → next ≡ 
     → SameBlocks a v → ((g : ℕ) → next ≡ g + 1 → get_or v (g + 2) 0 ≡ back)
     → ((k : ℕ) → ((g : ℕ) → next ≡ g + 1 → k ≢ g + 2) → get_or v k 0 ≡ get_or a k 0) → Removed u v i
 removed laws u a v i next back x y n b s w o t z q = record {
-  blocks = trans-blocks u a v s t;
+  blocks = trans_blocks u a v s t;
   before = λ p e. let h : back ≡ p + 1 = y ∙ e in q (p + 1) (λ g f. rows p g (named_row laws u back p b h) (named_row laws u next g n f)) ∙ (w p h ∙ x);
   after = λ g e. z g (x ∙ e) ∙ y;
   others = λ k c d. q k (λ g e. d g (sym x ∙ e)) ∙ o k (λ p e. c p (sym y ∙ e));

@@ -77,9 +77,9 @@ unfolding small_at
 small-true k l = at-below small_at 16 k all_small l
 
 -- the class of a size above 64: from one limit to the next
-large-true : (j : ℕ) → j < 16 → ((class_of_size (64 * 2 ^ j + 1) == 16 + j) && (class_of_size (128 * 2 ^ j) == 16 + j)) ≡ true
+large_true : (j : ℕ) → j < 16 → ((class_of_size (64 * 2 ^ j + 1) == 16 + j) && (class_of_size (128 * 2 ^ j) == 16 + j)) ≡ true
 unfolding large_at
-large-true j l = at-below large_at 16 j all_large l
+large_true j l = at-below large_at 16 j all_large l
 
 -- up to 64 words there is a class for each size
 pub class-small : (size : ℕ) → size % 4 ≡ 0 → 0 < size → size ≤ 64 → class_of_size size ≡ size / 4 - 1
@@ -94,7 +94,7 @@ class-small size r p l =
 -- above, for each doubling
 pub class-large : (size j : ℕ) → j < 16 → 64 * 2 ^ j < size → size ≤ 128 * 2 ^ j → class_of_size size ≡ 16 + j
 class-large size j l g h =
-    let t = large-true j l in
+    let t = large_true j l in
     let a : class_of_size (64 * 2 ^ j + 1) ≡ 16 + j = same-number _ _ (first-of _ _ t) in
     let b : class_of_size (128 * 2 ^ j) ≡ 16 + j = same-number _ _ (second-of _ _ t) in
     let m : class_of_size (64 * 2 ^ j + 1) ≤ class_of_size size = class-mono (64 * 2 ^ j + 1) size low in

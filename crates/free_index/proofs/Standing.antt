@@ -13,7 +13,7 @@ use Rattle.free_index.proofs.Chains.{header_apart, More, listed-insert}
 use Rattle.free_index.proofs.SizeClasses.{class-most}
 use Rattle.free_index.proofs.Listing.{listed-change, head-names, head-other, Fewer}
 use Rattle.free_index.proofs.LinkWrites.{free-through}
-use Rattle.free_index.proofs.LinkChanges.{only-refl, only-trans, only-headers, only-words, only-inserted, free-only, free-only-back}
+use Rattle.free_index.proofs.LinkChanges.{only-refl, only-trans, only-headers, only-words, only-inserted, free-only, free-only_back}
 
 -- all are 0
 abbrev pub Zeros : List ℕ → Type 0
@@ -91,7 +91,7 @@ rebuilding-free laws u v w heads heads' at r g f p e z = record {
     forth j (inr q) = rw q (free-only laws v w at only g, let s = positive in omega arith)
 
     back : (j : ℕ) → IsFree w j → (j < at) ⊎ (j ≡ at) → (IsFree v j × (j < at)) ⊎ (j ≡ at)
-    back j l (inl q) = inl (free-only-back laws v w j only l, q)
+    back j l (inl q) = inl (free-only_back laws v w j only l, q)
     back j l (inr q) = inr q
 
 -- at the end the heads stand for the free blocks
@@ -146,7 +146,7 @@ put-stands laws v w heads heads' i l g n p e = rw e (record { count = rw length-
 
     back : (j : ℕ) → IsFree w j → (j ≡ i) ⊎ (j ≢ i) → More (Fewer (IsFree v) i) i j
     back j m (inl q) = inr q
-    back j m (inr d) = inl (free-only-back laws v w j only m, d)
+    back j m (inr d) = inl (free-only_back laws v w j only m, d)
 
     listed : AreListed w (IsFree w) (set heads (class_of_size (size_at v i)) (i + 1))
     listed = listed-change w w _ _ _ lists (λ _ _. refl) (λ _ _. refl) (λ _ _. refl) forth (λ j m. back j m (cases_eq j i))

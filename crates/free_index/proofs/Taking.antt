@@ -9,14 +9,14 @@ use Rattle.free_index.specs.Lists.{AreListed, FreeLists}
 use Rattle.free_index.specs.Steps.{Removed, Unheaded}
 use Rattle.free_index.proofs.Chains.{header_apart}
 use Rattle.free_index.proofs.Listing.{listed-change, listed-remove, next-names, back-names, Fewer}
-use Rattle.free_index.proofs.LinkChanges.{only-removed, only-headers, only-words, free-only, free-only-back, used-only}
+use Rattle.free_index.proofs.LinkChanges.{only-removed, only-headers, only-words, free-only, free-only_back, used-only}
 
 -- a block that was taken out of its list
 pub cut-listed : BlockLaws → (u v heads heads' : List ℕ) (i : ℕ) → AreListed u (IsFree u) heads → IsFree u i → Removed u v i
     → Unheaded u heads heads' i (class_of_size (size_at u i)) → length heads ≡ 32 → AreListed v (Fewer (IsFree v) i) heads'
 cut-listed laws u v heads heads' i s f r h n =
     listed-change v v heads' _ _ (listed-remove laws u v heads heads' (IsFree u) i (λ j g. g.begins) s f n r h) (λ _ _. refl) (λ _ _. refl) (λ _ _. refl)
-    (λ j m. (free-only laws u v j only m.0, m.1)) (λ j m. (free-only-back laws u v j only m.0, m.1))
+    (λ j m. (free-only laws u v j only m.0, m.1)) (λ j m. (free-only_back laws u v j only m.0, m.1))
   where
     only : OnlyLinks u v
     only = only-removed u v i (next-names u heads i s f) (back-names u heads i s f) r
@@ -116,7 +116,7 @@ taken-between laws u a c d need i y z o t p = record {
 }
   where
     free : IsFree u i
-    free = free-only-back laws u a i o t.fitted.free
+    free = free-only_back laws u a i o t.fitted.free
 
     same_size : size_at a i ≡ size_at u i
     same_size = o.blocks.sizes i free.begins

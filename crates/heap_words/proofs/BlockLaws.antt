@@ -27,9 +27,9 @@ separate words i j k b d n l h e = choose (cases_order i j)
     choose (inr (inr g)) = let a = apart words j i d b g in omega arith
 
 -- a word from a block on lies in that block or in a later one, of n at most
-lies-from : (words : List ℕ) → FormedHeap words → (k n i : ℕ) → Begins words i → i ≤ k → k < length words → k < i + n → LiesIn words k
-lies-from words f k zero i b h l g = absurd (omega arith)
-lies-from words f k (suc n) i b h l g = choose (cases_lt k (i + size_at words i)) (lies-from words f k n (i + size_at words i))
+lies_from : (words : List ℕ) → FormedHeap words → (k n i : ℕ) → Begins words i → i ≤ k → k < length words → k < i + n → LiesIn words k
+lies_from words f k zero i b h l g = absurd (omega arith)
+lies_from words f k (suc n) i b h l g = choose (cases_lt k (i + size_at words i)) (lies_from words f k n (i + size_at words i))
   where
     choose : (k < i + size_at words i) ⊎ (i + size_at words i ≤ k)
         → (Begins words (i + size_at words i) → i + size_at words i ≤ k → k < length words → k < i + size_at words i + n → LiesIn words k) → LiesIn words k
@@ -39,8 +39,8 @@ lies-from words f k (suc n) i b h l g = choose (cases_lt k (i + size_at words i)
         rest (begins-next words i b (omega arith)) m l (omega arith)
 
 -- each word lies in a block
-lies-in : (words : List ℕ) (k : ℕ) → FormedHeap words → k < length words → LiesIn words k
-lies-in words k f l = lies-from words f k (suc k) 0 (begins-first words (omega arith)) (omega arith) l (omega arith)
+lies_in : (words : List ℕ) (k : ℕ) → FormedHeap words → k < length words → LiesIn words k
+lies_in words k f l = lies_from words f k (suc k) 0 (begins-first words (omega arith)) (omega arith) l (omega arith)
 
 -- a word of a used block behind its first two is an object's
 object-word : (words : List ℕ) (i k : ℕ) → IsUsed words i → 2 ≤ k → k < size_at words i → IsObjectWord words (i + k)
@@ -69,7 +69,7 @@ place-laws = record {
   apart = apart;
   separate = separate;
   room = room;
-  covered = lies-in;
+  covered = lies_in;
   object = object-word;
 }
 

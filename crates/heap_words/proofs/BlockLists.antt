@@ -16,9 +16,9 @@ abbrev pub AtBlock : List ℕ → ℕ → Type 0
 AtBlock words i = Begins words i ⊎ (length words ≤ i)
 
 -- one step of reading the list
-step-in : (words : List ℕ) (n i : ℕ) → i < length words → blocks_from (suc n) words i ≡ block_at words i ∷ blocks_from n words (i + size_at words i)
+step_in : (words : List ℕ) (n i : ℕ) → i < length words → blocks_from (suc n) words i ≡ block_at words i ∷ blocks_from n words (i + size_at words i)
 unfolding blocks_from
-step-in words n i l = go (nat_lt i (length words)) (test i (length words) l)
+step_in words n i l = go (nat_lt i (length words)) (test i (length words) l)
   where
     test : (a b : ℕ) → a < b → nat_lt a b ≡ true
     test a b h = grind (arith, nat_tests)
@@ -28,10 +28,10 @@ step-in words n i l = go (nat_lt i (length words)) (test i (length words) l)
     go false e = cc
 
 -- nothing is read past the end
-step-out : (words : List ℕ) (n i : ℕ) → length words ≤ i → blocks_from n words i ≡ []
+step_out : (words : List ℕ) (n i : ℕ) → length words ≤ i → blocks_from n words i ≡ []
 unfolding blocks_from
-step-out words zero i l = refl
-step-out words (suc n) i l = go (nat_lt i (length words)) (test i (length words) l)
+step_out words zero i l = refl
+step_out words (suc n) i l = go (nat_lt i (length words)) (test i (length words) l)
   where
     test : (a b : ℕ) → b ≤ a → nat_lt a b ≡ false
     test a b h = grind (arith, nat_tests)
@@ -62,30 +62,30 @@ at-first words f = inl (begins-first words (let l = f.least in omega arith))
 
 -- how many blocks are read at most does not matter, where that is enough
 fuel : (words : List ℕ) → FormedHeap words → (n m i : ℕ) → AtBlock words i → length words ≤ i + n → length words ≤ i + m → blocks_from n words i ≡ blocks_from m words i
-fuel words f n m i (inr l) h g = step-out words n i l ∙ sym (step-out words m i l)
+fuel words f n m i (inr l) h g = step_out words n i l ∙ sym (step_out words m i l)
 fuel words f zero m i (inl b) h g = let l = b.inside in absurd (omega arith)
 fuel words f (suc n) zero i (inl b) h g = let l = b.inside in absurd (omega arith)
 fuel words f (suc n) (suc m) i (inl b) h g =
     let p = (f.whole i b).positive in
     let e = fuel words f n m (i + size_at words i) (at-next words i b) (omega arith) (omega arith) in
-    rw (step-in words n i b.inside, step-in words m i b.inside, e) refl
+    rw (step_in words n i b.inside, step_in words m i b.inside, e) refl
 
 -- the first block of the rest, and the rest behind it
 pub rest-block : (words : List ℕ) (i : ℕ) → FormedHeap words → Begins words i → rest words i ≡ block_at words i ∷ rest words (i + size_at words i)
-rest-block words i f b = fuel words f (length words) (suc (length words)) i (inl b) (omega arith) (omega arith) ∙ step-in words (length words) i b.inside
+rest-block words i f b = fuel words f (length words) (suc (length words)) i (inl b) (omega arith) (omega arith) ∙ step_in words (length words) i b.inside
 
 -- nothing stands behind the end
 pub rest-end : (words : List ℕ) (i : ℕ) → length words ≤ i → rest words i ≡ []
-rest-end words i l = step-out words (length words) i l
+rest-end words i l = step_out words (length words) i l
 
 -- the list tiles the heap
 tiles-from : (words : List ℕ) → FormedHeap words → (n i : ℕ) → AtBlock words i → i ≤ length words → length words ≤ i + n → Tiles i (blocks_from n words i) (length words)
-tiles-from words f n i (inr l) h g = rw (step-out words n i l) (omega arith)
+tiles-from words f n i (inr l) h g = rw (step_out words n i l) (omega arith)
 tiles-from words f zero i (inl b) h g = let l = b.inside in absurd (omega arith)
 tiles-from words f (suc n) i (inl b) h g =
     let w = f.whole i b in
     let p = w.positive in
-    rw (step-in words n i b.inside) (refl, p, tiles-from words f n (i + size_at words i) (at-next words i b) w.within (omega arith))
+    rw (step_in words n i b.inside) (refl, p, tiles-from words f n (i + size_at words i) (at-next words i b) w.within (omega arith))
 
 -- the list tiles the heap from its first word to its end
 pub tiles : (words : List ℕ) → FormedHeap words → Tiles 0 (Blocks words) (length words)
@@ -128,13 +128,13 @@ fronts u v i f g n b h = begins-ind u P base step i b h
 
 -- from a place on the lists are the same where the headers are
 backs : (u v : List ℕ) → length v ≡ length u → (n i : ℕ) → AtBlock u i → ((j : ℕ) → Begins u j → i ≤ j → block_at v j ≡ block_at u j) → blocks_from n v i ≡ blocks_from n u i
-backs u v e n i (inr l) h = step-out v n i (rw e l) ∙ sym (step-out u n i l)
+backs u v e n i (inr l) h = step_out v n i (rw e l) ∙ sym (step_out u n i l)
 backs u v e zero i (inl b) h = read-none v i ∙ sym (read-none u i)
 backs u v e (suc n) i (inl b) h =
     let q = h i b (omega arith) in
     let s : size_at v i ≡ size_at u i = ap (λ (b : Block). b.size) q in
     let r = backs u v e n (i + size_at u i) (at-next u i b) (λ j d l. h j d (omega arith)) in
-    rw (step-in u n i b.inside, step-in v n i (rw e b.inside), q, s, r) refl
+    rw (step_in u n i b.inside, step_in v n i (rw e b.inside), q, s, r) refl
 
 -- the blocks from a place on, where the headers from there on are the same
 pub same-rest : (u v : List ℕ) (i : ℕ) → length v ≡ length u → AtBlock u i → ((j : ℕ) → Begins u j → i ≤ j → block_at v j ≡ block_at u j) → rest v i ≡ rest u i
@@ -205,9 +205,9 @@ holds-first b xs = (zero, omega arith, refl)
 
 -- what stands in the list from a block on is a block of the heap
 listed-from : (words : List ℕ) (b : Block) → FormedHeap words → (n i : ℕ) → AtBlock words i → Contains (blocks_from n words i) b → IsBlock words b
-listed-from words b f n i (inr l) c = absurd (holds-none b (rw (step-out words n i l) at c))
+listed-from words b f n i (inr l) c = absurd (holds-none b (rw (step_out words n i l) at c))
 listed-from words b f zero i (inl d) c = absurd (holds-none b (rw (read-none words i) at c))
-listed-from words b f (suc n) i (inl d) c = go (rw (step-in words n i d.inside) at c) (listed-from words b f n (i + size_at words i) (at-next words i d))
+listed-from words b f (suc n) i (inl d) c = go (rw (step_in words n i d.inside) at c) (listed-from words b f n (i + size_at words i) (at-next words i d))
   where
     go : Contains (block_at words i ∷ blocks_from n words (i + size_at words i)) b → (Contains (blocks_from n words (i + size_at words i)) b → IsBlock words b) → IsBlock words b
     go (zero, l, e) r = rw (← e) (record { begins = d; size = refl; used = refl })

@@ -28,7 +28,7 @@ pub record NewHeap (u : List ℕ) (n : ℕ) : Type 0 where
 
 -- words whose first one is their number are a heap of one free block
 pub new-heap : (u : List ℕ) (n : ℕ) → length u ≡ n → n % 4 ≡ 0 → 64 ≤ n → n ≤ 4194304 → NewHeap u n
-new-heap u n e r l m = record { formed = both.0; free = free; listed = rest-block (set u 0 n) 0 both.0 both.1 ∙ rw (whole-size-at, last) (rw free.free refl) }
+new-heap u n e r l m = record { formed = both.0; free = free; listed = rest-block (set u 0 n) 0 both.0 both.1 ∙ rw (whole-size_at, last) (rw free.free refl) }
   where
     size : length (set u 0 n) ≡ n
     size = length-set u 0 n ∙ e
@@ -42,8 +42,8 @@ new-heap u n e r l m = record { formed = both.0; free = free; listed = rest-bloc
     free : IsFree (set u 0 n) 0
     free = record { begins = both.1; free = rw word (whole-free n r) }
 
-    whole-size-at : size_at (set u 0 n) 0 ≡ n
-    whole-size-at = rw word (whole-size n r)
+    whole-size_at : size_at (set u 0 n) 0 ≡ n
+    whole-size_at = rw word (whole-size n r)
 
     last : rest (set u 0 n) (0 + n) ≡ []
     last = rest-end (set u 0 n) (0 + n) (omega (arith, size))

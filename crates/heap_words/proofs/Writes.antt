@@ -58,17 +58,17 @@ off_row_2 u i j b d e =
     omega arith
 
 -- a write beside the headers leaves the list of blocks
-pub aside-list : (u : List ℕ) (i w : ℕ) → FormedHeap u → ((j : ℕ) → Begins u j → i ≢ j) → Blocks (set u i w) ≡ Blocks u
-aside-list u i w f h =
+pub aside_list : (u : List ℕ) (i w : ℕ) → FormedHeap u → ((j : ℕ) → Begins u j → i ≢ j) → Blocks (set u i w) ≡ Blocks u
+aside_list u i w f h =
     same-list u (set u i w) f (same-set u i w (λ b. absurd (h i b refl))) (λ j b. ap used_of (get_or-set_other u i j w 0 (λ e. h j b (sym e))))
 
 -- a link that is written leaves the list of blocks
 pub link-list : (u : List ℕ) (i w : ℕ) → FormedHeap u → Begins u i → Blocks (set u (i + 1) w) ≡ Blocks u
-link-list u i w f b = aside-list u (i + 1) w f (λ j d e. off_row u i j b d (sym e))
+link-list u i w f b = aside_list u (i + 1) w f (λ j d e. off_row u i j b d (sym e))
 
 -- and so does a back link
 pub back-list : (u : List ℕ) (i w : ℕ) → FormedHeap u → Begins u i → Blocks (set u (i + 2) w) ≡ Blocks u
-back-list u i w f b = aside-list u (i + 2) w f (λ j d e. off_row_2 u i j b d (sym e))
+back-list u i w f b = aside_list u (i + 2) w f (λ j d e. off_row_2 u i j b d (sym e))
 
 -- the header of a block, written again with these bits
 abbrev pub reheaded : List ℕ → ℕ → Bool → Bool → List ℕ
@@ -79,8 +79,8 @@ pub reheaded-same : (u : List ℕ) (i : ℕ) (used marked : Bool) → SameBlocks
 reheaded-same u i used marked = same-set u i _ (λ _. size-kept (get_or u i 0) used marked)
 
 -- a header that is written leaves the other blocks
-other-block : (u : List ℕ) (i j w : ℕ) → j ≢ i → block_at (set u i w) j ≡ block_at u j
-other-block u i j w n = let e = get_or-set_other u i j w 0 n in rw e refl
+other_block : (u : List ℕ) (i j w : ℕ) → j ≢ i → block_at (set u i w) j ≡ block_at u j
+other_block u i j w n = let e = get_or-set_other u i j w 0 n in rw e refl
 
 -- in the list the block has the use that was written
 pub reheaded-list : (u : List ℕ) (i : ℕ) (used marked : Bool) → FormedHeap u → Begins u i
@@ -92,14 +92,14 @@ reheaded-list u i used marked f b =
       formed_after = formed-same u (reheaded u i used marked) s f;
       size = s.size;
       begins = b;
-      others = λ j _ n. other-block u i j (header_word (size_at u i) used marked) n;
+      others = λ j _ n. other_block u i j (header_word (size_at u i) used marked) n;
     } in
     let r = replaces-one u (reheaded u i used marked) i d (s.sizes i b) in
     subst (λ b. Replaces (Blocks u) (Blocks (reheaded u i used marked)) (block_at u i ∷ []) (b ∷ [])) (rw (s.sizes i b, used-written u i used marked b.inside) refl) r
 
 -- only the mark changes
-pub remarked-list : (u : List ℕ) (i : ℕ) (marked : Bool) → FormedHeap u → Begins u i → Blocks (reheaded u i (used_at u i) marked) ≡ Blocks u
-remarked-list u i marked f b = same-list u (reheaded u i (used_at u i) marked) f (reheaded-same u i (used_at u i) marked) (λ j _. used j (cases_eq j i))
+pub remarked_list : (u : List ℕ) (i : ℕ) (marked : Bool) → FormedHeap u → Begins u i → Blocks (reheaded u i (used_at u i) marked) ≡ Blocks u
+remarked_list u i marked f b = same-list u (reheaded u i (used_at u i) marked) f (reheaded-same u i (used_at u i) marked) (λ j _. used j (cases_eq j i))
   where
     used : (j : ℕ) → (j ≡ i) ⊎ (j ≢ i) → used_at (reheaded u i (used_at u i) marked) j ≡ used_at u j
     used j (inl e) = rw e (used-written u i (used_at u i) marked b.inside)

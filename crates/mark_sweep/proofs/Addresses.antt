@@ -9,13 +9,13 @@ use Rattle.object_layout.specs.Classes.{ShapesView, IsShape}
 use Rattle.mark_sweep.specs.Objects.{address, shape_named, shape_word}
 
 -- the word of a class names it, and that of a kind names it
-pub shape-back : (s : ShapesView) (shape : Shape) → length s.classes ≤ 1024 → IsShape s shape → shape_named (shape_word shape) ≡ shape
+pub shape_back : (s : ShapesView) (shape : Shape) → length s.classes ≤ 1024 → IsShape s shape → shape_named (shape_word shape) ≡ shape
 unfolding shape_named shape_word table_address descriptor_address
-shape-back s (Class c) few l =
+shape_back s (Class c) few l =
     let below : nat_lt (2097152 + 256 * c) 2621440 ≡ true = grind (arith, nat_tests) in
     let number : (2097152 + 256 * c - 2097152) / 256 ≡ c = omega arith in
     rw (below, number) refl
-shape-back s (Kind k) few l =
+shape_back s (Kind k) few l =
     let above : nat_lt (2621440 + 16 * k) 2621440 ≡ false = grind (arith, nat_tests) in
     let number : (2621440 + 16 * k - 2621440) / 16 ≡ k = omega arith in
     rw (above, number) refl

@@ -44,8 +44,8 @@ module _ (laws : BlockLaws) (s : ShapesView) (u list v : List ℕ) (f : FormedHe
     has_room = laws.places.room v i f h.begins
 
     -- before a free block ends a reached one
-    gap-left : (i ≡ 0 → ⊥) → LiesIn v (i - 1) → LiesInReached s u list (i - 1)
-    gap-left n w = choose (used_or_free v w.block w.begins)
+    gap_left : (i ≡ 0 → ⊥) → LiesIn v (i - 1) → LiesInReached s u list (i - 1)
+    gap_left n w = choose (used_or_free v w.block w.begins)
       where
         low : w.block < i
         low = let b = w.behind in omega arith
@@ -61,8 +61,8 @@ module _ (laws : BlockLaws) (s : ShapesView) (u list v : List ℕ) (f : FormedHe
         choose (inr g) = absurd (c.apart w.block g (subst (IsFree v) (sym ends) h))
 
     -- and behind it begins one
-    gap-right : Begins v (i + size_at v i) → LiesInReached s u list (i + size_at v i)
-    gap-right b = choose (used_or_free v (i + size_at v i) b)
+    gap_right : Begins v (i + size_at v i) → LiesInReached s u list (i + size_at v i)
+    gap_right b = choose (used_or_free v (i + size_at v i) b)
       where
         choose : IsUsed v (i + size_at v i) ⊎ IsFree v (i + size_at v i) → LiesInReached s u list (i + size_at v i)
         choose (inl t) = let p = (laws.places.room v (i + size_at v i) f b).four in used-lies (i + size_at v i) (i + size_at v i) t (omega arith) (omega arith)
@@ -80,16 +80,16 @@ module _ (laws : BlockLaws) (s : ShapesView) (u list v : List ℕ) (f : FormedHe
       where
         left : (i ≡ 0) ⊎ (i ≡ 0 → ⊥) → (i ≡ 0) ⊎ LiesInReached s u list (i - 1)
         left (inl e) = inl e
-        left (inr n) = let l = h.begins.inside in inr (gap-left n (laws.places.covered v (i - 1) f (omega arith)))
+        left (inr n) = let l = h.begins.inside in inr (gap_left n (laws.places.covered v (i - 1) f (omega arith)))
 
         right : (i + size_at v i ≡ length v) ⊎ Begins v (i + size_at v i) → (i + size_at v i ≡ length u) ⊎ LiesInReached s u list (i + size_at v i)
         right (inl e) = inl (e ∙ c.size)
-        right (inr b) = inr (gap-right b)
+        right (inr b) = inr (gap_right b)
 
   module _ (i n : ℕ) (g : IsGap s u list i n) where
     -- a gap begins where a free block does
-    gap-start : (w : LiesIn v i) → IsFree v w.block → w.block ≡ i
-    gap-start w h = choose (cases_eq w.block i)
+    gap_start : (w : LiesIn v i) → IsFree v w.block → w.block ≡ i
+    gap_start w h = choose (cases_eq w.block i)
       where
         first : (w.block ≡ i → ⊥) → (i ≡ 0) ⊎ LiesInReached s u list (i - 1) → ⊥
         first d (inl z) = let b = w.behind in d (omega arith)
@@ -100,8 +100,8 @@ module _ (laws : BlockLaws) (s : ShapesView) (u list v : List ℕ) (f : FormedHe
         choose (inr d) = absurd (first d g.left)
 
     -- and has its size
-    gap-size : IsFree v i → size_at v i ≡ n
-    gap-size h = choose (cases_order (size_at v i) n)
+    gap_size : IsFree v i → size_at v i ≡ n
+    gap_size h = choose (cases_order (size_at v i) n)
       where
         after : size_at v i < n → IsUsed v (i + size_at v i) ⊎ IsFree v (i + size_at v i) → ⊥
         after l (inl t) =
@@ -123,16 +123,16 @@ module _ (laws : BlockLaws) (s : ShapesView) (u list v : List ℕ) (f : FormedHe
         choose (inr (inr m)) = absurd (long m g.right)
 
     -- so it is a free block
-    gap-free : IsFree v i × (size_at v i ≡ n)
-    gap-free = whole (laws.places.covered v i f (let a = g.some in let b = g.within in let e = c.size in omega arith))
+    gap_free : IsFree v i × (size_at v i ≡ n)
+    gap_free = whole (laws.places.covered v i f (let a = g.some in let b = g.within in let e = c.size in omega arith))
       where
         whole : LiesIn v i → IsFree v i × (size_at v i ≡ n)
         whole w = choose (used_or_free v w.block w.begins)
           where
             choose : IsUsed v w.block ⊎ IsFree v w.block → IsFree v i × (size_at v i ≡ n)
             choose (inl t) = let a = g.some in absurd (g.clear i (omega arith) (omega arith) (used-lies w.block i t w.behind w.before))
-            choose (inr h) = let free = subst (IsFree v) (gap-start w h) h in (free, gap-size free)
+            choose (inr h) = let free = subst (IsFree v) (gap_start w h) h in (free, gap_size free)
 
 -- the free blocks are the gaps
-pub gaps-free : BlockLaws → (s : ShapesView) (u list v : List ℕ) → FormedHeap v → Collects s u list v → (i n : ℕ) → (IsFree v i × (size_at v i ≡ n)) ↔ IsGap s u list i n
-gaps-free laws s u list v f c i n = (λ (h, e). subst (IsGap s u list i) e (free-gap laws s u list v f c i h), λ g. gap-free laws s u list v f c i n g)
+pub gaps_free : BlockLaws → (s : ShapesView) (u list v : List ℕ) → FormedHeap v → Collects s u list v → (i n : ℕ) → (IsFree v i × (size_at v i ≡ n)) ↔ IsGap s u list i n
+gaps_free laws s u list v f c i n = (λ (h, e). subst (IsGap s u list i) e (free-gap laws s u list v f c i h), λ g. gap_free laws s u list v f c i n g)

@@ -123,8 +123,8 @@ reached-used shapes u list i (listed _ m h) = h
 reached-used shapes u list i (named j k _ r g m h) = h
 
 -- the same words of an object are references
-pub reference-kept : (shapes : ShapesView) (u v : List ℕ) (j k : ℕ) → Kept u v → Begins u j → IsReference shapes u j k → IsReference shapes v j k
-reference-kept shapes u v j k a b r = record { behind = r.behind; within = rw (a.blocks.sizes j b) r.within; holds_reference = rw (table, second) r.holds_reference }
+pub reference_kept : (shapes : ShapesView) (u v : List ℕ) (j k : ℕ) → Kept u v → Begins u j → IsReference shapes u j k → IsReference shapes v j k
+reference_kept shapes u v j k a b r = record { behind = r.behind; within = rw (a.blocks.sizes j b) r.within; holds_reference = rw (table, second) r.holds_reference }
   where
     four : 3 < size_at u j
     four = let w = r.within in let h = r.behind in omega arith

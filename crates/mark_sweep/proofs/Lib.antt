@@ -8,3 +8,4 @@ pub mod Totals
 pub mod ObjectWords
 pub mod Gaps
 pub mod Addresses
+pub mod LowWords

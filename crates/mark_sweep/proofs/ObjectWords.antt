@@ -29,9 +29,9 @@ none-holds_reference : option_map_or is_reference None false ≡ true → ⊥
 none-holds_reference h = false≢true h
 
 -- a reference field is one of the fields
-field-word : (s : ShapesView) (c k : ℕ) → option_map_or is_reference (field_at s c (4 * k)) false ≡ true → (1 ≤ k) × (k ≤ length (Fields s c))
+field_word : (s : ShapesView) (c k : ℕ) → option_map_or is_reference (field_at s c (4 * k)) false ≡ true → (1 ≤ k) × (k ≤ length (Fields s c))
 unfolding field_at
-field-word s c k h = at (word_index 4 (4 * k)) refl h
+field_word s c k h = at (word_index 4 (4 * k)) refl h
   where
     found : (j : ℕ) → word_index 4 (4 * k) ≡ Some j → (o : Option FieldTy) → slice_get (Fields s c) j ≡ o → option_map_or is_reference o false ≡ true → (1 ≤ k) × (k ≤ length (Fields s c))
     found j e None g r = absurd (none-holds_reference r)
@@ -49,7 +49,7 @@ field-word s c k h = at (word_index 4 (4 * k)) refl h
 -- the references of a shape lie within what it needs
 within-need : (s : ShapesView) (shape : Shape) (n k : ℕ) → holds_reference s shape n k ≡ true → (1 ≤ k) × (k + 2 < Need s shape n)
 unfolding holds_reference Need rounded_up
-within-need s (Class c) n k h = let f = field-word s c k h in let a = f.0 in let b = f.1 in (a, omega arith)
+within-need s (Class c) n k h = let f = field_word s c k h in let a = f.0 in let b = f.1 in (a, omega arith)
 within-need s (Kind q) n k h = let p = tests (nat_lt 1 k) (nat_lt k (2 + n)) (option_map_or is_reference (Element s q) false) refl refl h in let a = p.0 in let b = p.1 in (omega arith, omega arith)
   where
     first : nat_lt 1 k ≡ true → 1 < k
@@ -64,8 +64,8 @@ within-need s (Kind q) n k h = let p = tests (nat_lt 1 k) (nat_lt k (2 + n)) (op
     tests false b c e f h = absurd (false≢true h)
 
 -- an object's references lie within its block
-pub lie-within : (s : ShapesView) (words : List ℕ) (i k : ℕ) → IsObject s words i
+pub lie_within : (s : ShapesView) (words : List ℕ) (i k : ℕ) → IsObject s words i
     → IsTrue (holds_reference s (shape_named (get_or words (i + 2) 0)) (get_or words (i + 3) 0) k) → IsReference s words i k
-lie-within s words i k o h =
+lie_within s words i k o h =
     let w = within-need s (shape_named (get_or words (i + 2) 0)) (get_or words (i + 3) 0) k h in
     record { behind = w.0; within = rw o.exact w.1; holds_reference = h }

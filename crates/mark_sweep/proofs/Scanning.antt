@@ -7,32 +7,32 @@ use Rattle.mark_sweep.specs.Reached.{Reached, AllGood}
 use Rattle.mark_sweep.specs.Reached.Reached.{named}
 use Rattle.mark_sweep.specs.Swept.{Kept}
 use Rattle.mark_sweep.specs.Marking.{IsPlaced, IsMarked, Marks, MarksReached, Scanned, Scanning, Waits, left}
-use Rattle.mark_sweep.proofs.Keeping.{kept-refl, kept-sym, kept-trans, word_kept, reference-kept}
+use Rattle.mark_sweep.proofs.Keeping.{kept-refl, kept-sym, kept-trans, word_kept, reference_kept}
 use Rattle.mark_sweep.proofs.Steps.{Popped, Steps, popped, state-next, state-done, state-step, marks-all, good-placed, good_used, marks-kept}
 
 -- a placed word stays placed
-placed-kept : (u v : List ℕ) (w : ℕ) → Kept u v → IsPlaced u w → IsPlaced v w
-placed-kept u v w k (inl l) = inl l
-placed-kept u v w k (inr (i, e, b)) = inr (i, e, k.blocks.forth i b)
+placed_kept : (u v : List ℕ) (w : ℕ) → Kept u v → IsPlaced u w → IsPlaced v w
+placed_kept u v w k (inl l) = inl l
+placed_kept u v w k (inr (i, e, b)) = inr (i, e, k.blocks.forth i b)
 
 -- a scan begins behind the word that names the shape
 pub scanning-first : (shapes : ShapesView) (v : List ℕ) (at next : ℕ) → FormedHeap v → Scanning shapes v at next 1 v next
 scanning-first shapes v at next f = record { kept = kept-refl v; formed = f; scanned = λ u list a g r s. (s, omega arith) }
 
 -- what the code's test says
-pub reference-here : (shapes : ShapesView) (u : List ℕ) (at k table second : ℕ) → table ≡ get_or u (at + 2) 0 → second ≡ get_or u (at + 3) 0 → 1 ≤ k
+pub reference_here : (shapes : ShapesView) (u : List ℕ) (at k table second : ℕ) → table ≡ get_or u (at + 2) 0 → second ≡ get_or u (at + 3) 0 → 1 ≤ k
     → k + 2 < size_at u at → holds_reference shapes (shape_named table) second k ≡ true → IsReference shapes u at k
-reference-here shapes u at k table second e f l m h = record { behind = l; within = m; holds_reference = rw (← e, ← f) h }
+reference_here shapes u at k table second e f l m h = record { behind = l; within = m; holds_reference = rw (← e, ← f) h }
 
 -- and where it fails the word is no reference
-pub no-reference-here : (shapes : ShapesView) (u : List ℕ) (at k table second : ℕ) → table ≡ get_or u (at + 2) 0 → second ≡ get_or u (at + 3) 0
+pub no_reference_here : (shapes : ShapesView) (u : List ℕ) (at k table second : ℕ) → table ≡ get_or u (at + 2) 0 → second ≡ get_or u (at + 3) 0
     → holds_reference shapes (shape_named table) second k ≡ false → IsReference shapes u at k → ⊥
-no-reference-here shapes u at k table second e f h r = let t : holds_reference shapes (shape_named table) second k ≡ true = rw (e, f) r.holds_reference in cc
+no_reference_here shapes u at k table second e f h r = let t : holds_reference shapes (shape_named table) second k ≡ true = rw (e, f) r.holds_reference in cc
 
 -- the reference word that the scan stands at
 pub scanning-placed : (shapes : ShapesView) (u v : List ℕ) (at next k first w : ℕ) → Scanning shapes u at next k v first → Begins u at
     → IsReference shapes u at k → IsPlaced u (get_or u (at + 2 + k) 0) → w ≡ get_or v (at + 2 + k) 0 → IsPlaced v w
-scanning-placed shapes u v at next k first w c b r p e = rw (e, word_kept u v at k c.kept b r.within) (placed-kept u v _ c.kept p)
+scanning-placed shapes u v at next k first w c b r p e = rw (e, word_kept u v at k c.kept b r.within) (placed_kept u v _ c.kept p)
 
 -- it is marked
 pub scanning-step : (shapes : ShapesView) (o v v' : List ℕ) (at next k first first' w : ℕ) → Scanning shapes o at next k v first → Begins o at
@@ -52,7 +52,7 @@ scanning-step shapes o v v' at next k first first' w c b r e m f =
     )
       where
         reference : IsReference shapes u at k
-        reference = reference-kept shapes o u at k (kept-sym u o q) b r
+        reference = reference_kept shapes o u at k (kept-sym u o q) b r
 
         same : w ≡ get_or u (at + 2 + k) 0
         same = e ∙ word_kept u v at k s.state.kept (q.blocks.back at b) reference.within
@@ -71,7 +71,7 @@ scanning-skip shapes o v at next k first c b n = record { kept = c.kept; formed 
     skip : (u list : List ℕ) → Scanned shapes u list at k v first × (left v first ≤ left o next) → Kept u o
         → Scanned shapes u list at (k + 1) v first × (left v first ≤ left o next)
     skip u list (s, l) q =
-        (record { state = state-next shapes u list at k v first s.state (λ r. absurd (n (reference-kept shapes u o at k q (q.blocks.back at b) r))); listed = s.listed }, l)
+        (record { state = state-next shapes u list at k v first s.state (λ r. absurd (n (reference_kept shapes u o at k q (q.blocks.back at b) r))); listed = s.listed }, l)
 
 -- the scan is over
 pub scanning-last : (shapes : ShapesView) (o v : List ℕ) (at next k first end : ℕ) → Scanning shapes o at next k v first → Begins o at → size_at o at ≤ end + 2 → end ≤ k
@@ -107,7 +107,7 @@ taken shapes u list v first a s h = record { begins = p.black.begins; reached = 
     placed : (k : ℕ) → IsReference shapes v (first - 1) k → IsPlaced v (get_or v (first - 1 + 2 + k) 0)
     placed k r =
         let b = kept.blocks.back (first - 1) p.black.begins in
-        let q = reference-kept shapes v u (first - 1) k (kept-sym u v kept) p.black.begins r in
+        let q = reference_kept shapes v u (first - 1) k (kept-sym u v kept) p.black.begins r in
         rw (word_kept u v (first - 1) k kept b q.within) (good-placed shapes u v _ kept (a.fields (first - 1) k p.reached q))
 
 -- nothing waits

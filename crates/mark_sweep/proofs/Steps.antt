@@ -252,9 +252,9 @@ popped shapes u list v first s h = go s.waiting refl s.linked s.total
     go (g ∷ rest) e l t = whole g rest e (let f = l.0 in omega arith) l t
 
 -- the block of a marked address is marked
-pub is-marked-at : (v : List ℕ) (i : ℕ) → IsMarked v (address i) → marked_at v i ≡ true
-is-marked-at v i (inl l) = absurd (address-high i l)
-is-marked-at v i (inr (j, e, b)) = rw (address-one i j e) b.marked
+pub is_marked_at : (v : List ℕ) (i : ℕ) → IsMarked v (address i) → marked_at v i ≡ true
+is_marked_at v i (inl l) = absurd (address-high i l)
+is_marked_at v i (inr (j, e, b)) = rw (address-one i j e) b.marked
 
 -- marking is over
 pub marks-all : (shapes : ShapesView) (u list : List ℕ) (v : List ℕ) (first : ℕ) → MarkedSoFar shapes u list (length u) 0 v first → first ≡ 0
@@ -272,10 +272,10 @@ marks-all shapes u list v first s z h = record { kept = s.kept; sound = λ i b m
     open_end j k q b (inr f) = f k q (λ e. let l = b.inside in absurd (omega arith))
 
     field : (j k i : ℕ) → Begins u j → marked_at v j ≡ true → IsReference shapes u j k → get_or u (j + 2 + k) 0 ≡ address i → marked_at v i ≡ true
-    field j k i b m q e = is-marked-at v i (subst (IsMarked v) e (open_end j k q b (s.closed j (s.kept.blocks.forth j b) m)))
+    field j k i b m q e = is_marked_at v i (subst (IsMarked v) e (open_end j k q b (s.closed j (s.kept.blocks.forth j b) m)))
 
     all : (i : ℕ) → Reached shapes u list i → marked_at v i ≡ true
-    all i (listed _ m g) = is-marked-at v i (h (address i) m)
+    all i (listed _ m g) = is_marked_at v i (h (address i) m)
     all i (named j k _ r q e g) = field j k i (reached-used shapes u list j r).begins (all j r) q e
 
 -- the object of a word in the heap lies behind two words

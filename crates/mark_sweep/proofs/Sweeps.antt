@@ -30,8 +30,8 @@ pub at-next : BlockLaws → (v w : List ℕ) (at : ℕ) → SameBlocks v w → F
 at-next laws v w at s f b = laws.places.next w at f (s.forth at b)
 
 -- a step over a block fits a word, and is one
-pub step-fits : BlockLaws → (v : List ℕ) (at size : ℕ) → FormedHeap v → Begins v at → size ≡ size_at v at → (at + size < 2 ^ 32) × (0 < size)
-step-fits laws v at size f b e =
+pub step_fits : BlockLaws → (v : List ℕ) (at size : ℕ) → FormedHeap v → Begins v at → size ≡ size_at v at → (at + size < 2 ^ 32) × (0 < size)
+step_fits laws v at size f b e =
     let r = laws.places.room v at f b in
     let four = r.four in
     let within = r.within in
@@ -236,10 +236,10 @@ joined-less laws v w at next size f e b s k l = fewer size at (size_at v at) (si
     fewer n i a b c h g e = omega arith
 
 -- what the test of two neighbours says
-pub both-free : (a b : Bool) → (not a && not b) ≡ true → (a ≡ false) × (b ≡ false)
-both-free false false e = (refl, refl)
-both-free false true e = cc
-both-free true b e = cc
+pub both_free : (a b : Bool) → (not a && not b) ≡ true → (a ≡ false) × (b ≡ false)
+both_free false false e = (refl, refl)
+both_free false true e = cc
+both_free true b e = cc
 
 -- and where it fails one of them is used
 pub one-used : (a b : Bool) → (not a && not b) ≡ false → (a ≡ true) ⊎ (b ≡ true)

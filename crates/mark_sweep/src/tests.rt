@@ -39,8 +39,8 @@ fn words_below_the_heap_keep_nothing(rt: HostRuntime) {
         .expect(&rt, "no shapes");
     let mut heap = Heap::new(rt.alloc(), 64).ok().expect(&rt, "a heap");
     let mut index = FreeIndex::rebuild(&mut heap);
-    for _ in 0..16u32 {
-        assert!(rt; index.take(&mut heap, 4).is_some());
+    for i in 0..16u32 {
+        assert!(rt; index.take(&mut heap, 4) == Some(4 * i));
     }
     assert!(rt; index.take(&mut heap, 4) == None);
 

@@ -15,7 +15,7 @@ use Rattle.object_layout.proofs.Tables.{table_word-at, display-word}
 use Rattle.object_layout.specs.Faults.{first_fault, is_front, keeps_methods}
 use Rattle.object_layout.proofs.Fronts.{is_front-refl, is_front-trans, is_front-get}
 use Rattle.object_layout.proofs.Lineages.{IsEarlierBelow, Descends, itself, under, descends-within, lineage-front}
-use Rattle.object_layout.proofs.Sound.{parents-earlier, classes-sound, classes-few, kinds-sound, kinds-few}
+use Rattle.object_layout.proofs.Sound.{parents_earlier, classes-sound, classes-few, kinds-sound, kinds-few}
 
 -- the lineage of a class ends in it
 pub lineage-end : (s : ShapesView) (c : ℕ) → (front : List ℕ) × (lineage s c ≡ front ++ c ∷ [])
@@ -35,8 +35,8 @@ lineage-at s c =
     ap (λ xs. get_or xs (Depth s c) 0) e.1 ∙ get_or_at e.0 c [] 0 (Depth s c) long
 
 -- an ancestor stands at its depth
-pub ancestor-at : (s : ShapesView) (k c d : ℕ) → IsEarlierBelow s k → c < k → Descends s c d → (Depth s d ≤ Depth s c) × (get_or (lineage s c) (Depth s d) 0 ≡ d)
-ancestor-at s k c d h l t =
+pub ancestor_at : (s : ShapesView) (k c d : ℕ) → IsEarlierBelow s k → c < k → Descends s c d → (Depth s d ≤ Depth s c) × (get_or (lineage s c) (Depth s d) 0 ≡ d)
+ancestor_at s k c d h l t =
     let f = lineage-front s k c d h l t in
     let short : Depth s d < length (lineage s d) = omega (arith, lineage-length s d) in (
       omega (arith, lineage-length s c, lineage-length s d, ap length f.1, length-append (lineage s d) f.0),
@@ -62,7 +62,7 @@ below-from s c d i there l e = grind (arith, nat_tests, descends-at s c d i l e)
 -- an ancestor is above
 pub below-from_descends : (s : ShapesView) (c d : ℕ) → IsEarlierBelow s (length s.classes) → c < length s.classes → Descends s c d → Below s c d ≡ true
 below-from_descends s c d h there t =
-    let a = ancestor-at s (length s.classes) c d h there t in
+    let a = ancestor_at s (length s.classes) c d h there t in
     below-from s c d (Depth s d) there (omega (arith, lineage-length s c)) a.1
 
 -- an ancestor is no later class
@@ -79,7 +79,7 @@ descends-trans s _ _ e (under c p d x t) g = under c p e x (descends-trans s p d
 pub descends-tree : (s : ShapesView) (k c d e : ℕ) → IsEarlierBelow s k → c < k → k ≤ length s.classes → Descends s c d → Descends s c e
     → Depth s e ≤ Depth s d → Below s d e ≡ true
 descends-tree s k c d e h l there t u less =
-    let a = ancestor-at s k c e h l u in
+    let a = ancestor_at s k c e h l u in
     let f = lineage-front s k c d h l t in
     let short : Depth s e < length (lineage s d) = omega (arith, lineage-length s d) in
     let low = descends-there s k c d h l t in
@@ -103,7 +103,7 @@ pub signatures-front : (s : ShapesView) (c d : ℕ) → first_fault s ≡ None �
 unfolding keeps_methods
 signatures-front s _ _ sound l (itself c) = is_front-refl _
 signatures-front s _ _ sound l (under c p d e t) =
-    let less = (parents-earlier s sound).earlier c p l e in
+    let less = (parents_earlier s sound).earlier c p l e in
     let kept = (classes-sound s sound c l).kept in
     is_front-trans _ (signatures s p) _ (signatures-front s p d sound (omega arith) t) (rw e at kept)
 
@@ -115,10 +115,10 @@ lineage-short s c sound l = omega (arith, lineage-length s c, (classes-sound s s
 display-law : (s : ShapesView) (c d : ℕ) → first_fault s ≡ None → Below s c d ≡ true → table_word s c (3 + Depth s d) ≡ Some (table_address d)
 display-law s c d sound h =
     let k = length s.classes in
-    let earlier = parents-earlier s sound in
+    let earlier = parents_earlier s sound in
     let p = below-parts s c d h in
     let short = lineage-short s c sound p.0 in
-    let a = ancestor-at s k c d earlier p.0 p.1 in
+    let a = ancestor_at s k c d earlier p.0 p.1 in
     let inside : Depth s d < length (lineage s c) = omega (arith, lineage-length s c) in
     table_word-at s c (3 + Depth s d) (table_address d) p.0 short (classes-sound s sound c p.0).few_methods (omega arith)
     (display-word s c (Depth s d) short (omega arith) ∙ get_or-map table_address (lineage s c) (Depth s d) 0 0 inside ∙ ap table_address a.1)
@@ -150,18 +150,18 @@ displayed-law s c d sound l m h =
     (cases_lt (Depth s d) (length (lineage s c)))
 
 -- a field stays where it is below its class
-field-law : (s : ShapesView) (c d byte : ℕ) (t : FieldTy) → first_fault s ≡ None → Below s c d ≡ true → field_at s d byte ≡ Some t → field_at s c byte ≡ Some t
+field_law : (s : ShapesView) (c d byte : ℕ) (t : FieldTy) → first_fault s ≡ None → Below s c d ≡ true → field_at s d byte ≡ Some t → field_at s c byte ≡ Some t
 unfolding field_at
-field-law s c d byte t sound h e =
+field_law s c d byte t sound h e =
     let p = below-parts s c d h in
-    let f = fields-front s (length s.classes) c d (parents-earlier s sound) p.0 p.1 in
+    let f = fields-front s (length s.classes) c d (parents_earlier s sound) p.0 p.1 in
     option_and_then_some (slice_get (Fields s d)) (word_index 4 byte) t e
     (λ i w g. rw w (rw f.1 (slice_get-front (Fields s d) f.0 i t g)))
 
 -- a method slot stays where it is below its class
-slot-law : (s : ShapesView) (c d byte g : ℕ) → first_fault s ≡ None → Below s c d ≡ true → slot_at s d byte ≡ Some g → slot_at s c byte ≡ Some g
+slot_law : (s : ShapesView) (c d byte g : ℕ) → first_fault s ≡ None → Below s c d ≡ true → slot_at s d byte ≡ Some g → slot_at s c byte ≡ Some g
 unfolding slot_at
-slot-law s c d byte g sound h e =
+slot_law s c d byte g sound h e =
     let p = below-parts s c d h in
     option_and_then_some (slice_get (signatures s d)) (word_index 44 byte) g e
     (λ i w x. rw w (is_front-get (signatures s d) (signatures s c) i g (signatures-front s c d sound p.0 p.1) x))
@@ -170,7 +170,7 @@ slot-law s c d byte g sound h e =
 tree-law : (s : ShapesView) (c d e : ℕ) → first_fault s ≡ None → Below s c d ≡ true → Below s c e ≡ true → (Below s d e ≡ true) ⊎ (Below s e d ≡ true)
 tree-law s c d e sound h g =
     let k = length s.classes in
-    let earlier = parents-earlier s sound in
+    let earlier = parents_earlier s sound in
     let p = below-parts s c d h in let q = below-parts s c e g in
     ⊎_elim
     (λ (less : Depth s e < Depth s d). inl (descends-tree s k c d e earlier p.0 (omega arith) p.1 q.1 (omega arith)))
@@ -181,7 +181,7 @@ tree-law s c d e sound h g =
 antisymmetric-law : (s : ShapesView) (c d : ℕ) → first_fault s ≡ None → Below s c d ≡ true → Below s d c ≡ true → c ≡ d
 antisymmetric-law s c d sound h g =
     let k = length s.classes in
-    let earlier = parents-earlier s sound in
+    let earlier = parents_earlier s sound in
     let p = below-parts s c d h in let q = below-parts s d c g in
     let a = descends-there s k c d earlier p.0 p.1 in let b = descends-there s k d c earlier q.0 q.1 in
     omega arith
@@ -190,20 +190,20 @@ antisymmetric-law s c d sound h g =
 pub there-law : (s : ShapesView) (c d : ℕ) → first_fault s ≡ None → Below s c d ≡ true → (c < length s.classes) × (d < length s.classes)
 there-law s c d sound h =
     let p = below-parts s c d h in
-    let a = descends-there s (length s.classes) c d (parents-earlier s sound) p.0 p.1 in
+    let a = descends-there s (length s.classes) c d (parents_earlier s sound) p.0 p.1 in
     (p.0, omega arith)
 
 -- rows without a fault meet the laws of classes
 pub class-laws : (s : ShapesView) → first_fault s ≡ None → ClassLaws s
 class-laws s sound = record {
   is_there = λ c d h. there-law s c d sound h;
-  reflexive = λ c l. below-from_descends s c c (parents-earlier s sound) l (itself c);
+  reflexive = λ c l. below-from_descends s c c (parents_earlier s sound) l (itself c);
   transitive = λ c d e h g. let p = below-parts s c d h in let q = below-parts s d e g in
-      below-from_descends s c e (parents-earlier s sound) p.0 (descends-trans s c d e p.1 q.1);
+      below-from_descends s c e (parents_earlier s sound) p.0 (descends-trans s c d e p.1 q.1);
   tree = λ c d e h g. tree-law s c d e sound h g;
   antisymmetric = λ c d h g. antisymmetric-law s c d sound h g;
-  field_kept = λ c d byte t h e. field-law s c d byte t sound h e;
-  slot_kept = λ c d byte g h e. slot-law s c d byte g sound h e;
+  field_kept = λ c d byte t h e. field_law s c d byte t sound h e;
+  slot_kept = λ c d byte g h e. slot_law s c d byte g sound h e;
   few_classes = classes-few s sound;
   few_kinds = kinds-few s (length s.kinds) (kinds-sound s sound);
   shallow = λ c l. (classes-sound s sound c l).shallow;

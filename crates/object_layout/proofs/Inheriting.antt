@@ -33,9 +33,9 @@ unfolding Methods
 methods-of_row s c row e = rw e refl
 
 -- no parent is no bad one
-pub no_parent-earlier : (s : ShapesView) (c : ℕ) → parent s c ≡ None → has_earlier_parent s c ≡ true
+pub no_parent_earlier : (s : ShapesView) (c : ℕ) → parent s c ≡ None → has_earlier_parent s c ≡ true
 unfolding has_earlier_parent
-no_parent-earlier s c e = rw e refl
+no_parent_earlier s c e = rw e refl
 
 -- an earlier class is no bad parent
 pub parent-earlier : (s : ShapesView) (c p : ℕ) → parent s c ≡ Some p → p < c → has_earlier_parent s c ≡ true
@@ -63,7 +63,7 @@ pub inherited-root : (s : ShapesView) (c : ℕ) (above : Inherited) → parent s
     → list_all (nat_eq 0) above.lineage ≡ true → above.fields.now ≡ [] → above.methods.now ≡ [] → IsInherited s c above
 unfolding keeps_methods signatures_of is_front
 inherited-root s c above e none room zeros no_fields no_methods = record {
-  earlier = no_parent-earlier s c e;
+  earlier = no_parent_earlier s c e;
   room = room;
   shallow = omega arith;
   ancestors = lineage-root s c e ∙ ap (λ n. take n above.lineage ++ c ∷ []) (sym none);

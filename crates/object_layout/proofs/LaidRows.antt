@@ -16,8 +16,8 @@ use Rattle.object_layout.proofs.Sound.{first_below-zero, first_below-more, first
 -- The rows that are laid out, one after another.
 
 -- before the first row nothing is laid out
-pub laid-before-none : (s : ShapesView) (laid : List LaidClass) → laid ≡ [] → IsLaidBefore s laid 0
-laid-before-none s laid e = record {
+pub laid_before_none : (s : ShapesView) (laid : List LaidClass) → laid ≡ [] → IsLaidBefore s laid 0
+laid_before_none s laid e = record {
   sound = first_below-zero (class_fault s);
   long = ap length e;
   each = λ k class g. absurd (none-some class (subst (λ xs. slice_get xs k ≡ Some class) e g));
@@ -31,9 +31,9 @@ slice_get-push (z ∷ xs) y x zero e = inl e
 slice_get-push (z ∷ xs) y x (suc k) e = ⊎_elim inl (λ h. inr (ap suc h.0, h.1)) (slice_get-push xs y x k e)
 
 -- one more row is laid out
-pub laid-before-more : (s : ShapesView) (laid laid' : List LaidClass) (class : LaidClass) (c : ℕ) → IsLaidBefore s laid c → class_fault s c ≡ None
+pub laid_before_more : (s : ShapesView) (laid laid' : List LaidClass) (class : LaidClass) (c : ℕ) → IsLaidBefore s laid c → class_fault s c ≡ None
     → IsLaid s c class → laid' ≡ laid ++ class ∷ [] → IsLaidBefore s laid' (c + 1)
-laid-before-more s laid laid' class c h sound placed e = record {
+laid_before_more s laid laid' class c h sound placed e = record {
   sound = first_below-more c (class_fault s) h.sound sound;
   long = omega (arith, h.long, ap length e, length-append laid (class ∷ []));
   each = λ k x g. ⊎_elim
@@ -43,9 +43,9 @@ laid-before-more s laid laid' class c h sound placed e = record {
 }
 
 -- the fault of a row is that of all rows, where the rows before it have none
-pub fault-first : (n c : ℕ) (fault : ℕ → Option ShapeFault) (x : ShapeFault) → c < n → first_below c fault ≡ None → (x ≡ NoMemory) ⊎ (fault c ≡ Some x)
+pub fault_first : (n c : ℕ) (fault : ℕ → Option ShapeFault) (x : ShapeFault) → c < n → first_below c fault ≡ None → (x ≡ NoMemory) ⊎ (fault c ≡ Some x)
     → (x ≡ NoMemory) ⊎ (first_below n fault ≡ Some x)
-fault-first n c fault x l none h = ⊎_elim inl (λ e. inr (first_below-found n c fault x l none e)) h
+fault_first n c fault x l none h = ⊎_elim inl (λ e. inr (first_below-found n c fault x l none e)) h
 
 -- two lists of one length, one of which has what the other has, are equal
 same_gets : {X : Type 0} (xs ys : List X) → length xs ≡ length ys → ((k : ℕ) (x : X) → slice_get xs k ≡ Some x → slice_get ys k ≡ Some x) → xs ≡ ys

@@ -14,8 +14,8 @@ use Rattle.object_layout.specs.declared.rows.KindRow.{KindRow}
 use Rattle.object_layout.specs.declared.rows.Shape.TheVariants.{Class, Kind}
 use Rattle.object_layout.specs.Faults.{first_fault, has_indexes}
 use Rattle.object_layout.specs.Layout.{IsLaid}
-use Rattle.object_layout.proofs.Sound.{parents-earlier, classes-sound}
-use Rattle.object_layout.proofs.ClassLaws.{lineage-length, ancestor-at, below-parts, below-from, there-law}
+use Rattle.object_layout.proofs.Sound.{parents_earlier, classes-sound}
+use Rattle.object_layout.proofs.ClassLaws.{lineage-length, ancestor_at, below-parts, below-from, there-law}
 
 -- What the look-ups find where there is no class.
 
@@ -60,8 +60,8 @@ pub depth-laid : (s : ShapesView) (c : ℕ) (laid : LaidClass) → IsLaid s c la
 depth-laid s c laid h = omega (arith, lineage-laid s c laid h, lineage-length s c)
 
 -- the ancestors are kept at their depths
-pub ancestor-laid : (s : ShapesView) (c : ℕ) (laid : LaidClass) → IsLaid s c laid → (k : ℕ) → k ≤ laid.depth → get_or (lineage s c) k 0 ≡ get_or laid.lineage k 0
-ancestor-laid s c laid h k l = ap (λ xs. get_or xs k 0) h.ancestors ∙ get_or-take (suc laid.depth) laid.lineage k 0 (omega arith)
+pub ancestor_laid : (s : ShapesView) (c : ℕ) (laid : LaidClass) → IsLaid s c laid → (k : ℕ) → k ≤ laid.depth → get_or (lineage s c) k 0 ≡ get_or laid.lineage k 0
+ancestor_laid s c laid h k l = ap (λ xs. get_or xs k 0) h.ancestors ∙ get_or-take (suc laid.depth) laid.lineage k 0 (omega arith)
 
 -- The display tells what is below what.
 
@@ -69,17 +69,17 @@ ancestor-laid s c laid h k l = ap (λ xs. get_or xs k 0) h.ancestors ∙ get_or-
 pub below-laid : (s : ShapesView) (c d : ℕ) (low high : LaidClass) → IsLaid s c low → IsLaid s d high → c < length s.classes → high.depth ≤ low.depth
     → get_or low.lineage high.depth 0 ≡ d → Below s c d ≡ true
 below-laid s c d low high h g there l e =
-    below-from s c d high.depth there (omega (arith, lineage-laid s c low h)) (ancestor-laid s c low h high.depth l ∙ e)
+    below-from s c d high.depth there (omega (arith, lineage-laid s c low h)) (ancestor_laid s c low h high.depth l ∙ e)
 
 -- what is above stands in the display at its depth
 pub below-told : (s : ShapesView) (c d : ℕ) (low high : LaidClass) → first_fault s ≡ None → IsLaid s c low → IsLaid s d high → Below s c d ≡ true
     → (high.depth ≤ low.depth) × (get_or low.lineage high.depth 0 ≡ d)
 below-told s c d low high sound h g b =
     let p = below-parts s c d b in
-    let a = ancestor-at s (length s.classes) c d (parents-earlier s sound) p.0 p.1 in
+    let a = ancestor_at s (length s.classes) c d (parents_earlier s sound) p.0 p.1 in
     let e = depth-laid s d high g in
     let l : high.depth ≤ low.depth = omega (arith, depth-laid s c low h, e, a.0) in
-    (l, sym (ancestor-laid s c low h high.depth l) ∙ ap (λ k. get_or (lineage s c) k 0) (sym e) ∙ a.1)
+    (l, sym (ancestor_laid s c low h high.depth l) ∙ ap (λ k. get_or (lineage s c) k 0) (sym e) ∙ a.1)
 
 -- two tests that hold together are equal
 same_tests : (a b : Bool) → (a ≡ true → b ≡ true) → (b ≡ true → a ≡ true) → a ≡ b

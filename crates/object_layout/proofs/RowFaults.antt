@@ -23,9 +23,9 @@ depth-inherited s c above h =
     omega (arith, lineage-length s c, ap length h.ancestors, length-append (take above.ancestors above.lineage) (c ∷ []))
 
 -- the fields are those of the parent and the own ones
-pub length-fields-inherited : (s : ShapesView) (c : ℕ) (above : Inherited) (row : ClassRow) → IsInherited s c above → slice_get s.classes c ≡ Some row
+pub length-fields_inherited : (s : ShapesView) (c : ℕ) (above : Inherited) (row : ClassRow) → IsInherited s c above → slice_get s.classes c ≡ Some row
     → length (Fields s c) ≡ length above.fields.now + length row.fields
-length-fields-inherited s c above row h e =
+length-fields_inherited s c above row h e =
     ap length h.whole ∙ length-append above.fields.now (own_fields s c) ∙ ap (λ xs. length above.fields.now + length xs) (own_fields-of_row s c row e)
 
 -- the first fault of a row whose parent is an earlier class
@@ -45,7 +45,7 @@ class_fault-below s c above row h e =
     rw (
       h.earlier,
       depth-inherited s c above h,
-      length-fields-inherited s c above row h e,
+      length-fields_inherited s c above row h e,
       h.kept,
       own_fields-of_row s c row e,
       methods-of_row s c row e,
@@ -53,9 +53,9 @@ class_fault-below s c above row h e =
     refl
 
 -- a bad parent is the first fault
-pub bad_parent-fault : (s : ShapesView) (c : ℕ) → has_earlier_parent s c ≡ false → Some (BadParent c) ≡ class_fault s c
+pub bad_parent_fault : (s : ShapesView) (c : ℕ) → has_earlier_parent s c ≡ false → Some (BadParent c) ≡ class_fault s c
 unfolding class_fault
-bad_parent-fault s c e = rw e refl
+bad_parent_fault s c e = rw e refl
 
 -- the lineage of a class, once its number is put behind its ancestors
 small-set : (xs : List ℕ) (i c k : ℕ) → i < length xs → c < 1024 → ((k : ℕ) → get_or xs k 0 < 1024) → get_or (set xs i c) k 0 < 1024
@@ -65,10 +65,10 @@ small-set xs i c k l less small = ⊎_elim
     (cases_eq k i)
 
 -- a row without a fault, laid out
-pub laid-inherited : (s : ShapesView) (c : ℕ) (above : Inherited) (row : ClassRow) (laid : LaidClass) → IsInherited s c above
+pub laid_inherited : (s : ShapesView) (c : ℕ) (above : Inherited) (row : ClassRow) (laid : LaidClass) → IsInherited s c above
     → slice_get s.classes c ≡ Some row → class_fault s c ≡ None → laid.row ≡ row → laid.depth ≡ above.ancestors
     → laid.lineage ≡ set above.lineage above.ancestors c → laid.fields ≡ above.fields.now ++ row.fields → IsLaid s c laid
-laid-inherited s c above row laid h e none same deep line whole =
+laid_inherited s c above row laid h e none same deep line whole =
     let sound = class-sound s c none in
     let inside : above.ancestors < length above.lineage = omega (arith, h.room, depth-inherited s c above h, sound.shallow) in
     let all = h.whole ∙ ap (λ xs. above.fields.now ++ xs) (own_fields-of_row s c row e) ∙ sym whole in

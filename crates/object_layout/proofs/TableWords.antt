@@ -10,7 +10,7 @@ use Rattle.object_layout.specs.Faults.{first_fault}
 use Rattle.object_layout.specs.Layout.{IsLaid}
 use Rattle.object_layout.proofs.Sound.{classes-sound}
 use Rattle.object_layout.proofs.Tables.{table_word-at, table_word-past, display-word, method-word}
-use Rattle.object_layout.proofs.LookUps.{lineage-laid, depth-laid, ancestor-laid}
+use Rattle.object_layout.proofs.LookUps.{lineage-laid, depth-laid, ancestor_laid}
 
 -- The words of a class's table, by what is kept beside its row.
 
@@ -42,7 +42,7 @@ display-kept s c k laid h l =
     let long = lineage-laid s c laid h in
     ⊎_elim
     (λ (inside : k < suc laid.depth).
-    let e = get_or-map table_address (lineage s c) k 0 0 (omega arith) ∙ ap table_address (ancestor-laid s c laid h k (omega arith)) in
+    let e = get_or-map table_address (lineage s c) k 0 0 (omega arith) ∙ ap table_address (ancestor_laid s c laid h k (omega arith)) in
     grind (arith, nat_tests))
     (λ (past : suc laid.depth ≤ k).
     let e = get_or_past (map table_address (lineage s c)) k 0 (omega (arith, length-map (lineage s c) table_address)) in
@@ -50,18 +50,18 @@ display-kept s c k laid h l =
     (cases_lt k (suc laid.depth))
 
 -- the words 3 to 10 are the display
-pub level-word : (s : ShapesView) (c word : ℕ) (laid : LaidClass) → first_fault s ≡ None → IsLaid s c laid → 3 ≤ word → word < 11
+pub level_word : (s : ShapesView) (c word : ℕ) (laid : LaidClass) → first_fault s ≡ None → IsLaid s c laid → 3 ≤ word → word < 11
     → Some (if nat_le (word - 3) laid.depth then table_address (slice_index laid.lineage (word - 3)) else 0) ≡ table_word s c word
-level-word s c word laid sound h l m =
+level_word s c word laid sound h l m =
     let place : 3 + (word - 3) ≡ word = omega arith in
     word-kept s c (3 + (word - 3)) _ laid sound h (omega arith)
     (display-word s c (word - 3) (omega (arith, lineage-laid s c laid h, h.shallow)) (omega arith) ∙ display-kept s c (word - 3) laid h (omega arith))
     ∙ ap (table_word s c) place
 
 -- the words from 11 on are the methods
-pub slot-word : (s : ShapesView) (c word : ℕ) (laid : LaidClass) → first_fault s ≡ None → IsLaid s c laid → 11 ≤ word → word < 64
+pub slot_word : (s : ShapesView) (c word : ℕ) (laid : LaidClass) → first_fault s ≡ None → IsLaid s c laid → 11 ≤ word → word < 64
     → Some (slice_index (map (λ f. (fun_row s f).address) (Methods s c)) (word - 11)) ≡ table_word s c word
-slot-word s c word laid sound h l m =
+slot_word s c word laid sound h l m =
     let place : 11 + (word - 11) ≡ word = omega arith in
     let few = (classes-sound s sound c (slice_get_within _ _ _ h.row)).few_methods in
     word-kept s c (11 + (word - 11)) _ laid sound h (omega arith)
@@ -69,7 +69,7 @@ slot-word s c word laid sound h l m =
     ∙ ap (table_word s c) place
 
 -- a table has 64 words
-pub no-word : (s : ShapesView) (c word : ℕ) (laid : LaidClass) → first_fault s ≡ None → IsLaid s c laid → 64 ≤ word → None ≡ table_word s c word
-no-word s c word laid sound h l =
+pub no_word : (s : ShapesView) (c word : ℕ) (laid : LaidClass) → first_fault s ≡ None → IsLaid s c laid → 64 ≤ word → None ≡ table_word s c word
+no_word s c word laid sound h l =
     let few = (classes-sound s sound c (slice_get_within _ _ _ h.row)).few_methods in
     sym (table_word-past s c word (omega (arith, lineage-laid s c laid h, h.shallow)) few l)

@@ -1,5 +1,5 @@
-use Rattle.mark_sweep.proofs.Gaps.{gaps-free}
+use Rattle.mark_sweep.proofs.Gaps.{gaps_free}
 use Rattle.mark_sweep.proofs.laws.gaps_are_free.Goals as goal
 
 pub returns : goal.returns
-returns c = gaps-free c.block_laws.ensures
+returns c = gaps_free c.block_laws.ensures

@@ -1,5 +1,5 @@
-use Rattle.mark_sweep.proofs.ObjectWords.{lie-within}
+use Rattle.mark_sweep.proofs.ObjectWords.{lie_within}
 use Rattle.mark_sweep.proofs.laws.references_lie_within.Goals as goal
 
 pub returns : goal.returns
-returns c = lie-within
+returns c = lie_within

@@ -1,5 +1,5 @@
-use Rattle.mark_sweep.proofs.Addresses.{shape-back}
+use Rattle.mark_sweep.proofs.Addresses.{shape_back}
 use Rattle.mark_sweep.proofs.laws.shapes_come_back.Goals as goal
 
 pub returns : goal.returns
-returns c = shape-back
+returns c = shape_back

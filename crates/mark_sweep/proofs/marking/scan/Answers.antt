@@ -1,7 +1,7 @@
 use Rattle.std.proofs.Common.{arith, sym, ◌∙◌}
 use Rattle.mark_sweep.proofs.Keeping.{word_inside}
 use Rattle.mark_sweep.specs.Objects.{IsReference}
-use Rattle.mark_sweep.proofs.Scanning.{scanning-first, scanning-placed, scanning-step, scanning-skip, scanning-last, reference-here, no-reference-here}
+use Rattle.mark_sweep.proofs.Scanning.{scanning-first, scanning-placed, scanning-step, scanning-skip, scanning-last, reference_here, no_reference_here}
 use Rattle.mark_sweep.proofs.marking.scan.Goals as goal
 use Rattle.mark_sweep.proofs.marking.scan.Goals.{then-holds_reference, else-holds_reference}
 
@@ -17,7 +17,7 @@ words-init c = scanning-first _ _ _ _ c.requires.formed
 pub mark_word-first-requires-clause-placed : goal.mark_word-first-requires-clause-placed
 mark_word-first-requires-clause-placed c =
     let r : IsReference c.args.shapes.now c.args.heap.now c.args.at c.words.k =
-    reference-here _ _ _ _ _ _ c.word-table.ensures c.word-length.ensures c.words.auto.k (omega (arith, c.block_size-end.ensures.size, c.words-test.true))
+    reference_here _ _ _ _ _ _ c.word-table.ensures c.word-length.ensures c.words.auto.k (omega (arith, c.block_size-end.ensures.size, c.words-test.true))
     (sym c.holds_reference.ensures ∙ c.if-holds_reference.true) in
     scanning-placed _ _ _ _ _ _ _ _ c.words.invariant c.requires.begins r (c.requires.placed _ r) c.word-word.ensures
 
@@ -26,13 +26,13 @@ words-preserved c =
     elim c.if-holds_reference.branch [
       | then-holds_reference w ↦
           let r : IsReference c.args.shapes.now c.args.heap.now c.args.at c.words.k =
-          reference-here _ _ _ _ _ _ c.word-table.ensures c.word-length.ensures c.words.auto.k
+          reference_here _ _ _ _ _ _ c.word-table.ensures c.word-length.ensures c.words.auto.k
           (omega (arith, c.block_size-end.ensures.size, c.words-test.true)) (sym c.holds_reference.ensures ∙ w.if-holds_reference.true) in
           rw (w.heap-is, w.first-is)
           (scanning-step _ _ _ _ _ _ _ _ _ _ c.words.invariant c.requires.begins r w.word-word.ensures w.mark_word-first.ensures.marks w.mark_word-first.ensures.formed)
       | else-holds_reference w ↦
           rw (w.heap-is, w.first-is) (scanning-skip _ _ _ _ _ _ _ c.words.invariant c.requires.begins
-          (no-reference-here _ _ _ _ _ _ c.word-table.ensures c.word-length.ensures (sym c.holds_reference.ensures ∙ w.if-holds_reference.false)))
+          (no_reference_here _ _ _ _ _ _ c.word-table.ensures c.word-length.ensures (sym c.holds_reference.ensures ∙ w.if-holds_reference.false)))
     ]
 
 pub returns-clause-scanned : goal.returns-clause-scanned

@@ -1,7 +1,7 @@
 use Rattle.std.proofs.Common.{◌+◌, sym, ◌∙◌}
 use Rattle.heap_words.specs.Headers.{size_at}
 use Rattle.heap_words.specs.Blocks.{IsFree}
-use Rattle.mark_sweep.proofs.Sweeps.{merging-first, merging-join, merging-to, joined-less, merging-last, both-free, one-used}
+use Rattle.mark_sweep.proofs.Sweeps.{merging-first, merging-join, merging-to, joined-less, merging-last, both_free, one-used}
 use Rattle.mark_sweep.proofs.passes.merge.Goals as goal
 
 pub loop-next-init : goal.loop-next-init
@@ -17,7 +17,7 @@ loop-next-smaller-then-are_free c =
 
 pub loop-next-preserved-then-are_free : goal.loop-next-preserved-then-are_free
 loop-next-preserved-then-are_free c =
-    let both = both-free _ _ (sym c.are_free.ensures ∙ c.if-are_free.true) in
+    let both = both_free _ _ (sym c.are_free.ensures ∙ c.if-are_free.true) in
     let f : IsFree c.loop-next.heap c.loop-next.at = record { begins = c.loop-next.invariant.begins; free = both.0 } in
     let e = c.in-Some.ensures.next in
     let n : IsFree c.loop-next.heap (c.loop-next.at + size_at c.loop-next.heap c.loop-next.at) = rw (← e.0) (record { begins = e.1; free = both.1 }) in

@@ -1,6 +1,6 @@
 use Rattle.std.proofs.Common.{arith, ◌∙◌}
 use Rattle.heap_words.specs.Blocks.{Begins}
-use Rattle.mark_sweep.proofs.Sweeps.{at_block, step-fits, sweeping-last, sweeping-first, sweeping-step, swept-other}
+use Rattle.mark_sweep.proofs.Sweeps.{at_block, step_fits, sweeping-last, sweeping-first, sweeping-step, swept-other}
 use Rattle.mark_sweep.proofs.passes.sweep.Goals as goal
 
 pub loop-at-init : goal.loop-at-init
@@ -15,13 +15,13 @@ pub overflow_add-at : goal.overflow_add-at
 overflow_add-at c =
     let n = c.loop-at.invariant.blocks.size in
     let b : Begins c.loop-at.heap c.loop-at.at = at_block _ _ c.loop-at.invariant.stands (omega (arith, n, c.size-size.ensures.size)) in
-    omega (arith, (step-fits c.block_laws.ensures _ _ _ c.set_used.ensures.formed (c.set_used.ensures.same.forth _ b) c.block_size-at.ensures.size).0)
+    omega (arith, (step_fits c.block_laws.ensures _ _ _ c.set_used.ensures.formed (c.set_used.ensures.same.forth _ b) c.block_size-at.ensures.size).0)
 
 pub loop-at-smaller : goal.loop-at-smaller
 loop-at-smaller c =
     let n = c.loop-at.invariant.blocks.size in
     let b : Begins c.loop-at.heap c.loop-at.at = at_block _ _ c.loop-at.invariant.stands (omega (arith, n, c.size-size.ensures.size)) in
-    omega (arith, (step-fits c.block_laws.ensures _ _ _ c.set_used.ensures.formed (c.set_used.ensures.same.forth _ b) c.block_size-at.ensures.size).1, c.loop-at-test.true)
+    omega (arith, (step_fits c.block_laws.ensures _ _ _ c.set_used.ensures.formed (c.set_used.ensures.same.forth _ b) c.block_size-at.ensures.size).1, c.loop-at-test.true)
 
 pub loop-at-preserved : goal.loop-at-preserved
 loop-at-preserved c =

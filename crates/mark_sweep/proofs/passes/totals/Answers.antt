@@ -1,7 +1,7 @@
 use Rattle.std.proofs.Common.{◌≡◌, arith, sym, ◌∙◌}
 use Rattle.heap_words.specs.Headers.{size_at}
 use Rattle.heap_words.specs.Blocks.{Begins}
-use Rattle.mark_sweep.proofs.Sweeps.{at_block, step-fits}
+use Rattle.mark_sweep.proofs.Sweeps.{at_block, step_fits}
 use Rattle.mark_sweep.proofs.Totals.{counting-first, counting-used, counting-free, counting-last}
 use Rattle.mark_sweep.proofs.passes.totals.Goals as goal
 use Rattle.mark_sweep.proofs.passes.totals.Goals.{then-not-used, else-not-used}
@@ -12,12 +12,12 @@ loop-at-init c = counting-first c.block_laws.ensures _ c.size-size.ensures.forme
 pub overflow_add-at : goal.overflow_add-at
 overflow_add-at c =
     let b : Begins c.args.heap.now c.loop-at.at = at_block _ _ c.loop-at.invariant.stands (omega (arith, c.size-size.ensures.size)) in
-    omega (arith, (step-fits c.block_laws.ensures _ _ _ c.block_size-room.ensures.formed b c.block_size-room.ensures.size).0)
+    omega (arith, (step_fits c.block_laws.ensures _ _ _ c.block_size-room.ensures.formed b c.block_size-room.ensures.size).0)
 
 pub loop-at-smaller : goal.loop-at-smaller
 loop-at-smaller c =
     let b : Begins c.args.heap.now c.loop-at.at = at_block _ _ c.loop-at.invariant.stands (omega (arith, c.size-size.ensures.size)) in
-    omega (arith, (step-fits c.block_laws.ensures _ _ _ c.block_size-room.ensures.formed b c.block_size-room.ensures.size).1, c.loop-at-test.true)
+    omega (arith, (step_fits c.block_laws.ensures _ _ _ c.block_size-room.ensures.formed b c.block_size-room.ensures.size).1, c.loop-at-test.true)
 
 pub loop-at-preserved : goal.loop-at-preserved
 loop-at-preserved c =

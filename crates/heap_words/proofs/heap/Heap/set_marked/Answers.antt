@@ -1,7 +1,7 @@
 use Rattle.std.proofs.Common.{◌≡◌}
 use Rattle.heap_words.specs.Headers.{used_at}
 use Rattle.heap_words.proofs.HeaderLaws.{size-mod, size-kept, used-written, marked-written}
-use Rattle.heap_words.proofs.Writes.{reheaded, remarked-list}
+use Rattle.heap_words.proofs.Writes.{reheaded, remarked_list}
 use Rattle.heap_words.proofs.heap.Heap.set_marked.Goals as goal
 
 pub header-requires : goal.header-requires
@@ -13,7 +13,7 @@ put-requires-clause-size c = λ _. rw (c.header.ensures, c.block_size-size.ensur
 pub returns-clause-blocks : goal.returns-clause-blocks
 returns-clause-blocks c =
     let w : c.put.new.self ≡ reheaded c.args.self.now c.args.i (used_at c.args.self.now c.args.i) c.args.marked = cc in
-    rw w (remarked-list _ _ _ c.put.ensures.formed_before c.requires)
+    rw w (remarked_list _ _ _ c.put.ensures.formed_before c.requires)
 
 pub returns-clause-used : goal.returns-clause-used
 returns-clause-used c =

@@ -1,7 +1,7 @@
 use Rattle.std.proofs.Common.{◌+◌, Some, length, sym, ap, ◌∙◌, arith}
 use Rattle.object_layout.specs.Classes.{table_word}
 use Rattle.object_layout.proofs.Tables.{table_word-no_class}
-use Rattle.object_layout.proofs.TableWords.{size-word, depth-word, zero-word, level-word, slot-word, no-word}
+use Rattle.object_layout.proofs.TableWords.{size-word, depth-word, zero-word, level_word, slot_word, no_word}
 use Rattle.object_layout.proofs.look_ups.Shapes.table_word.Goals as goal
 
 pub returns-in_err-class-clause-value : goal.returns-in_err-class-clause-value
@@ -27,13 +27,13 @@ returns-in-2-clause-value c =
 pub returns-in-3-to-10-clause-value : goal.returns-in-3-to-10-clause-value
 returns-in-3-to-10-clause-value c =
     let at = c.in_ok-class in
-    ap Some c.display_word.ensures ∙ level-word _ _ c.args.word _ at.ensures.sound at.ensures.laid (omega arith) (omega arith)
+    ap Some c.display_word.ensures ∙ level_word _ _ c.args.word _ at.ensures.sound at.ensures.laid (omega arith) (omega arith)
 
 pub returns-in-11-to-63-clause-value : goal.returns-in-11-to-63-clause-value
 returns-in-11-to-63-clause-value c =
     let at = c.in_ok-class in
-    ap Some c.method_address.ensures ∙ slot-word _ _ c.args.word _ at.ensures.sound at.ensures.laid (omega arith) (omega arith)
+    ap Some c.method_address.ensures ∙ slot_word _ _ c.args.word _ at.ensures.sound at.ensures.laid (omega arith) (omega arith)
 
 pub returns-in_default-clause-value : goal.returns-in_default-clause-value
 returns-in_default-clause-value c =
-    let at = c.in_ok-class in no-word _ _ c.args.word _ at.ensures.sound at.ensures.laid (omega arith)
+    let at = c.in_ok-class in no_word _ _ c.args.word _ at.ensures.sound at.ensures.laid (omega arith)
