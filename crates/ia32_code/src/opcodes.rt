@@ -73,6 +73,7 @@ fn operation_row(opcode: u8) -> Option<Row>
 
 /// The row of an opcode of one byte, in the order of the table. Of rows that a digit tells apart it is the first.
 #[tactic(auto, unfolding(crate::specs::Opcodes::row_with))]
+#[inline(always)]
 pub fn row_of(opcode: u8) -> Option<Row>
     ensures { result ≡ row_with (opcode ∷ []) }
 {
@@ -122,6 +123,7 @@ pub fn row_of(opcode: u8) -> Option<Row>
 
 /// The row of a byte after 0F.
 #[tactic(auto, unfolding(crate::specs::Opcodes::row_with))]
+#[inline(always)]
 pub fn row_of_escaped(opcode: u8) -> Option<Row>
     ensures { result ≡ row_with (0x0F ∷ opcode ∷ []) }
 {
@@ -175,6 +177,7 @@ fn move_row(digit: u8) -> Option<Row>
 }
 
 /// The row of an opcode and a digit.
+#[inline(always)]
 pub fn row_of_digit(encoding: Encoding, digit: u8) -> Option<Row>
     requires { digit < 8 }
     ensures { result ≡ row_with_digit (opcode_bytes encoding.escaped encoding.opcode) digit }

@@ -109,6 +109,7 @@ fn scale_of(index: Reg, bits: u8) -> u8
 }
 
 /// The operand that a form stands for.
+#[inline(always)]
 pub fn operand_of(form: OperandForm) -> Operand
     ensures { result ≡ operand form }
 {

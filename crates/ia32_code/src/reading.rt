@@ -1,4 +1,5 @@
-// Reading the spelling at the front of bytes. Each reader gives a value and the bytes after it.
+// Reading the spelling at the front of bytes. Each reader gives a value and the bytes after it. The readers are inlined
+// into one function: what they hand up is then not copied, which would take longer than the reading.
 ghost use Rattle.std.specs.Prelude.{◌≡◌};
 ghost use Rattle.ia32_code.specs.Table.{line};
 ghost use Rattle.ia32_code.specs.Reading.{GivesRead, byte_at, word_at, disp_at, sib_at, form_at, trailing_at, end_at, modrm_at, digit_at, by_modrm_at, opened_at, spelling_at};
@@ -19,6 +20,7 @@ pub enum Stop {
     Unknown,
 }
 
+#[inline(always)]
 fn byte_of(bytes: &[u8]) -> Result<(u8, &[u8]), Stop>
     ensures { GivesRead (λ x. (x.0, x.1.now)) result (byte_at bytes.now) }
 {
@@ -29,6 +31,7 @@ fn byte_of(bytes: &[u8]) -> Result<(u8, &[u8]), Stop>
 }
 
 #[tactic(auto, unfolding(crate::specs::Reading::word_at))]
+#[inline(always)]
 fn word_of(bytes: &[u8]) -> Result<(u32, &[u8]), Stop>
     ensures { GivesRead (λ x. (x.0, x.1.now)) result (word_at bytes.now) }
 {
@@ -40,6 +43,7 @@ fn word_of(bytes: &[u8]) -> Result<(u32, &[u8]), Stop>
 }
 
 #[tactic(auto, unfolding(crate::specs::Reading::disp_at))]
+#[inline(always)]
 fn displacement_of(mode: u8, bytes: &[u8]) -> Result<(Displacement, &[u8]), Stop>
     ensures { GivesRead (λ x. (x.0, x.1.now)) result (disp_at mode bytes.now) }
 {
@@ -55,6 +59,7 @@ fn displacement_of(mode: u8, bytes: &[u8]) -> Result<(Displacement, &[u8]), Stop
 }
 
 #[tactic(auto, unfolding(crate::specs::Reading::sib_at))]
+#[inline(always)]
 fn indexed_of(mode: u8, bytes: &[u8]) -> Result<(OperandForm, &[u8]), Stop>
     ensures { GivesRead (λ x. (x.0, x.1.now)) result (sib_at mode bytes.now) }
 {
@@ -73,6 +78,7 @@ fn indexed_of(mode: u8, bytes: &[u8]) -> Result<(OperandForm, &[u8]), Stop>
 }
 
 #[tactic(auto, unfolding(crate::specs::Reading::form_at))]
+#[inline(always)]
 fn form_of(modrm_byte: u8, bytes: &[u8]) -> Result<(OperandForm, &[u8]), Stop>
     ensures { GivesRead (λ x. (x.0, x.1.now)) result (form_at modrm_byte bytes.now) }
 {
@@ -93,6 +99,7 @@ fn form_of(modrm_byte: u8, bytes: &[u8]) -> Result<(OperandForm, &[u8]), Stop>
 }
 
 #[tactic(auto, unfolding(crate::specs::Reading::trailing_at))]
+#[inline(always)]
 fn number_of(trailing: Trailing, bytes: &[u8]) -> Result<(u32, &[u8]), Stop>
     ensures { GivesRead (λ x. (x.0, x.1.now)) result (trailing_at trailing bytes.now) }
 {
@@ -107,6 +114,7 @@ fn number_of(trailing: Trailing, bytes: &[u8]) -> Result<(u32, &[u8]), Stop>
 }
 
 #[tactic(auto, unfolding(crate::specs::Reading::end_at))]
+#[inline(always)]
 fn end_of(row: Row, reg: Reg, form: OperandForm, bytes: &[u8]) -> Result<(Spelling, &[u8]), Stop>
     ensures { GivesRead (λ x. (x.0, x.1.now)) result (end_at row reg form bytes.now) }
 {
@@ -115,6 +123,7 @@ fn end_of(row: Row, reg: Reg, form: OperandForm, bytes: &[u8]) -> Result<(Spelli
 }
 
 #[tactic(auto, unfolding(crate::specs::Reading::modrm_at))]
+#[inline(always)]
 fn modrm_of(row: Row, modrm_byte: u8, bytes: &[u8]) -> Result<(Spelling, &[u8]), Stop>
     ensures { GivesRead (λ x. (x.0, x.1.now)) result (modrm_at row modrm_byte bytes.now) }
 {
@@ -123,6 +132,7 @@ fn modrm_of(row: Row, modrm_byte: u8, bytes: &[u8]) -> Result<(Spelling, &[u8]),
 }
 
 #[tactic(auto, unfolding(crate::specs::Reading::by_modrm_at, crate::specs::Reading::digit_at))]
+#[inline(always)]
 fn by_modrm_of(row: Row, bytes: &[u8]) -> Result<(Spelling, &[u8]), Stop>
     ensures { GivesRead (λ x. (x.0, x.1.now)) result (by_modrm_at (line row).modrm row bytes.now) }
 {
@@ -151,6 +161,7 @@ fn by_modrm_of(row: Row, bytes: &[u8]) -> Result<(Spelling, &[u8]), Stop>
 }
 
 #[tactic(auto, unfolding(crate::specs::Reading::opened_at))]
+#[inline(always)]
 fn opened_of(row: Option<Row>, bytes: &[u8]) -> Result<(Spelling, &[u8]), Stop>
     ensures { GivesRead (λ x. (x.0, x.1.now)) result (opened_at row bytes.now) }
 {
@@ -162,6 +173,7 @@ fn opened_of(row: Option<Row>, bytes: &[u8]) -> Result<(Spelling, &[u8]), Stop>
 
 /// The spelling at the front of the bytes.
 #[tactic(auto, unfolding(crate::specs::Reading::spelling_at))]
+#[inline(always)]
 pub fn spelling_of(bytes: &[u8]) -> Result<(Spelling, &[u8]), Stop>
     ensures { GivesRead (λ x. (x.0, x.1.now)) result (spelling_at bytes.now) }
 {

@@ -37,6 +37,7 @@ pub fn without_modrm(row: Row, number: u32) -> Spelling
 }
 
 /// The instruction that a filled row spells.
+#[inline(always)]
 pub fn meaning_of(spelling: Spelling) -> Inst
     requires { Filled spelling }
     ensures { result ≡ meaning spelling }

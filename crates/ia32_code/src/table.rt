@@ -32,6 +32,7 @@ fn escaped(opcode: u8, modrm: ModRm, trailing: Trailing) -> Encoding
 }
 
 /// How a row is spelled.
+#[inline(always)]
 pub fn encoding_of(row: Row) -> Encoding
     ensures { SpelledBy (line row) result }
 {
@@ -132,6 +133,7 @@ fn shift(op: Shift, dst: Operand, by: Count) -> Inst
 }
 
 /// The instruction that a row spells with a register, an operand and a number.
+#[inline(always)]
 pub fn build(row: Row, reg: Reg, operand: Operand, number: u32) -> Inst
     requires { TrailingFits (line row).trailing number }
     ensures { result ≡ (line row).gives reg operand number }
