@@ -197,5 +197,6 @@ pub(crate) fn all_numbers<V: ImageView>(
 ) -> bool
     ensures { result ≡ list_all (λ x. is_num (operand_type (V.shown image.now) (live_of context.now) pc x)) xs.now }
 {
-    xs.iter().all(|x| is_num(operand_type(image, context, pc, x)))
+    xs.iter()
+        .all(|x| is_num(operand_type(image, context, pc, x)))
 }

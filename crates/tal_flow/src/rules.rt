@@ -185,12 +185,7 @@ fn test_rule<V: ImageView>(
 
 /// The first rule of a PUSH that fails.
 #[tactic(auto, unfolding(crate::specs::Rules::operand_rule, tal_types::specs::Kept::live_of))]
-fn push_rule<V: ImageView>(
-    image: &V,
-    context: &Context,
-    pc: u32,
-    x: &Operand,
-) -> Option<RuleName>
+fn push_rule<V: ImageView>(image: &V, context: &Context, pc: u32, x: &Operand) -> Option<RuleName>
     ensures { result ≡ operand_rule (V.shown image.now) (live_of context.now) pc (Form.PushOf x.now) }
 {
     first_failing(&[
@@ -225,12 +220,7 @@ fn may_drop(context: &Context, bytes: u32) -> bool
 
 /// The first rule of ADD to ESP that fails.
 #[tactic(auto, unfolding(crate::specs::Rules::operand_rule))]
-fn drop_rule<V: ImageView>(
-    image: &V,
-    context: &Context,
-    pc: u32,
-    bytes: u32,
-) -> Option<RuleName>
+fn drop_rule<V: ImageView>(image: &V, context: &Context, pc: u32, bytes: u32) -> Option<RuleName>
     ensures { result ≡ operand_rule (V.shown image.now) (live_of context.now) pc (Form.DropSlots bytes) }
 {
     first_failing(&[
