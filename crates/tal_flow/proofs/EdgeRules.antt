@@ -1,5 +1,5 @@
 use Rattle.std.proofs.Common.{◌≡◌, ℕ, Bool, true, false, not, ◌&&◌, ◌||◌, if◌then◌else◌, Option, Some, None, refl, sym, ◌∙◌, ap, subst, arith}
-use Rattle.std.specs.Prelude.{MatchOption, Result, Ok, Err, IfOk, IfErr}
+use Rattle.std.specs.Prelude.{MatchOption, Result, IfOk, IfErr}
 use Rattle.ia32_code.specs.declared.instruction.Cond.{Cond}
 use Rattle.std.specs.Option.{option_map, option_and_then}
 use Rattle.ia32_code.specs.declared.instruction.Inst.{Inst}

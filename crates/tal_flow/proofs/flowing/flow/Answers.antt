@@ -1,4 +1,3 @@
-use Rattle.std.proofs.Common.{◌∙◌}
 use Rattle.tal_types.specs.Kept.{context_of}
 use Rattle.tal_flow.proofs.EdgeRules.{whole-flows, whole-fails}
 use Rattle.tal_flow.proofs.flowing.flow.Goals as goal
