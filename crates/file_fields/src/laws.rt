@@ -20,5 +20,4 @@ pub fn each_is_one<T>()
 /// What numbers in a file stand for.
 pub fn number_meanings()
     ensures { NumberMeanings }
-{
-}
+{}

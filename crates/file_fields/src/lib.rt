@@ -1,9 +1,11 @@
-//! Files as fields in their order, with the first field that breaks its condition or in which the file ends.
-//!
-//! A format is a [grammar](specs/Grammar.antt). A part of it is a `Row`, whose reader promises what `run` gives of the part's
-//! fields, and a `Part`, whose writer promises its bytes. A new field of a format stands in its grammar, in its row and in its
-//! writer, and nowhere else. `read_whole` reads a file that is one row and nothing behind it: what it answers is what the file
-//! stands for, or the file's first fault, or want of memory.
+// Files as fields in their order, with the first field that breaks its condition or in which the file ends.
+//
+// A format is a grammar (`Grammar`, in specs/). A part of it is a `Row`, or a `RowAfter` where it looks at what is kept of
+// the rows before it: its reader promises what `run` gives of the part's fields. It is a `Part` as it is written: its writer
+// promises its bytes. So a new field of a format stands in its grammar, in its row and in its writer, and nowhere else.
+// `Reader` is a place in a file. `read_whole` reads a file that is one part and nothing behind it: it answers what the file
+// stands for, or the file's first fault (`FaultOf`), or want of memory. `ImageFault` is a fault. The module `laws` has what
+// holds of every grammar, and Composed, in specs/, what holds of parts one after another.
 #![tactic(auto)]
 
 mod fault;

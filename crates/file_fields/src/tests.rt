@@ -21,11 +21,7 @@ struct Limits {
 impl Row<Limits> for u32 {
     ghost fields = { λ l. checked (between l.low l.high) 7 };
 
-    fn read(
-        _alloc: Global,
-        reader: &mut Reader<'_>,
-        limits: &Limits,
-    ) -> Result<u32, ImageFault> {
+    fn read(_alloc: Global, reader: &mut Reader<'_>, limits: &Limits) -> Result<u32, ImageFault> {
         reader.ranged(limits.low, limits.high, 7)
     }
 }
@@ -54,8 +50,7 @@ impl RowAfter<Limits, u32> for u32 {
 /// A file that ends inside its one number is short.
 fn one_number_is_short()
     ensures { (ok : ℕ → Bool) → (condition : ℕ) → EndsBy (checked ok condition) (2 ^ 31) }
-{
-}
+{}
 
 const LIMITS: Limits = Limits { low: 1, high: 3 };
 
@@ -100,6 +95,9 @@ fn a_whole_file_has_nothing_behind_it(rt: HostRuntime) -> Result<(), Fail> {
 fn parts_are_written_behind_their_count(rt: HostRuntime) -> Result<(), Fail> {
     let mut file = Vec::new(rt.alloc());
     put_counted::<Limits, u32>(&mut file, &[1, 258])?;
-    assert_eq!(rt; file.as_slice(), [2, 0, 0, 0, 1, 0, 0, 0, 2, 1, 0, 0].as_slice());
+    assert_eq!(rt;
+        file.as_slice(),
+        [2, 0, 0, 0, 1, 0, 0, 0, 2, 1, 0, 0].as_slice()
+    );
     Ok(())
 }

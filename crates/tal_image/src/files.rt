@@ -9,7 +9,8 @@ use crate::image::Image;
 use crate::image_reader::image_rows;
 use crate::laws::one_meaning;
 use crate::parts::MAGIC;
-use crate::writing::put_all;
+use crate::writing::ImageFile;
+use file_fields::put_all;
 use no_memory::NoMemory;
 use std::alloc::Global;
 
@@ -55,17 +56,17 @@ impl Image {
     {
         let rows = &self.rows;
         let mut file = Vec::new(alloc);
-        put_all(&mut file, &self.header())?;
-        put_all(&mut file, &rows.sigs)?;
-        put_all(&mut file, &rows.functions)?;
-        put_all(&mut file, &rows.entries)?;
-        put_all(&mut file, &rows.classes)?;
-        put_all(&mut file, &rows.kinds)?;
-        put_all(&mut file, rows.statics.items())?;
-        put_all(&mut file, &rows.arrays)?;
+        put_all::<ImageFile, _>(&mut file, &self.header())?;
+        put_all::<ImageFile, _>(&mut file, &rows.sigs)?;
+        put_all::<ImageFile, _>(&mut file, &rows.functions)?;
+        put_all::<ImageFile, _>(&mut file, &rows.entries)?;
+        put_all::<ImageFile, _>(&mut file, &rows.classes)?;
+        put_all::<ImageFile, _>(&mut file, &rows.kinds)?;
+        put_all::<ImageFile, _>(&mut file, rows.statics.items())?;
+        put_all::<ImageFile, _>(&mut file, &rows.arrays)?;
         file.extend_from_slice(&rows.code)?;
-        put_all(&mut file, &rows.blocks)?;
-        put_all(&mut file, &rows.marks)?;
+        put_all::<ImageFile, _>(&mut file, &rows.blocks)?;
+        put_all::<ImageFile, _>(&mut file, &rows.marks)?;
         Ok(file)
     }
 }
