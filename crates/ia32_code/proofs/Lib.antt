@@ -14,3 +14,4 @@ pub mod CanonicalIsFirst
 pub mod CanonicalSpells
 pub mod Encoded
 pub mod FrontLemmas
+pub mod FilledWords

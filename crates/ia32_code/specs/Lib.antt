@@ -9,3 +9,4 @@ pub mod Encoding
 pub mod Opcodes
 pub mod Reading
 pub mod Front
+pub mod WholeWords

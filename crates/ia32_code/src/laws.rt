@@ -1,5 +1,5 @@
 // What holds of the definitions alone. Each law is a function with nothing to do, whose clause is the law.
-ghost use Rattle.std.specs.Prelude.{◌≡◌, ◌≤◌, ◌<◌, List, ℕ, None, length, IfSome};
+ghost use Rattle.std.specs.Prelude.{◌≡◌, ◌≤◌, ◌<◌, List, ℕ, Some, None, length, IfSome};
 ghost use Rattle.ia32_code.specs.declared.instruction.Inst.{Inst};
 ghost use Rattle.ia32_code.specs.declared.spelling.Spelling.{Spelling};
 ghost use Rattle.ia32_code.specs.Spells.{Spells, Filled};
@@ -9,6 +9,7 @@ ghost use Rattle.ia32_code.specs.Canonical.{Canonical};
 ghost use Rattle.ia32_code.specs.Ranges.{InstInRange};
 ghost use Rattle.ia32_code.specs.Order.{IsNotShorter, IsFirst};
 ghost use Rattle.ia32_code.specs.Encoding.{HasNone};
+ghost use Rattle.ia32_code.specs.WholeWords.{WordPlace, Within, AtEnd, Filling, whole_word, Fillable, EndStays};
 
 /// The prefix law: no spelling is a proper prefix of another, and no bytes spell two instructions.
 pub fn prefix_law()
@@ -49,4 +50,17 @@ pub fn canonical_is_shortest()
 /// index. This law contains the one before.
 pub fn canonical_is_first()
     ensures { (spelling : Spelling) → Filled spelling → IsFirst spelling }
+{}
+
+/// Any word may stand where a whole word stands in a spelling: the bytes are a spelling again, the same but for this word.
+pub fn any_word_fits()
+    ensures { (place : WordPlace) (spelling : Spelling) (filling : Filling) → Filled spelling
+        → whole_word place spelling ≡ Some filling → Fillable spelling filling }
+{}
+
+/// Another word within leaves the word at the end where it was, and as it was.
+pub fn end_word_stays()
+    ensures { (spelling : Spelling) (inner outer : Filling) (word : ℕ) → Filled spelling
+        → whole_word Within spelling ≡ Some inner → whole_word AtEnd spelling ≡ Some outer
+        → EndStays spelling inner outer word }
 {}
