@@ -114,17 +114,17 @@ unfolding digit_at
 live_digit row g h m e = rw (e, h.found) (Whole-modrm_at h.other m).live
 
 -- a row that an opcode finds is read from left to right
-TakesFront-by_modrm_at : (s : ModRm) (row : Row) → ((g : ℕ) → s ≡ Digit g → HasDigitRow row g) → TakesFront (by_modrm_at s row)
+TakesFront-by_modrm_at : (s : ModRm) (w : Row) → ((g : ℕ) → s ≡ Digit g → HasDigitRow w g) → TakesFront (by_modrm_at s w)
 unfolding by_modrm_at
-TakesFront-by_modrm_at Absent row digit = (Whole-end_at row Eax (Direct Eax)).takes
-TakesFront-by_modrm_at Register row digit = (Whole-seq byte_at (λ m. modrm_at row m) Whole-byte_at (λ m. Whole-modrm_at row m)).takes
-TakesFront-by_modrm_at Memory row digit =
-    TakesFront-byte (λ m. cond (eqb (m / 64) 3) none (modrm_at row m))
-    (λ m. TakesFront-cond (eqb (m / 64) 3) none (modrm_at row m) TakesFront-none (Whole-modrm_at row m).takes) 0 (lit< tt) (Whole-modrm_at row 0).live
-TakesFront-by_modrm_at (Digit g) row digit =
+TakesFront-by_modrm_at Absent w digit = (Whole-end_at w Eax (Direct Eax)).takes
+TakesFront-by_modrm_at Register w digit = (Whole-seq byte_at (λ m. modrm_at w m) Whole-byte_at (λ m. Whole-modrm_at w m)).takes
+TakesFront-by_modrm_at Memory w digit =
+    TakesFront-byte (λ m. cond (eqb (m / 64) 3) none (modrm_at w m))
+    (λ m. TakesFront-cond (eqb (m / 64) 3) none (modrm_at w m) TakesFront-none (Whole-modrm_at w m).takes) 0 (lit< tt) (Whole-modrm_at w 0).live
+TakesFront-by_modrm_at (Digit g) w digit =
     let h = digit g refl in
-    TakesFront-byte (λ m. digit_at (row_with_digit (line row).code (m / 8 % 8)) m) (λ m. TakesFront-digit_at (row_with_digit (line row).code (m / 8 % 8)) m)
-    (8 * g) (let small = h.small in omega arith) (live_digit row g h (8 * g) (let small = h.small in omega arith))
+    TakesFront-byte (λ m. digit_at (row_with_digit (line w).code (m / 8 % 8)) m) (λ m. TakesFront-digit_at (row_with_digit (line w).code (m / 8 % 8)) m)
+    (8 * g) (let small = h.small in omega arith) (live_digit w g h (8 * g) (let small = h.small in omega arith))
 
 -- what an opcode finds is read from left to right
 TakesFront-opened_at : (code : List ℕ) (o : Option Row) → row_with code ≡ o → TakesFront (opened_at o)
