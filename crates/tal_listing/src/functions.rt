@@ -38,6 +38,7 @@ fn push_function(
         ++ (head_text number function.sig ++ code_text function.start code.now)) }
 {
     push_head(out, number, function.sig)?;
+    // The function's end is an address, so those of its instructions do not wrap.
     let _end = function.end;
     push_code(out, function.start, code, digits)?;
     Ok(())
