@@ -12,7 +12,8 @@ use Rattle.tal_types.specs.declared.types.Ty.TheVariants.{Junk}
 use Rattle.tal_types.specs.declared.views.Span.{Span}
 use Rattle.tal_flow.specs.Edges.{branching, falls_to, branches_to}
 use Rattle.tal_flow.specs.Forms.{form_of}
-use Rattle.tal_flow.specs.Rules.{in_function, edge_fits, is_dead, rule_of, next_address, Falls, Branches, Target}
+use Rattle.tal_flow.specs.Functions.{in_function}
+use Rattle.tal_flow.specs.Rules.{edge_fits, is_dead, rule_of, next_address, Falls, Branches, Target}
 use Rattle.tal_flow.specs.Strongest.{Placed, rule_at, falls_from, known_at, carried, start, At, placed_at, Chained}
 use Rattle.object_layout.specs.Areas.{code_start}
 use Rattle.tal_image.specs.Conditions.{starts_stack}

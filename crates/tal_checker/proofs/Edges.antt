@@ -12,7 +12,8 @@ use Rattle.tal_flow.specs.Edges.{allows, falling, branching, target_of}
 use Rattle.tal_flow.specs.declared.trials.RuleName.{RuleName}
 use Rattle.tal_flow.specs.declared.trials.RuleName.TheVariants as rule
 use Rattle.tal_flow.specs.Trials.{rule_number, demand}
-use Rattle.tal_flow.specs.Rules.{in_function, has_block, operand_rule, edge_fits, is_dead, edge_rule, rule_of_form}
+use Rattle.tal_flow.specs.Functions.{in_function, has_block}
+use Rattle.tal_flow.specs.Rules.{operand_rule, edge_fits, is_dead, edge_rule, rule_of_form}
 
 -- its edges are below what is annotated there, and a fall stays in the function
 pub record EdgesFit (v : ShownImage) (c : LiveContext) (pc next : ℕ) (form : Form) : Type 0 where

@@ -23,7 +23,7 @@ use Rattle.tal_flow.specs.declared.calls.Called.{Called}
 use Rattle.tal_flow.specs.declared.edges.Told.{Told}
 use Rattle.tal_flow.specs.declared.edges.Told.TheVariants.{Equal, Unequal, Below}
 use Rattle.std.specs.Option.{option_map_or}
-use Rattle.tal_flow.specs.Places.{operand_type, writable, operand_place, is_writable}
+use Rattle.tal_flow.specs.Places.{operand_type, resolve, writable, operand_place, is_writable}
 use Rattle.tal_flow.specs.Calls.{call_to, call_by, is_callable, is_fit, result_of}
 use Rattle.tal_flow.specs.Afterwards.{kind_without, without, write, with_kind, with_slots, store_place, store, add_head, note_head, write_high, give_kind, after_call, slots_in, pop_to, after_form}
 use Rattle.tal_flow.specs.Edges.{not_null, refine_reg, add_pair, meet_class, meet, refine}
@@ -112,12 +112,12 @@ store_memory-below s a b (Some p) (Some q) t u h e w f = store_slot-below s a b 
 store_memory-below s a b None (Some q) t u h e w f = absurd e
 
 -- a lower value is stored in both
-pub store-below : (v : ShownImage) → ClassLaws v.shapes → (a b : LiveContext) (d : Operand) (t u : Ty) → LiveBelow v.shapes a b → writable v b d ≡ true
-    → sub v.shapes t u ≡ true → LiveBelow v.shapes (store v d t a) (store v d u b)
+pub store-below : (v : ShownImage) → ClassLaws v.shapes → (a b : LiveContext) (pc : ℕ) (d : Operand) (t u : Ty) → LiveBelow v.shapes a b → writable (resolve v b pc d) ≡ true
+    → sub v.shapes t u ≡ true → LiveBelow v.shapes (store (resolve v a pc d) t a) (store (resolve v b pc d) u b)
 unfolding store writable operand_place
-store-below v l a b (R r) t u h w e = write-below v.shapes a b r t u h e
-store-below v l a b (M m) t u h w e = store_memory-below v.shapes a b _ _ t u h (place-below v.shapes l v.statics a b m h) w e
-store-below v l a b (I n) t u h w e = h
+store-below v l a b pc (R r) t u h w e = write-below v.shapes a b r t u h e
+store-below v l a b pc (M m) t u h w e = store_memory-below v.shapes a b _ _ t u h (place-below v.shapes l v.statics a b m h) w e
+store-below v l a b pc (I n) t u h w e = h
 
 -- the upper half of a wide result is written in both
 write_high-below : (s : ShapesView) (a b : LiveContext) (r : Bool) → LiveBelow s a b → LiveBelow s (write_high r a) (write_high r b)
@@ -174,11 +174,11 @@ pub after_form-below : (v : ShownImage) → ClassLaws v.shapes → (a b : LiveCo
 unfolding after_form operand_rule
 after_form-below v l a b pc Refused h one e = h
 after_form-below v l a b pc (Compute xs d r k) h one e =
-    let w : writable v b d ≡ true = grind arith in
-    give_kind-below v.shapes _ _ k (write_high-below v.shapes _ _ r (store-below v l a b d Num Num h w (sub-refl v.shapes Num)))
+    let w : writable (resolve v b pc d) ≡ true = grind arith in
+    give_kind-below v.shapes _ _ k (write_high-below v.shapes _ _ r (store-below v l a b pc d Num Num h w (sub-refl v.shapes Num)))
 after_form-below v l a b pc (Move d x) h one e =
-    let w : writable v b d ≡ true = grind arith in
-    note_head-below v.shapes _ _ d _ _ (store-below v l a b d _ _ h w (operand_type-below v l a b pc x h)) (operand_place-below v l a b x h)
+    let w : writable (resolve v b pc d) ≡ true = grind arith in
+    note_head-below v.shapes _ _ d _ _ (store-below v l a b pc d _ _ h w (operand_type-below v l a b pc x h)) (operand_place-below v l a b x h)
 after_form-below v l a b pc (Address r m) h one e = write-below v.shapes a b r Num Num h (sub-refl v.shapes Num)
 after_form-below v l a b pc (Compare d x) h one e = with_kind-below v.shapes a b _ _ h (kind_given-below _ _ (compare_kind-below v l a b pc d x h one))
 after_form-below v l a b pc (TestBits d x) h one e = with_kind-below v.shapes a b _ _ h (kind_given-below _ _ (test_kind-below v l a b pc d x h))

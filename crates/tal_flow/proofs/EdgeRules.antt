@@ -20,7 +20,8 @@ use Rattle.tal_flow.specs.Flows.{Flows, FormFlows}
 use Rattle.tal_flow.specs.declared.trials.RuleName.{RuleName}
 use Rattle.tal_flow.specs.declared.trials.RuleName.TheVariants as rule
 use Rattle.tal_flow.specs.Trials.{rule_number, demand}
-use Rattle.tal_flow.specs.Rules.{operand_rule, edge_fits, is_dead, edge_rule, in_function, rule_of_form, rule_of, next_address, LeastRule}
+use Rattle.tal_flow.specs.Functions.{in_function}
+use Rattle.tal_flow.specs.Rules.{operand_rule, edge_fits, is_dead, edge_rule, rule_of_form, rule_of, next_address, LeastRule}
 use Rattle.tal_flow.proofs.LeastRules.{rule-least, form-none}
 
 -- The edges of instructions, by their forms.

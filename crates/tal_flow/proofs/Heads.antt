@@ -21,8 +21,9 @@ use Rattle.tal_flow.specs.declared.places.Place.TheVariants.{Slot, Head}
 use Rattle.tal_flow.specs.declared.edges.Told.{Told}
 use Rattle.tal_flow.specs.declared.edges.Told.TheVariants.{Equal, Unequal, Below}
 use Rattle.tal_flow.specs.Forms.{form_of}
-use Rattle.tal_flow.specs.Places.{operand_place}
-use Rattle.tal_flow.specs.Afterwards.{without, write, store_place, store, add_head, note_head, write_high, give_kind, after_call, pop_to, after_form}
+use Rattle.tal_flow.specs.declared.operands.Resolved.{Resolved}
+use Rattle.tal_flow.specs.Places.{operand_place, resolve}
+use Rattle.tal_flow.specs.Afterwards.{without, write, store_place, store_at, store, add_head, note_head, write_high, give_kind, after_call, pop_to, after_form}
 use Rattle.tal_flow.specs.Edges.{refine_reg, add_pair, meet_class, meet, refine, told_by_fall, falling, falls_to}
 use Rattle.tal_flow.specs.Rules.{next_address, Falls}
 use Rattle.tal_flow.specs.Strongest.{Placed, falls_from, known_at, carried, start, at_in, At, OneHead, HasOneHead, BlocksHaveOneHead}
@@ -57,11 +58,14 @@ store_place-head c (Some (Slot i)) t h = h
 store_place-head c p t h = h
 
 -- nor a value in an operand
-store-head : (v : ShownImage) (c : LiveContext) (d : Operand) (t : Ty) → OneHead c → OneHead (store v d t c)
+store-head : (c : LiveContext) (d : Resolved) (t : Ty) → OneHead c → OneHead (store d t c)
 unfolding store
-store-head v c (R r) t h = write-head c r t h
-store-head v c (M m) t h = store_place-head c (operand_place v c (M m)) t h
-store-head v c (I n) t h = h
+store-head c d t h = go d.operand
+  where
+    go : (x : Operand) → OneHead (store_at x d.place t c)
+    go (R r) = write-head c r t h
+    go (M m) = store_place-head c d.place t h
+    go (I n) = h
 
 -- a register that was just written has no head yet
 add-head-one : (c : LiveContext) (r b : Reg) (t : Ty) → OneHead c → OneHead (add_head r b (write r t c))
@@ -73,16 +77,19 @@ add-head-one c r b t h = λ i x y e f. one_of c r b t h i x y e f
     one_of c r b t h i x y e f = grind (arith, same-cases, h i x y)
 
 -- a MOV notes a head of a register whose heads it has just dropped
-note_head-one : (v : ShownImage) (c : LiveContext) (d : Operand) (t : Ty) (p : Option Place) → OneHead c → OneHead (note_head d p (store v d t c))
+note_head-one : (c : LiveContext) (d : Resolved) (t : Ty) (p : Option Place) → OneHead c → OneHead (note_head d.operand p (store d t c))
 unfolding note_head store
-note_head-one v c (R r) t (Some (Head b k)) h = go (same b r)
+note_head-one c d t p h = go d.operand p
   where
-    go : (x : Bool) → OneHead (if x then write r t c else add_head r b (write r t c))
-    go true = write-head c r t h
-    go false = add-head-one c r b t h
-note_head-one v c (R r) t p h = write-head c r t h
-note_head-one v c (M m) t p h = store-head v c (M m) t h
-note_head-one v c (I n) t p h = h
+    noted : (r b : Reg) (x : Bool) → OneHead (if x then write r t c else add_head r b (write r t c))
+    noted r b true = write-head c r t h
+    noted r b false = add-head-one c r b t h
+
+    go : (x : Operand) (p : Option Place) → OneHead (note_head x p (store_at x d.place t c))
+    go (R r) (Some (Head b k)) = noted r b (same b r)
+    go (R r) p = write-head c r t h
+    go (M m) p = store_place-head c d.place t h
+    go (I n) p = h
 
 -- a call leaves no heads
 after_call-head : (c : LiveContext) (t : Ty) → OneHead (after_call t c)
@@ -97,8 +104,8 @@ pop_to-head c r h = write-head c r _ h
 -- what an instruction leaves has one head at most
 after_form-head : (v : ShownImage) (c : LiveContext) (pc : ℕ) (f : Form) → OneHead c → OneHead (after_form v c pc f)
 unfolding after_form
-after_form-head v c pc (Compute xs d r k) h = give_kind-head _ k (write_high-head _ r (store-head v c d Num h))
-after_form-head v c pc (Move d x) h = note_head-one v c d _ (operand_place v c x) h
+after_form-head v c pc (Compute xs d r k) h = give_kind-head _ k (write_high-head _ r (store-head c (resolve v c pc d) Num h))
+after_form-head v c pc (Move d x) h = note_head-one c (resolve v c pc d) _ (operand_place v c x) h
 after_form-head v c pc (Address r m) h = write-head c r Num h
 after_form-head v c pc (PopTo r) h = pop_to-head c r h
 after_form-head v c pc (CallTo t) h = after_call-head c _

@@ -21,7 +21,7 @@ use Rattle.tal_flow.specs.declared.places.Place.TheVariants.{Slot, Head}
 use Rattle.tal_flow.specs.declared.edges.Told.{Told}
 use Rattle.tal_flow.specs.declared.edges.Told.TheVariants.{Equal, Unequal, Below}
 use Rattle.tal_flow.specs.Forms.{form_of}
-use Rattle.tal_flow.specs.Places.{spares_esp, operand_place}
+use Rattle.tal_flow.specs.Places.{spares_esp, operand_place, resolve}
 use Rattle.tal_flow.specs.Afterwards.{write, store_place, store, add_head, note_head, write_high, give_kind, after_call, pop_to, after_form}
 use Rattle.tal_flow.specs.Edges.{refine_reg, add_pair, not_null, meet_class, meet, refine, told_by_fall, falling, falls_to}
 use Rattle.tal_flow.specs.Rules.{operand_rule, address_spares_esp, rule_of_form, rule_of, next_address, Falls}
@@ -53,11 +53,11 @@ store_place-esp c (Some (Slot i)) t h = h
 store_place-esp c p t h = h
 
 -- a value in an operand that is not ESP
-store-esp : (v : ShownImage) (c : LiveContext) (d : Operand) (t : Ty) → spares_esp d ≡ true → c.regs Esp ≡ Junk → (store v d t c).regs Esp ≡ Junk
+store-esp : (v : ShownImage) (c : LiveContext) (pc : ℕ) (d : Operand) (t : Ty) → spares_esp d ≡ true → c.regs Esp ≡ Junk → (store (resolve v c pc d) t c).regs Esp ≡ Junk
 unfolding store spares_esp
-store-esp v c (R r) t e h = write-esp c r t (grind arith) h
-store-esp v c (M m) t e h = store_place-esp c (operand_place v c (M m)) t h
-store-esp v c (I n) t e h = h
+store-esp v c pc (R r) t e h = write-esp c r t (grind arith) h
+store-esp v c pc (M m) t e h = store_place-esp c (operand_place v c (M m)) t h
+store-esp v c pc (I n) t e h = h
 
 -- a head that is noted leaves all registers
 note_head-esp : (c : LiveContext) (d : Operand) (p : Option Place) → c.regs Esp ≡ Junk → (note_head d p c).regs Esp ≡ Junk
@@ -72,8 +72,8 @@ note_head-esp c d p h = h
 -- what an instruction leaves, where no rule of its operands fails
 after_form-esp : (v : ShownImage) (c : LiveContext) (pc : ℕ) (f : Form) → operand_rule v c pc f ≡ None → c.regs Esp ≡ Junk → (after_form v c pc f).regs Esp ≡ Junk
 unfolding after_form operand_rule address_spares_esp give_kind pop_to after_call same
-after_form-esp v c pc (Compute xs d wide k) e h = write_high-esp _ wide (store-esp v c d Num (grind arith) h)
-after_form-esp v c pc (Move d x) e h = note_head-esp _ d (operand_place v c x) (store-esp v c d _ (grind arith) h)
+after_form-esp v c pc (Compute xs d wide k) e h = write_high-esp _ wide (store-esp v c pc d Num (grind arith) h)
+after_form-esp v c pc (Move d x) e h = note_head-esp _ d (operand_place v c x) (store-esp v c pc d _ (grind arith) h)
 after_form-esp v c pc (Address r m) e h = write-esp c r Num (grind arith) h
 after_form-esp v c pc (PopTo r) e h = write-esp c r _ (grind arith) h
 after_form-esp v c pc (CallTo t) e h = refl

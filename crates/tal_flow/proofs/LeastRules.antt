@@ -13,6 +13,7 @@ use Rattle.tal_flow.specs.Forms.{form_of}
 use Rattle.tal_flow.specs.declared.trials.RuleName.{RuleName}
 use Rattle.tal_flow.specs.declared.trials.Trial.{Trial}
 use Rattle.tal_flow.specs.Trials.{rule_number, demand, first_failing, fails_in}
+use Rattle.tal_flow.specs.Seen.{see}
 use Rattle.tal_flow.specs.Rules.{operand_trials, operand_rule, edge_trials, edge_rule, trials, rule_of_form, rule_of, next_address, NoRuleFails, LeastRule}
 
 -- the numbers of the rules rise, from above n on
@@ -90,7 +91,7 @@ first-of-form : (v : ShownImage) (c : ContextView) (pc next : ℕ) (form : Form)
 unfolding rule_of_form operand_rule edge_rule
 first-of-form v Dead pc next Refused = refl
 first-of-form v Dead pc next form = refl
-first-of-form v (Live c) pc next form = sym (first-append (operand_trials v c pc form) (edge_trials v c pc next form))
+first-of-form v (Live c) pc next form = sym (first-append (operand_trials c (see v c pc form)) (edge_trials v c pc next form))
 
 -- each form's rules are tried in their order
 form-ascends : (v : ShownImage) (c : ContextView) (pc next : ℕ) (form : Form) → ascends 0 (trials v c pc next form) ≡ true

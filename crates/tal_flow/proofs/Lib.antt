@@ -11,3 +11,4 @@ pub mod Fields
 pub mod SlotRoom
 pub mod EdgeRules
 pub mod JunkEsp
+pub mod Seeing

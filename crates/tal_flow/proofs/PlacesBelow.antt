@@ -20,7 +20,7 @@ use Rattle.tal_types.specs.Shown.{ShownImage}
 use Rattle.tal_types.proofs.Orders.{sub-refl, sub-trans, within-refl}
 use Rattle.tal_flow.specs.declared.places.Place.{Place}
 use Rattle.tal_flow.specs.declared.places.Place.TheVariants.{Whole, Slot, Length, Head, Method, Display}
-use Rattle.tal_flow.specs.Places.{field_place, static_place, slot_place, object_place, array_place, element_place, display_place, table_place, based, stack_place, located, place_in, place_type, is_readable, is_writable, takes, operand_place, immediate_type, operand_type, found, readable, writable, is_num, storable}
+use Rattle.tal_flow.specs.Places.{field_place, static_place, slot_place, object_place, array_place, element_place, display_place, table_place, based, stack_place, located, place_in, place_type, is_readable, is_writable, takes, operand_place, immediate_type, operand_type, resolve, found, readable, writable, is_num, storable}
 
 -- Places and operands in two contexts, one below the other.
 
@@ -214,12 +214,12 @@ is_found-below s p None h e = absurd (grind arith)
 is_found-below s (Some p) (Some q) h e = refl
 is_found-below s None (Some q) h e = absurd h
 
--- rule 3 of one operand
-pub found-below : (v : ShownImage) → ClassLaws v.shapes → (a b : LiveContext) (x : Operand) → LiveBelow v.shapes a b → found v b x ≡ true → found v a x ≡ true
-unfolding found
-found-below v l a b (R r) h e = e
-found-below v l a b (M m) h e = is_found-below v.shapes _ _ (place-below v.shapes l v.statics a b m h) e
-found-below v l a b (I n) h e = e
+-- a memory operand that is a place in the higher context is one in the lower
+pub found-below : (v : ShownImage) → ClassLaws v.shapes → (a b : LiveContext) (pc : ℕ) (x : Operand) → LiveBelow v.shapes a b → found (resolve v b pc x) ≡ true → found (resolve v a pc x) ≡ true
+unfolding found operand_place
+found-below v l a b pc (R r) h e = e
+found-below v l a b pc (M m) h e = is_found-below v.shapes _ _ (place-below v.shapes l v.statics a b m h) e
+found-below v l a b pc (I n) h e = e
 
 -- a place that may be read may be read below
 is_readable-below : (s : ShapesView) (p q : Place) → PlaceBelow s p q → is_readable q ≡ true → is_readable p ≡ true
@@ -242,13 +242,13 @@ read-below s p None h d e = absurd (grind arith)
 read-below s (Some p) (Some q) h d e = is_readable-below s p q h e
 read-below s None (Some q) h d e = absurd h
 
--- rule 4 of an operand that is read
-pub readable-below : (v : ShownImage) → ClassLaws v.shapes → (a b : LiveContext) (x : Operand) → LiveBelow v.shapes a b → found v b x ≡ true → readable v b x ≡ true
-    → readable v a x ≡ true
+-- so is it with an operand that is read
+pub readable-below : (v : ShownImage) → ClassLaws v.shapes → (a b : LiveContext) (pc : ℕ) (x : Operand) → LiveBelow v.shapes a b → found (resolve v b pc x) ≡ true
+    → readable (resolve v b pc x) ≡ true → readable (resolve v a pc x) ≡ true
 unfolding readable found operand_place
-readable-below v l a b (R r) h d e = e
-readable-below v l a b (M m) h d e = read-below v.shapes _ _ (place-below v.shapes l v.statics a b m h) d e
-readable-below v l a b (I n) h d e = e
+readable-below v l a b pc (R r) h d e = e
+readable-below v l a b pc (M m) h d e = read-below v.shapes _ _ (place-below v.shapes l v.statics a b m h) d e
+readable-below v l a b pc (I n) h d e = e
 
 -- an operand that may be written in the higher context may be written in the lower
 written-below : (s : ShapesView) (p q : Option Place) → FoundBelow s p q → option_map_or is_writable q false ≡ true → option_map_or is_writable p false ≡ true
@@ -256,14 +256,15 @@ written-below s p None h e = absurd (grind arith)
 written-below s (Some p) (Some q) h e = is_writable-below s p q h e
 written-below s None (Some q) h e = absurd h
 
--- rule 4 of an operand that is written
-pub writable-below : (v : ShownImage) → ClassLaws v.shapes → (a b : LiveContext) (x : Operand) → LiveBelow v.shapes a b → writable v b x ≡ true → writable v a x ≡ true
-unfolding writable
-writable-below v l a b (R r) h e = e
-writable-below v l a b (M m) h e = written-below v.shapes _ _ (place-below v.shapes l v.statics a b m h) e
-writable-below v l a b (I n) h e = e
+-- and with one that is written
+pub writable-below : (v : ShownImage) → ClassLaws v.shapes → (a b : LiveContext) (pc : ℕ) (x : Operand) → LiveBelow v.shapes a b → writable (resolve v b pc x) ≡ true
+    → writable (resolve v a pc x) ≡ true
+unfolding writable operand_place
+writable-below v l a b pc (R r) h e = e
+writable-below v l a b pc (M m) h e = written-below v.shapes _ _ (place-below v.shapes l v.statics a b m h) e
+writable-below v l a b pc (I n) h e = e
 
--- rule 5: no type but Num is below Num
+-- no type but Num is below Num
 pub is_num-below : (s : ShapesView) (t u : Ty) → sub s t u ≡ true → is_num u ≡ true → is_num t ≡ true
 unfolding is_num sub
 is_num-below s t u h e = grind arith
@@ -275,13 +276,13 @@ taken-below s l t u p None h g w e = absurd (grind arith)
 taken-below s l t u (Some p) (Some q) h g w e = takes-below s l t u p q h g e
 taken-below s l t u None (Some q) h g w e = absurd h
 
--- rule 6: what is lower is stored in the same place
-pub storable-below : (v : ShownImage) → ClassLaws v.shapes → (a b : LiveContext) (x : Operand) (t u : Ty) → LiveBelow v.shapes a b → sub v.shapes t u ≡ true
-    → writable v b x ≡ true → storable v b u x ≡ true → storable v a t x ≡ true
+-- what is lower is stored in the same place
+pub storable-below : (v : ShownImage) → ClassLaws v.shapes → (a b : LiveContext) (pc : ℕ) (x : Operand) (t u : Ty) → LiveBelow v.shapes a b → sub v.shapes t u ≡ true
+    → writable (resolve v b pc x) ≡ true → storable v.shapes u (resolve v b pc x) ≡ true → storable v.shapes t (resolve v a pc x) ≡ true
 unfolding storable writable operand_place
-storable-below v l a b (R r) t u h g w e = refl
-storable-below v l a b (M m) t u h g w e = taken-below v.shapes l t u _ _ (place-below v.shapes l v.statics a b m h) g w e
-storable-below v l a b (I n) t u h g w e = refl
+storable-below v l a b pc (R r) t u h g w e = refl
+storable-below v l a b pc (M m) t u h g w e = taken-below v.shapes l t u _ _ (place-below v.shapes l v.statics a b m h) g w e
+storable-below v l a b pc (I n) t u h g w e = refl
 
 -- lists of operands
 
@@ -290,20 +291,21 @@ all-below : (p q : Operand → Bool) (xs : List Operand) → ((x : Operand) → 
 all-below p q [] h e = e
 all-below p q (x ∷ xs) h e = let f = and_parts (q x) _ e in rw (h x f.0) (all-below p q xs h f.1)
 
--- rule 3 of all sources
-pub all_found-below : (v : ShownImage) → ClassLaws v.shapes → (a b : LiveContext) (xs : List Operand) → LiveBelow v.shapes a b → list_all (found v b) xs ≡ true
-    → list_all (found v a) xs ≡ true
-all_found-below v l a b xs h e = all-below (found v a) (found v b) xs (λ x. found-below v l a b x h) e
+-- all sources are places
+pub all_found-below : (v : ShownImage) → ClassLaws v.shapes → (a b : LiveContext) (pc : ℕ) (xs : List Operand) → LiveBelow v.shapes a b
+    → list_all (λ x. found (resolve v b pc x)) xs ≡ true → list_all (λ x. found (resolve v a pc x)) xs ≡ true
+all_found-below v l a b pc xs h e = all-below (λ x. found (resolve v a pc x)) (λ x. found (resolve v b pc x)) xs (λ x. found-below v l a b pc x h) e
 
--- rule 5 of all sources
+-- all are numbers
 pub all_num-below : (v : ShownImage) → ClassLaws v.shapes → (a b : LiveContext) (pc : ℕ) (xs : List Operand) → LiveBelow v.shapes a b
     → list_all (λ x. is_num (operand_type v b pc x)) xs ≡ true → list_all (λ x. is_num (operand_type v a pc x)) xs ≡ true
-all_num-below v l a b pc xs h e = all-below (λ x. is_num (operand_type v a pc x)) (λ x. is_num (operand_type v b pc x)) xs (λ x. is_num-below v.shapes _ _ (operand_type-below v l a b pc x h)) e
+all_num-below v l a b pc xs h e =
+    all-below (λ x. is_num (operand_type v a pc x)) (λ x. is_num (operand_type v b pc x)) xs (λ x. is_num-below v.shapes _ _ (operand_type-below v l a b pc x h)) e
 
--- rule 4 of all sources
-pub all_readable-below : (v : ShownImage) → ClassLaws v.shapes → (a b : LiveContext) (xs : List Operand) → LiveBelow v.shapes a b → list_all (found v b) xs ≡ true
-    → list_all (readable v b) xs ≡ true → list_all (readable v a) xs ≡ true
-all_readable-below v l a b [] h d e = e
-all_readable-below v l a b (x ∷ xs) h d e =
-    let f = and_parts (found v b x) _ d in let g = and_parts (readable v b x) _ e in
-    rw (readable-below v l a b x h f.0 g.0) (all_readable-below v l a b xs h f.1 g.1)
+-- all may be read
+pub all_readable-below : (v : ShownImage) → ClassLaws v.shapes → (a b : LiveContext) (pc : ℕ) (xs : List Operand) → LiveBelow v.shapes a b
+    → list_all (λ x. found (resolve v b pc x)) xs ≡ true → list_all (λ x. readable (resolve v b pc x)) xs ≡ true → list_all (λ x. readable (resolve v a pc x)) xs ≡ true
+all_readable-below v l a b pc [] h d e = e
+all_readable-below v l a b pc (x ∷ xs) h d e =
+    let f = and_parts (found (resolve v b pc x)) _ d in let g = and_parts (readable (resolve v b pc x)) _ e in
+    rw (readable-below v l a b pc x h f.0 g.0) (all_readable-below v l a b pc xs h f.1 g.1)

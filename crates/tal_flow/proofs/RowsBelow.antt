@@ -15,10 +15,10 @@ use Rattle.tal_flow.specs.declared.places.Place.{Place}
 use Rattle.tal_flow.specs.declared.places.Place.TheVariants.{Display}
 use Rattle.tal_flow.specs.declared.rows.Family.{Family}
 use Rattle.tal_flow.specs.declared.rows.Family.TheVariants.{Numbers, Others}
-use Rattle.tal_flow.specs.Places.{place_type, operand_place, immediate_type, operand_type}
-use Rattle.tal_flow.specs.Rows.{family, has_null, unmarked_zero, marked_class, base_of_length, length_base, first_head, class_test, display_row, bound_kind, compare_row, compare_kind, test_row, test_kind}
+use Rattle.tal_flow.specs.Places.{place_type, operand_place, operand_type, resolve, is_num}
+use Rattle.tal_flow.specs.Rows.{family, has_null, is_zero, marked_class, base_of_length, length_base, first_head, class_test, display_row, bound_kind, compare_row, compare_kind, test_row, test_kind}
 use Rattle.tal_flow.specs.Strongest.{OneHead}
-use Rattle.tal_flow.proofs.PlacesBelow.{FoundBelow, place-below, operand_place-below, operand_type-below}
+use Rattle.tal_flow.proofs.PlacesBelow.{FoundBelow, operand_place-below, operand_type-below}
 
 -- The kinds that CMP and TEST give in two contexts, one below the other.
 
@@ -141,34 +141,48 @@ display-other v a pc (R r) e = absurd (grind arith)
 display-other v a pc (M m) e = grind arith
 display-other v a pc (I n) e = absurd (grind arith)
 
--- an unmarked 0 is a number
-zero-number : (v : ShownImage) (a : LiveContext) (pc : ℕ) (x : Operand) → unmarked_zero v pc x ≡ true → family (operand_type v a pc x) ≡ Numbers
-unfolding operand_type unmarked_zero immediate_type family
-zero-number v a pc x e = grind arith
+-- a 0 is a number
+zero-number : (x : Operand) (t : Ty) → is_zero x t ≡ true → family t ≡ Numbers
+unfolding is_zero is_num family
+zero-number x t e = grind arith
+
+-- whether an operand is 0, and its class, are the same in both contexts
+zero-same : (v : ShownImage) (a b : LiveContext) (pc : ℕ) (x : Operand) → is_zero x (operand_type v a pc x) ≡ is_zero x (operand_type v b pc x)
+unfolding is_zero operand_type
+zero-same v a b pc (R r) = refl
+zero-same v a b pc (M m) = refl
+zero-same v a b pc (I n) = refl
+
+class-same : (v : ShownImage) (a b : LiveContext) (pc : ℕ) (x : Operand) → marked_class x (operand_type v a pc x) ≡ marked_class x (operand_type v b pc x)
+unfolding marked_class operand_type
+class-same v a b pc (R r) = refl
+class-same v a b pc (M m) = refl
+class-same v a b pc (I n) = refl
 
 -- a length in the higher context is one in the lower
 length-below : (s : ShapesView) (p q : Option Place) (base : Option Reg) → FoundBelow s p q → ArrayBelow (base_of_length p base) (base_of_length q base)
 length-below s p q base h = grind arith
 
 -- and it is the length of the array in the same register
-length_base-below : (v : ShownImage) → ClassLaws v.shapes → (a b : LiveContext) (x : Operand) → LiveBelow v.shapes a b → ArrayBelow (length_base v a x) (length_base v b x)
+length_base-below : (s : ShapesView) (x : Operand) (p q : Option Place) → FoundBelow s p q → ArrayBelow (length_base x p) (length_base x q)
 unfolding length_base
-length_base-below v l a b (M m) h = length-below v.shapes _ _ m.base (place-below v.shapes l v.statics a b m h)
-length_base-below v l a b (R r) h = tt
-length_base-below v l a b (I n) h = tt
+length_base-below s (M m) p q h = length-below s p q m.base h
+length_base-below s (R r) p q h = tt
+length_base-below s (I n) p q h = tt
 
 -- CMP gives a lower kind
 pub compare_kind-below : (v : ShownImage) → ClassLaws v.shapes → (a b : LiveContext) (pc : ℕ) (d x : Operand) → LiveBelow v.shapes a b → OneHead a
-    → KindBelow (compare_kind v a pc d x) (compare_kind v b pc d x)
+    → KindBelow (compare_kind v.shapes a (resolve v a pc d) (resolve v a pc x)) (compare_kind v.shapes b (resolve v b pc d) (resolve v b pc x))
 unfolding compare_kind
 compare_kind-below v l a b pc d x h one =
-    compare_row-below v.shapes a b d _ _ _ _ _ _ _ _ (unmarked_zero v pc x) (marked_class v pc x) h one
+    rw (← zero-same v a b pc x, ← class-same v a b pc x)
+    (compare_row-below v.shapes a b d _ _ _ _ _ _ _ _ (is_zero x (operand_type v a pc x)) (marked_class x (operand_type v a pc x)) h one
     (display-other v a pc d)
-    (zero-number v a pc x)
+    (zero-number x (operand_type v a pc x))
     (family-below v.shapes _ _ (operand_type-below v l a b pc d h))
     (family-below v.shapes _ _ (operand_type-below v l a b pc x h))
     (operand_place-below v l a b d h)
-    (length_base-below v l a b x h)
+    (length_base-below v.shapes x _ _ (operand_place-below v l a b x h)))
 
 -- the row of TEST by its parts
 test_row-below : (d : Operand) (f f' g g' : Family) (z : Bool) → FamilyBelow f f' → FamilyBelow g g' → KindBelow (test_row d f g z) (test_row d f' g' z)
@@ -177,6 +191,6 @@ test_row-below d f f' g g' z e i = grind (arith, same-refl)
 
 -- TEST gives a lower kind
 pub test_kind-below : (v : ShownImage) → ClassLaws v.shapes → (a b : LiveContext) (pc : ℕ) (d x : Operand) → LiveBelow v.shapes a b
-    → KindBelow (test_kind v a pc d x) (test_kind v b pc d x)
+    → KindBelow (test_kind (resolve v a pc d) (resolve v a pc x)) (test_kind (resolve v b pc d) (resolve v b pc x))
 unfolding test_kind
 test_kind-below v l a b pc d x h = test_row-below d _ _ _ _ _ (family-below v.shapes _ _ (operand_type-below v l a b pc d h)) (family-below v.shapes _ _ (operand_type-below v l a b pc x h))

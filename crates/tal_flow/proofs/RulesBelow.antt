@@ -19,11 +19,11 @@ use Rattle.tal_types.proofs.Orders.{sub-trans}
 use Rattle.tal_flow.specs.declared.forms.Form.{Form}
 use Rattle.tal_flow.specs.declared.forms.Form.TheVariants.{Refused, Compute, Move, Address, Compare, TestBits, PushOf, PopTo, DropSlots, CallTo, CallBy, Return, Jump, Branch, Nothing}
 use Rattle.tal_flow.specs.declared.calls.Called.{Called}
-use Rattle.tal_flow.specs.Places.{operand_type, writable, storable, is_num}
-use Rattle.tal_flow.specs.Rows.{compare_kind, test_kind}
+use Rattle.tal_flow.specs.Places.{operand_type, resolve, writable, storable, is_num}
 use Rattle.tal_flow.specs.Calls.{call_to, call_by, is_callable, is_fit}
 use Rattle.tal_flow.specs.Edges.{allows}
-use Rattle.tal_flow.specs.Rules.{operand_rule, fits_result, address_is_num, may_drop}
+use Rattle.tal_flow.specs.Functions.{fits_result}
+use Rattle.tal_flow.specs.Rules.{operand_rule, address_is_num, may_drop}
 use Rattle.tal_flow.specs.Strongest.{OneHead}
 use Rattle.tal_flow.proofs.PlacesBelow.{operand_type-below, found-below, readable-below, writable-below, storable-below, all_found-below, all_readable-below, all_num-below, is_num-below}
 use Rattle.tal_flow.proofs.RowsBelow.{KindBelow, compare_kind-below, test_kind-below}
@@ -49,9 +49,9 @@ kind_there : (j k : Option FlagKind) → KindBelow j k → is_some k ≡ true �
 kind_there j k h e = grind arith
 
 -- a lower value may be stored where a higher one may
-stored-below : (v : ShownImage) → ClassLaws v.shapes → (a b : LiveContext) (pc : ℕ) (d x : Operand) → LiveBelow v.shapes a b → writable v b d ≡ true
-    → storable v b (operand_type v b pc x) d ≡ true → storable v a (operand_type v a pc x) d ≡ true
-stored-below v l a b pc d x h w e = storable-below v l a b d _ _ h (operand_type-below v l a b pc x h) w e
+stored-below : (v : ShownImage) → ClassLaws v.shapes → (a b : LiveContext) (pc : ℕ) (d x : Operand) → LiveBelow v.shapes a b → writable (resolve v b pc d) ≡ true
+    → storable v.shapes (operand_type v b pc x) (resolve v b pc d) ≡ true → storable v.shapes (operand_type v a pc x) (resolve v a pc d) ≡ true
+stored-below v l a b pc d x h w e = storable-below v l a b pc d _ _ h (operand_type-below v l a b pc x h) w e
 
 -- a register of an address that holds a number above holds one below
 reg_num-below : (s : ShapesView) (a b : LiveContext) (o : Option Reg) → LiveBelow s a b → option_map_or (λ q. is_num (b.regs q)) o true ≡ true
@@ -103,17 +103,22 @@ pub operand_rule-below : (v : ShownImage) → ClassLaws v.shapes → (a b : Live
     → operand_rule v b pc f ≡ None → operand_rule v a pc f ≡ None
 unfolding operand_rule
 operand_rule-below v l a b pc Refused h one e = absurd (grind arith)
-operand_rule-below v l a b pc (Compute xs d rs k) h one e = grind (arith, all_found-below v l a b, all_readable-below v l a b, found-below v l a b, writable-below v l a b, all_num-below v l a b)
-operand_rule-below v l a b pc (Move d x) h one e = grind (arith, found-below v l a b, readable-below v l a b, writable-below v l a b, stored-below v l a b)
+operand_rule-below v l a b pc (Compute xs d rs k) h one e =
+    grind (arith, all_found-below v l a b pc xs h, all_readable-below v l a b pc xs h, found-below v l a b pc d h, writable-below v l a b pc d h, all_num-below v l a b pc xs h)
+operand_rule-below v l a b pc (Move d x) h one e =
+    grind (arith, found-below v l a b pc d h, found-below v l a b pc x h, readable-below v l a b pc x h, writable-below v l a b pc d h, stored-below v l a b pc d x h)
 operand_rule-below v l a b pc (Address r m) h one e = grind (arith, address-below v.shapes a b m h)
-operand_rule-below v l a b pc (Compare d x) h one e = grind (arith, found-below v l a b, kind_there (compare_kind v a pc d x) (compare_kind v b pc d x) (compare_kind-below v l a b pc d x h one))
-operand_rule-below v l a b pc (TestBits d x) h one e = grind (arith, found-below v l a b, readable-below v l a b, kind_there (test_kind v a pc d x) (test_kind v b pc d x) (test_kind-below v l a b pc d x h))
-operand_rule-below v l a b pc (PushOf x) h one e = rw (slots-length v.shapes a.slots b.slots h.slots) (grind (arith, found-below v l a b, readable-below v l a b))
+operand_rule-below v l a b pc (Compare d x) h one e =
+    grind (arith, found-below v l a b pc d h, found-below v l a b pc x h, kind_there _ _ (compare_kind-below v l a b pc d x h one))
+operand_rule-below v l a b pc (TestBits d x) h one e =
+    grind (arith, found-below v l a b pc d h, found-below v l a b pc x h, readable-below v l a b pc d h, readable-below v l a b pc x h, kind_there _ _ (test_kind-below v l a b pc d x h))
+operand_rule-below v l a b pc (PushOf x) h one e = rw (slots-length v.shapes a.slots b.slots h.slots) (grind (arith, found-below v l a b pc x h, readable-below v l a b pc x h))
 operand_rule-below v l a b pc (PopTo r) h one e = rw (slots-length v.shapes a.slots b.slots h.slots) e
 operand_rule-below v l a b pc (DropSlots n) h one e = grind (arith, may_drop-below v.shapes a b n h)
 operand_rule-below v l a b pc (CallTo t) h one e = grind (arith, call_to-holds v l a b t h)
-operand_rule-below v l a b pc (CallBy x) h one e = grind (arith, found-below v l a b, readable-below v l a b, call_by-holds v l a b pc x h)
-operand_rule-below v l a b pc Return h one e = rw (slots-length v.shapes a.slots b.slots h.slots) (grind (arith, fits_result-below v l pc (a.regs Eax) (b.regs Eax) (h.regs Eax)))
+operand_rule-below v l a b pc (CallBy x) h one e = grind (arith, found-below v l a b pc x h, readable-below v l a b pc x h, call_by-holds v l a b pc x h)
+operand_rule-below v l a b pc Return h one e =
+    rw (slots-length v.shapes a.slots b.slots h.slots) (grind (arith, fits_result-below v l pc (a.regs Eax) (b.regs Eax) (h.regs Eax)))
 operand_rule-below v l a b pc (Jump t) h one e = e
 operand_rule-below v l a b pc (Branch k t) h one e = grind (arith, allows-below a.kind b.kind k h.kind)
 operand_rule-below v l a b pc Nothing h one e = refl

@@ -1,4 +1,4 @@
-use Rattle.std.proofs.Common.{◌≡◌, ◌≢◌, ℕ, zero, suc, ◌<◌, Bool, true, false, if◌then◌else◌, Option, Some, None, List, [], ◌∷◌, length, slice_get, is_some, sym, ◌∙◌, arith}
+use Rattle.std.proofs.Common.{◌≡◌, ◌≢◌, ℕ, zero, suc, ◌<◌, Bool, true, false, if◌then◌else◌, Option, Some, None, List, [], ◌∷◌, length, slice_get, is_some, arith}
 use Rattle.std.specs.Option.{option_map, option_and_then}
 use Rattle.ia32_code.specs.declared.instruction.Reg.{Reg}
 use Rattle.ia32_code.specs.declared.instruction.Reg.TheVariants.{Esp}
@@ -10,7 +10,6 @@ use Rattle.object_layout.specs.Classes.{ShapesView}
 use Rattle.tal_types.specs.declared.types.Ty.{Ty}
 use Rattle.tal_types.specs.Contexts.{LiveContext, same}
 use Rattle.tal_types.specs.Shown.{ShownImage}
-use Rattle.tal_flow.specs.declared.places.Place.{Place}
 use Rattle.tal_flow.specs.declared.places.Place.TheVariants.{Slot, Method}
 use Rattle.tal_flow.specs.Places.{field_place, static_place, slot_place, object_place, array_place, element_place, display_place, table_place, based, stack_place, located, place_in, operand_place}
 
@@ -64,12 +63,8 @@ located-room s statics c (Some r) x k n i e = go (same r Esp) x e
     go false x f = absurd (based-no_slot s c r (c.regs r) x k n i f)
 
 -- and so is that of an operand
-place-room : (v : ShownImage) (c : LiveContext) (x : Operand) (i : ℕ) → operand_place v c x ≡ Some (Slot i) → i < length c.slots
+pub place-room : (v : ShownImage) (c : LiveContext) (x : Operand) (i : ℕ) → operand_place v c x ≡ Some (Slot i) → i < length c.slots
 unfolding operand_place place_in
 place-room v c (R r) i e = absurd (grind arith)
 place-room v c (M m) i e = located-room v.shapes v.statics c m.base m.index m.scale m.disp i e
 place-room v c (I n) i e = absurd (grind arith)
-
--- the same of a place that a call gave
-pub slot_room : (v : ShownImage) (c : LiveContext) (x : Operand) (i : ℕ) (p : Option Place) → p ≡ operand_place v c x → p ≡ Some (Slot i) → i < length c.slots
-slot_room v c x i p f e = place-room v c x i (sym f ∙ e)

@@ -2,6 +2,8 @@ pub mod Forms
 pub mod Places
 pub mod Rows
 pub mod Calls
+pub mod Functions
+pub mod Seen
 pub mod Afterwards
 pub mod Edges
 pub mod Trials

@@ -1,5 +1,6 @@
 -- What operands are: the places of memory operands and the types of operands.
 use Rattle.std.specs.Prelude.{ℕ, ◌==◌, Bool, true, false, not, ◌&&◌, ◌||◌, nat_le, List, Option, Some, None, slice_get, slice_index_or, is_some, if◌then◌else◌}
+use Rattle.std.specs.List.{list_all}
 use Rattle.std.specs.Option.{option_map, option_and_then, option_map_or}
 use Rattle.ia32_code.specs.declared.instruction.Reg.{Reg}
 use Rattle.ia32_code.specs.declared.instruction.Reg.TheVariants.{Esp}
@@ -15,6 +16,8 @@ use Rattle.tal_types.specs.declared.views.Mark.{Mark}
 use Rattle.tal_types.specs.Types.{of_field, sub}
 use Rattle.tal_types.specs.Contexts.{LiveContext, ContextView, Dead, Live, same}
 use Rattle.tal_types.specs.Shown.{ShownImage}
+use Rattle.tal_flow.specs.declared.operands.Resolved.{Resolved}
+use Rattle.tal_flow.specs.declared.operands.Reads.{Reads}
 use Rattle.tal_flow.specs.declared.places.Place.{Place}
 use Rattle.tal_flow.specs.declared.places.Place.TheVariants.{Whole, Slot, Length, Head, Method, Display}
 
@@ -138,39 +141,60 @@ operand_type v c pc (R r) = c.regs r
 operand_type v c pc (M m) = option_map_or (place_type c) (place_in v.shapes v.statics c m) Junk
 operand_type v c pc (I n) = immediate_type v pc n
 
--- ---- what rules ask of one operand
-
 -- the register is there, and is ESP
 abbrev pub is_esp : Option Reg → Bool
 is_esp r = option_map_or (λ q. same q Esp) r false
 
--- rule 2: ESP is named as the base of a memory operand without an index alone
+-- ESP is named as the base of a memory operand without an index alone
 unfoldable pub spares_esp : Operand → Bool
 spares_esp (R r) = not (same r Esp)
 spares_esp (M m) = not (is_esp m.index) && not (is_esp m.base && is_some m.index)
 spares_esp (I n) = true
 
--- rule 3: a memory operand is a place
-unfoldable pub found : ShownImage → LiveContext → Operand → Bool
-found v c (M m) = is_some (place_in v.shapes v.statics c m)
-found v c (R r) = true
-found v c (I n) = true
+-- an operand of the instruction at pc, as it stands in a context: whether it spares ESP, its place and its type
+abbrev pub resolve : ShownImage → LiveContext → ℕ → Operand → Resolved
+resolve v c pc x = record { operand = x; spares_esp = spares_esp x; place = operand_place v c x; ty = operand_type v c pc x }
 
--- rule 4, of what is read
-unfoldable pub readable : ShownImage → LiveContext → Operand → Bool
-readable v c x = option_map_or is_readable (operand_place v c x) true
+-- ---- what rules ask of one operand
 
--- rule 4, of what is written; an immediate is not
-unfoldable pub writable : ShownImage → LiveContext → Operand → Bool
-writable v c (M m) = option_map_or is_writable (place_in v.shapes v.statics c m) false
-writable v c (R r) = true
-writable v c (I n) = false
+-- memory is a place
+abbrev pub is_place : Operand → Option Place → Bool
+is_place (M m) place = is_some place
+is_place (R r) place = true
+is_place (I n) place = true
 
--- rule 5
+unfoldable pub found : Resolved → Bool
+found x = is_place x.operand x.place
+
+-- it may be read by other instructions than CMP
+unfoldable pub readable : Resolved → Bool
+readable x = option_map_or is_readable x.place true
+
+-- it may be written: a register, or a place that may be; an immediate is not
+abbrev pub may_write : Operand → Option Place → Bool
+may_write (M m) place = option_map_or is_writable place false
+may_write (R r) place = true
+may_write (I n) place = false
+
+unfoldable pub writable : Resolved → Bool
+writable x = may_write x.operand x.place
+
+-- it is a number
 unfoldable pub is_num : Ty → Bool
 is_num Num = true
 is_num _ = false
 
--- rule 6: a value of the type may be stored there
-unfoldable pub storable : ShownImage → LiveContext → Ty → Operand → Bool
-storable v c t x = option_map_or (takes v.shapes t) (operand_place v c x) true
+-- a value of the type may be stored there
+unfoldable pub storable : ShapesView → Ty → Resolved → Bool
+storable s t x = option_map_or (takes s t) x.place true
+
+-- ---- what rules ask of all that an operation reads
+
+-- all sources spare ESP, are found, may be read, and are numbers
+abbrev pub reads_of : ShownImage → LiveContext → ℕ → List Operand → Reads
+reads_of v c pc xs = record {
+  spares_esp = list_all (λ x. (resolve v c pc x).spares_esp) xs;
+  found = list_all (λ x. found (resolve v c pc x)) xs;
+  readable = list_all (λ x. readable (resolve v c pc x)) xs;
+  numbers = list_all (λ x. is_num (resolve v c pc x).ty) xs;
+}

@@ -1,5 +1,5 @@
 -- The rows of CMP and TEST: the flag kind that they give, by their operands.
-use Rattle.std.specs.Prelude.{ℕ, ◌==◌, Bool, true, false, not, ◌&&◌, nat_lt, length, Option, Some, None, is_some, if◌then◌else◌}
+use Rattle.std.specs.Prelude.{ℕ, ◌==◌, Bool, true, false, ◌&&◌, nat_lt, length, Option, Some, None, if◌then◌else◌}
 use Rattle.std.specs.Option.{option_map_or}
 use Rattle.ia32_code.specs.declared.instruction.Reg.{Reg}
 use Rattle.ia32_code.specs.declared.instruction.Reg.TheVariants.{Eax, Ecx, Edx, Ebx, Esp, Ebp, Esi, Edi}
@@ -11,12 +11,12 @@ use Rattle.tal_types.specs.declared.types.Ty.TheVariants as ty
 use Rattle.tal_types.specs.declared.types.FlagKind.{FlagKind}
 use Rattle.tal_types.specs.declared.types.FlagKind.TheVariants as kind
 use Rattle.tal_types.specs.Contexts.{LiveContext, same}
-use Rattle.tal_types.specs.Shown.{ShownImage}
+use Rattle.tal_flow.specs.declared.operands.Resolved.{Resolved}
 use Rattle.tal_flow.specs.declared.places.Place.{Place}
 use Rattle.tal_flow.specs.declared.places.Place.TheVariants.{Length, Display}
 use Rattle.tal_flow.specs.declared.rows.Family.{Family}
 use Rattle.tal_flow.specs.declared.rows.Family.TheVariants.{Numbers, Objects, Arrays, Routines, Others}
-use Rattle.tal_flow.specs.Places.{place_in, operand_place, operand_type, immediate_type}
+use Rattle.tal_flow.specs.Places.{is_num}
 
 -- what CMP and TEST ask of a type
 unfoldable pub family : Ty → Family
@@ -36,30 +36,30 @@ has_null Arrays = true
 has_null Routines = true
 has_null _ = false
 
--- the operand is the number 0
-unfoldable pub unmarked_zero : ShownImage → ℕ → Operand → Bool
-unmarked_zero v pc (I n) = (n == 0) && not (is_some (v.mark_at pc))
-unmarked_zero v pc _ = false
+-- the operand of the type is the number 0; a marked immediate is no number
+unfoldable pub is_zero : Operand → Ty → Bool
+is_zero (I n) t = (n == 0) && is_num t
+is_zero _ t = false
 
 -- the class whose table has the type
 abbrev pub table_class : Ty → Option ℕ
 table_class (ty.Tab c) = Some c
 table_class _ = None
 
--- the class that an immediate is marked with
-unfoldable pub marked_class : ShownImage → ℕ → Operand → Option ℕ
-marked_class v pc (I n) = table_class (immediate_type v pc n)
-marked_class v pc _ = None
+-- the class that an immediate of the type is marked with
+unfoldable pub marked_class : Operand → Ty → Option ℕ
+marked_class (I n) t = table_class t
+marked_class _ t = None
 
 -- the base, where the place is a length
 abbrev pub base_of_length : Option Place → Option Reg → Option Reg
 base_of_length (Some Length) base = base
 base_of_length _ base = None
 
--- the register of the array whose length the operand is
-unfoldable pub length_base : ShownImage → LiveContext → Operand → Option Reg
-length_base v c (M m) = base_of_length (place_in v.shapes v.statics c m) m.base
-length_base v c _ = None
+-- the register of the array whose length the operand at the place is
+unfoldable pub length_base : Operand → Option Place → Option Reg
+length_base (M m) place = base_of_length place m.base
+length_base _ place = None
 
 -- there is class c, and its depth is k
 unfoldable pub has_depth : ShapesView → ℕ → ℕ → Bool
@@ -106,9 +106,9 @@ compare_row s c d Arrays Arrays place array zero class = Some kind.Eq
 compare_row s c d f g place array zero class = if has_null f && zero then Some (null_kind d) else display_row s c place class
 
 -- the kind that CMP d,x gives
-unfoldable pub compare_kind : ShownImage → LiveContext → ℕ → Operand → Operand → Option FlagKind
-compare_kind v c pc d x =
-    compare_row v.shapes c d (family (operand_type v c pc d)) (family (operand_type v c pc x)) (operand_place v c d) (length_base v c x) (unmarked_zero v pc x) (marked_class v pc x)
+unfoldable pub compare_kind : ShapesView → LiveContext → Resolved → Resolved → Option FlagKind
+compare_kind s c d x =
+    compare_row s c d.operand (family d.ty) (family x.ty) d.place (length_base x.operand x.place) (is_zero x.operand x.ty) (marked_class x.operand x.ty)
 
 -- both operands are one register
 abbrev pub same_register : Operand → Operand → Bool
@@ -121,5 +121,5 @@ test_row d Numbers Numbers alike = Some kind.Num
 test_row d f g alike = if alike && has_null f then Some (null_kind d) else None
 
 -- the kind that TEST d,x gives
-unfoldable pub test_kind : ShownImage → LiveContext → ℕ → Operand → Operand → Option FlagKind
-test_kind v c pc d x = test_row d (family (operand_type v c pc d)) (family (operand_type v c pc x)) (same_register d x)
+unfoldable pub test_kind : Resolved → Resolved → Option FlagKind
+test_kind d x = test_row d.operand (family d.ty) (family x.ty) (same_register d.operand x.operand)

@@ -1,42 +1,28 @@
 -- The rules of typing: which are tried at an instruction, by its form, and which fail.
 use Rattle.std.specs.Prelude.{◌≡◌, ℕ, ◌+◌, ◌%◌, ◌^◌, ◌<◌, ◌==◌, Bool, true, false, not, ◌&&◌, ◌||◌, nat_le, nat_lt, List, [], ◌∷◌, ◌++◌, length, Option, Some, None, is_some}
-use Rattle.std.specs.List.{list_all}
 use Rattle.std.specs.Option.{option_map, option_and_then, option_map_or, option_or}
 use Rattle.ia32_code.specs.declared.instruction.Reg.{Reg}
-use Rattle.ia32_code.specs.declared.instruction.Reg.TheVariants.{Eax, Esp}
+use Rattle.ia32_code.specs.declared.instruction.Reg.TheVariants.{Esp}
 use Rattle.ia32_code.specs.declared.instruction.Mem.{Mem}
 use Rattle.ia32_code.specs.declared.instruction.Inst.{Inst}
 use Rattle.object_layout.specs.Classes.{ShapesView}
-use Rattle.tal_types.specs.declared.types.Ty.{Ty}
-use Rattle.tal_types.specs.declared.signatures.Sig.{Sig}
-use Rattle.tal_types.specs.declared.views.Span.{Span}
-use Rattle.tal_types.specs.Types.{sub}
 use Rattle.tal_types.specs.Contexts.{LiveContext, ContextView, Dead, Live, same, context_below}
 use Rattle.tal_types.specs.Shown.{ShownImage}
 use Rattle.tal_flow.specs.declared.forms.Form.{Form}
-use Rattle.tal_flow.specs.declared.forms.Form.TheVariants.{Refused, Compute, Move, Address, Compare, TestBits, PushOf, PopTo, DropSlots, CallTo, CallBy, Return, Jump, Branch, Nothing}
+use Rattle.tal_flow.specs.declared.forms.Form.TheVariants as form
+use Rattle.tal_flow.specs.declared.seen.Seen.{Seen}
+use Rattle.tal_flow.specs.declared.seen.Seen.TheVariants.{Refused, Compute, Move, Address, Compare, TestBits, PushOf, PopTo, DropSlots, CallTo, CallBy, Return, Jump, Branch, Nothing}
 use Rattle.tal_flow.specs.declared.trials.RuleName.{RuleName}
 use Rattle.tal_flow.specs.declared.trials.RuleName.TheVariants as rule
 use Rattle.tal_flow.specs.declared.trials.Trial.{Trial}
 use Rattle.tal_flow.specs.Trials.{rule_number, ask, fails_in, first_failing}
 use Rattle.tal_flow.specs.Forms.{form_of}
-use Rattle.tal_flow.specs.Places.{spares_esp, is_esp, found, readable, writable, is_num, storable, immediate_type, operand_type}
-use Rattle.tal_flow.specs.Rows.{compare_kind, test_kind}
-use Rattle.tal_flow.specs.Calls.{call_to, call_by, is_callable, is_fit}
+use Rattle.tal_flow.specs.Places.{is_esp, found, readable, writable, is_num}
+use Rattle.tal_flow.specs.Calls.{is_callable, is_fit}
+use Rattle.tal_flow.specs.Functions.{in_function}
+use Rattle.tal_flow.specs.Seen.{see}
 use Rattle.tal_flow.specs.Afterwards.{slots_in}
 use Rattle.tal_flow.specs.Edges.{allows, falling, branching, target_of, falls_to, branches_to, is_refused}
-
--- the address lies in the function that has the byte at pc
-unfoldable pub in_function : ShownImage → ℕ → ℕ → Bool
-in_function v pc address = option_map_or (λ (span : Span). nat_le span.start address && nat_lt address span.end) (v.function_of pc) false
-
--- rule 13: the type is below the result of the function that has the byte at pc
-unfoldable pub fits_result : ShownImage → ℕ → Ty → Bool
-fits_result v pc t = option_map_or (λ (sig : Sig). sub v.shapes t sig.result) (option_and_then (λ (span : Span). v.sig span.sig) (v.function_of pc)) false
-
--- rule 14: a block of the same function begins there
-unfoldable pub has_block : ShownImage → ℕ → ℕ → Bool
-has_block v pc address = is_some (v.block_at address) && in_function v pc address
 
 -- rule 2, of LEA, whose operand names no ESP
 unfoldable pub address_spares_esp : Reg → Mem → Bool
@@ -50,79 +36,79 @@ address_is_num c m = option_map_or (λ q. is_num (c.regs q)) m.base true && opti
 unfoldable pub may_drop : LiveContext → ℕ → Bool
 may_drop c bytes = option_map_or (λ n. nat_le n (length c.slots)) (slots_in bytes) false
 
--- the rules 1 to 15 that are tried, by the instruction's form
-abbrev pub operand_trials : ShownImage → LiveContext → ℕ → Form → List Trial
-operand_trials v c pc Refused =
+-- the rules 1 to 15 that are tried at an instruction with its operands resolved
+abbrev pub operand_trials : LiveContext → Seen → List Trial
+operand_trials c Refused =
     ask rule.Instruction false
     ∷ []
-operand_trials v c pc (Compute sources d wide kind) =
-    ask rule.EspRole (list_all spares_esp sources && spares_esp d)
-    ∷ ask rule.Place (list_all (found v c) sources && found v c d)
-    ∷ ask rule.Access (list_all (readable v c) sources && writable v c d)
-    ∷ ask rule.Number (list_all (λ x. is_num (operand_type v c pc x)) sources)
+operand_trials c (Compute reads d wide kind) =
+    ask rule.EspRole (reads.spares_esp && d.spares_esp)
+    ∷ ask rule.Place (reads.found && found d)
+    ∷ ask rule.Access (reads.readable && writable d)
+    ∷ ask rule.Number reads.numbers
     ∷ []
-operand_trials v c pc (Move d x) =
-    ask rule.EspRole (spares_esp d && spares_esp x)
-    ∷ ask rule.Place (found v c d && found v c x)
-    ∷ ask rule.Access (writable v c d && readable v c x)
-    ∷ ask rule.Stored (storable v c (operand_type v c pc x) d)
+operand_trials c (Move d x fits) =
+    ask rule.EspRole (d.spares_esp && x.spares_esp)
+    ∷ ask rule.Place (found d && found x)
+    ∷ ask rule.Access (writable d && readable x)
+    ∷ ask rule.Stored fits
     ∷ []
-operand_trials v c pc (Address r m) =
+operand_trials c (Address r m) =
     ask rule.EspRole (address_spares_esp r m)
     ∷ ask rule.Number (address_is_num c m)
     ∷ []
-operand_trials v c pc (Compare d x) =
-    ask rule.EspRole (spares_esp d && spares_esp x)
-    ∷ ask rule.Place (found v c d && found v c x)
-    ∷ ask rule.Comparison (is_some (compare_kind v c pc d x))
+operand_trials c (Compare d x kind) =
+    ask rule.EspRole (d.spares_esp && x.spares_esp)
+    ∷ ask rule.Place (found d && found x)
+    ∷ ask rule.Comparison (is_some kind)
     ∷ []
-operand_trials v c pc (TestBits d x) =
-    ask rule.EspRole (spares_esp d && spares_esp x)
-    ∷ ask rule.Place (found v c d && found v c x)
-    ∷ ask rule.Access (readable v c d && readable v c x)
-    ∷ ask rule.Comparison (is_some (test_kind v c pc d x))
+operand_trials c (TestBits d x kind) =
+    ask rule.EspRole (d.spares_esp && x.spares_esp)
+    ∷ ask rule.Place (found d && found x)
+    ∷ ask rule.Access (readable d && readable x)
+    ∷ ask rule.Comparison (is_some kind)
     ∷ []
-operand_trials v c pc (PushOf x) =
-    ask rule.EspRole (spares_esp x)
-    ∷ ask rule.Place (found v c x)
-    ∷ ask rule.Access (readable v c x)
+operand_trials c (PushOf x) =
+    ask rule.EspRole x.spares_esp
+    ∷ ask rule.Place (found x)
+    ∷ ask rule.Access (readable x)
     ∷ ask rule.SlotRoom (nat_lt (length c.slots) 64)
     ∷ []
-operand_trials v c pc (PopTo r) =
+operand_trials c (PopTo r) =
     ask rule.EspRole (not (same r Esp))
     ∷ ask rule.SlotsThere (nat_le 1 (length c.slots))
     ∷ []
-operand_trials v c pc (DropSlots bytes) =
-    ask rule.Number (is_num (immediate_type v pc bytes))
+operand_trials c (DropSlots bytes t) =
+    ask rule.Number (is_num t)
     ∷ ask rule.SlotsThere (may_drop c bytes)
     ∷ []
-operand_trials v c pc (CallTo address) =
-    ask rule.Callee (is_callable (call_to v c address))
-    ∷ ask rule.Arguments (is_fit (call_to v c address))
+operand_trials c (CallTo called) =
+    ask rule.Callee (is_callable called)
+    ∷ ask rule.Arguments (is_fit called)
     ∷ []
-operand_trials v c pc (CallBy x) =
-    ask rule.EspRole (spares_esp x)
-    ∷ ask rule.Place (found v c x)
-    ∷ ask rule.Access (readable v c x)
-    ∷ ask rule.Callee (is_callable (call_by v c (operand_type v c pc x)))
-    ∷ ask rule.Arguments (is_fit (call_by v c (operand_type v c pc x)))
+operand_trials c (CallBy x called) =
+    ask rule.EspRole x.spares_esp
+    ∷ ask rule.Place (found x)
+    ∷ ask rule.Access (readable x)
+    ∷ ask rule.Callee (is_callable called)
+    ∷ ask rule.Arguments (is_fit called)
     ∷ []
-operand_trials v c pc Return =
+operand_trials c (Return fits) =
     ask rule.SlotsLeft (length c.slots == 0)
-    ∷ ask rule.Returned (fits_result v pc (c.regs Eax))
+    ∷ ask rule.Returned fits
     ∷ []
-operand_trials v c pc (Jump address) =
-    ask rule.Target (has_block v pc address)
+operand_trials c (Jump is_block) =
+    ask rule.Target is_block
     ∷ []
-operand_trials v c pc (Branch condition address) =
-    ask rule.Target (has_block v pc address)
+operand_trials c (Branch condition is_block) =
+    ask rule.Target is_block
     ∷ ask rule.Condition (allows c.kind condition)
     ∷ []
-operand_trials v c pc Nothing = []
+operand_trials c Nothing = []
 
--- the first of the rules 1 to 15 that fails, or none
+-- the first of the rules 1 to 15 that fails at an instruction of the form, or none
 unfoldable pub operand_rule : ShownImage → LiveContext → ℕ → Form → Option RuleName
-operand_rule v c pc form = first_failing (operand_trials v c pc form)
+operand_rule v c pc form = first_failing (operand_trials c (see v c pc form))
 
 -- rule 16: what is known on an edge is below the block's annotation, where the edge comes to a block
 unfoldable pub edge_fits : ShapesView → ContextView → Option ContextView → Bool
@@ -148,11 +134,11 @@ edge_rule v c pc next form = first_failing (edge_trials v c pc next form)
 -- context rule 1 alone
 abbrev pub trials : ShownImage → ContextView → ℕ → ℕ → Form → List Trial
 trials v Dead pc next form = ask rule.Instruction (not (is_refused form)) ∷ []
-trials v (Live c) pc next form = operand_trials v c pc form ++ edge_trials v c pc next form
+trials v (Live c) pc next form = operand_trials c (see v c pc form) ++ edge_trials v c pc next form
 
 -- the first rule that fails at such an instruction, or none
 unfoldable pub rule_of_form : ShownImage → ContextView → ℕ → ℕ → Form → Option RuleName
-rule_of_form v Dead pc next Refused = Some rule.Instruction
+rule_of_form v Dead pc next form.Refused = Some rule.Instruction
 rule_of_form v Dead pc next form = None
 rule_of_form v (Live c) pc next form = option_or (operand_rule v c pc form) (edge_rule v c pc next form)
 

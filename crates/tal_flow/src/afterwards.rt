@@ -1,33 +1,41 @@
-ghost use Rattle.std.specs.Prelude.{◌≡◌, true, None, drop, unwrap_or};
+ghost use Rattle.std.specs.Prelude.{◌≡◌, ℕ, ◌<◌, true, Some, None, length, drop, unwrap_or};
 ghost use Rattle.tal_types.specs.Kept.{live_of};
-ghost use Rattle.tal_flow.specs.Places.{spares_esp, operand_place, operand_type};
-ghost use Rattle.tal_flow.specs.Afterwards.{store, note_head, write_high, give_kind, slots_in, with_kind, with_slots, after_form};
-ghost use Rattle.tal_flow.specs.Rules.{operand_rule, may_drop};
+ghost use Rattle.tal_flow.specs.Afterwards.{store_place, store, note_head, write_high, give_kind, slots_in, with_kind, with_slots, left_by, IsResolved, StoresResolved};
+ghost use Rattle.tal_flow.specs.Trials.{first_failing};
+ghost use Rattle.tal_flow.specs.Rules.{operand_trials, may_drop};
 
-use crate::calls::{call_by, call_to, result_of};
-use crate::forms::Form;
+use crate::calls::result_of;
 use crate::known::{add_head, after_call, drop_slots, pop_to, push, set_kind, set_slot, write};
-use crate::operands::{operand_place, operand_type};
+use crate::operands::Resolved;
 use crate::places::Place;
-use crate::rows::{compare_kind, test_kind};
+use crate::seen::Seen;
 use ia32_code::{Operand, Reg};
 use object_layout::areas::word_index;
-use tal_types::{Context, FlagKind, ImageView, Ty, same};
+use tal_types::{Context, FlagKind, Ty, same};
 
-/// Stores a value of the type in an operand, which is not ESP.
-#[tactic(auto, unfolding(crate::specs::Afterwards::store, crate::specs::Afterwards::store_place, crate::specs::Places::spares_esp))]
-fn store<V: ImageView>(image: &V, context: &mut Context, d: &Operand, t: Ty)
-    requires { spares_esp d.now ≡ true }
-    ensures known { live_of context.new ≡ store (V.shown image.now) d.now t (live_of context.old) }
+/// Stores a value of the type at a place: a slot takes the type.
+#[tactic(auto, unfolding(crate::specs::Afterwards::store_place))]
+fn store_place(context: &mut Context, place: Option<Place>, t: Ty)
+    requires { (i : ℕ) → place ≡ Some (Place.Slot i) → i < length (live_of context.old).slots }
+    ensures known { live_of context.new ≡ store_place place t (live_of context.old) }
     ensures dead { context.new.dead ≡ context.old.dead }
 {
-    match d {
-        Operand::R(r) => write(context, *r, t),
-        Operand::M(_) => {
-            if let Some(Place::Slot(i)) = operand_place(image, context, d) {
-                set_slot(context, i, t);
-            }
-        }
+    if let Some(Place::Slot(i)) = place {
+        set_slot(context, i, t);
+    }
+}
+
+/// Stores a value of the type in an operand, which is not ESP.
+#[tactic(auto, unfolding(crate::specs::Afterwards::store, crate::specs::Places::spares_esp))]
+fn store(context: &mut Context, d: &Resolved, t: Ty)
+    requires spared { d.now.spares_esp ≡ true }
+    requires resolved { IsResolved (live_of context.old) d.now }
+    ensures known { live_of context.new ≡ store d.now t (live_of context.old) }
+    ensures dead { context.new.dead ≡ context.old.dead }
+{
+    match d.operand {
+        Operand::R(r) => write(context, r, t),
+        Operand::M(_) => store_place(context, d.place, t),
         Operand::I(_) => {}
     }
 }
@@ -68,33 +76,26 @@ fn give_kind(context: &mut Context, kind: Option<FlagKind>)
 }
 
 /// What a computation leaves.
-fn compute<V: ImageView>(
-    image: &V,
-    context: &mut Context,
-    d: &Operand,
-    wide: bool,
-    kind: Option<FlagKind>,
-)
-    requires { spares_esp d.now ≡ true }
-    ensures known { live_of context.new ≡ give_kind kind (write_high wide (store (V.shown image.now) d.now Ty.Num (live_of context.old))) }
+fn compute(context: &mut Context, d: &Resolved, wide: bool, kind: Option<FlagKind>)
+    requires spared { d.now.spares_esp ≡ true }
+    requires resolved { IsResolved (live_of context.old) d.now }
+    ensures known { live_of context.new ≡ give_kind kind (write_high wide (store d.now Ty.Num (live_of context.old))) }
     ensures dead { context.new.dead ≡ context.old.dead }
 {
-    store(image, context, d, Ty::Num);
+    store(context, d, Ty::Num);
     write_high(context, wide);
     give_kind(context, kind);
 }
 
 /// What a MOV leaves.
-fn move_to<V: ImageView>(image: &V, context: &mut Context, pc: u32, d: &Operand, x: &Operand)
-    requires { spares_esp d.now ≡ true }
-    ensures known { live_of context.new ≡ note_head d.now (operand_place (V.shown image.now) (live_of context.old) x.now)
-        (store (V.shown image.now) d.now (operand_type (V.shown image.now) (live_of context.old) pc x.now) (live_of context.old)) }
+fn move_to(context: &mut Context, d: &Resolved, x: &Resolved)
+    requires spared { d.now.spares_esp ≡ true }
+    requires resolved { IsResolved (live_of context.old) d.now }
+    ensures known { live_of context.new ≡ note_head d.now.operand x.now.place (store d.now x.now.ty (live_of context.old)) }
     ensures dead { context.new.dead ≡ context.old.dead }
 {
-    let t = operand_type(image, context, pc, x);
-    let place = operand_place(image, context, x);
-    store(image, context, d, t);
-    note_head(context, d, place);
+    store(context, d, x.ty);
+    note_head(context, &d.operand, x.place);
 }
 
 /// Takes off as many slots as a number of bytes has, where they are there.
@@ -112,43 +113,29 @@ fn drop_bytes(context: &mut Context, bytes: u32)
 
 /// Turns what is known before an instruction, none of whose rules 1 to 15 fails, into what is known
 /// where it falls through.
-#[tactic(auto, unfolding(crate::specs::Afterwards::after_form, crate::specs::Rules::operand_rule, crate::specs::Rules::address_spares_esp))]
-pub(crate) fn step<V: ImageView>(image: &V, context: &mut Context, pc: u32, form: &Form)
-    requires { operand_rule (V.shown image.now) (live_of context.old) pc form.now ≡ None }
-    ensures known { live_of context.new ≡ after_form (V.shown image.now) (live_of context.old) pc form.now }
+#[tactic(auto, unfolding(crate::specs::Rules::address_spares_esp))]
+pub(crate) fn step(context: &mut Context, seen: &Seen)
+    requires rules { first_failing (operand_trials (live_of context.old) seen.now) ≡ None }
+    requires stored { StoresResolved (live_of context.old) seen.now }
+    ensures known { live_of context.new ≡ left_by seen.now (live_of context.old) }
     ensures dead { context.new.dead ≡ context.old.dead }
 {
-    match form {
-        Form::Compute {
+    match seen {
+        Seen::Compute {
             destination,
             wide,
             kind,
             ..
-        } => compute(image, context, destination, *wide, *kind),
-        Form::Move(d, x) => move_to(image, context, pc, d, x),
-        Form::Address(r, _) => write(context, *r, Ty::Num),
-        Form::Compare(d, x) => {
-            let kind = compare_kind(image, context, pc, d, x).unwrap_or(FlagKind::Lost);
-            set_kind(context, kind);
+        } => compute(context, destination, *wide, *kind),
+        Seen::Move(d, x, _) => move_to(context, d, x),
+        Seen::Address(r, _) => write(context, *r, Ty::Num),
+        Seen::Compare(_, _, kind) | Seen::TestBits(_, _, kind) => {
+            set_kind(context, kind.unwrap_or(FlagKind::Lost));
         }
-        Form::TestBits(d, x) => {
-            let kind = test_kind(image, context, pc, d, x).unwrap_or(FlagKind::Lost);
-            set_kind(context, kind);
-        }
-        Form::PushOf(x) => {
-            let t = operand_type(image, context, pc, x);
-            push(context, t);
-        }
-        Form::PopTo(r) => pop_to(context, *r),
-        Form::DropSlots(bytes) => drop_bytes(context, *bytes),
-        Form::CallTo(address) => {
-            let called = call_to(image, context, *address);
-            after_call(context, result_of(called));
-        }
-        Form::CallBy(x) => {
-            let called = call_by(image, context, operand_type(image, context, pc, x));
-            after_call(context, result_of(called));
-        }
-        _ => {}
+        Seen::PushOf(x) => push(context, x.ty),
+        Seen::PopTo(r) => pop_to(context, *r),
+        Seen::DropSlots(bytes, _) => drop_bytes(context, *bytes),
+        Seen::CallTo(called) | Seen::CallBy(_, called) => after_call(context, result_of(*called)),
+        Seen::Refused | Seen::Return(_) | Seen::Jump(_) | Seen::Branch(_, _) | Seen::Nothing => {}
     }
 }

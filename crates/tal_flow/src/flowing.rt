@@ -3,12 +3,16 @@ ghost use Rattle.tal_types.specs.Contexts.{Live};
 ghost use Rattle.tal_types.specs.Kept.{live_of, context_of};
 ghost use Rattle.tal_flow.specs.Edges.{goes_on, is_refused};
 ghost use Rattle.tal_flow.specs.Flows.{Flows, FormFlows};
-ghost use Rattle.tal_flow.specs.Rules.{operand_rule, edge_fits, is_dead, in_function, rule_of_form, next_address, LeastRule};
+ghost use Rattle.tal_flow.specs.Seen.{see};
+ghost use Rattle.tal_flow.specs.Functions.{in_function};
+ghost use Rattle.tal_flow.specs.Rules.{operand_rule, edge_fits, is_dead, rule_of_form, next_address, LeastRule};
 
 use crate::afterwards::step;
 use crate::edges::{Edges, Rule, refine, told_by_branch, told_by_fall};
 use crate::forms::{Form, form_of};
-use crate::rules::{in_function, operand_rule};
+use crate::functions::in_function;
+use crate::rules::operand_rule;
+use crate::seen::{Seen, see};
 use crate::trials::{RuleName, rule_number};
 use ia32_code::{Cond, Inst};
 use tal_types::{Context, ImageView, context_below};
@@ -41,9 +45,11 @@ fn fall<V: ImageView>(
     pc: u32,
     next: u32,
     form: &Form,
+    seen: &Seen,
 ) -> Result<Edges, RuleName>
     requires alive { context.old.dead ≡ false }
     requires form { goes_on form.now ≡ true }
+    requires seen { seen.now ≡ see (V.shown image.now) (live_of context.old) pc form.now }
     requires rules { operand_rule (V.shown image.now) (live_of context.old) pc form.now ≡ None }
     ensures ok { IfOk result (λ edges. FormFlows (V.shown image.now) (Live (live_of context.old)) pc next form.now (context_of context.new) edges) }
     ensures rule { IfErr result (λ rule. rule_of_form (V.shown image.now) (Live (live_of context.old)) pc next form.now ≡ Some rule) }
@@ -52,7 +58,7 @@ fn fall<V: ImageView>(
     match image.block_at(next) {
         Some(block) => {
             let mut after = *context;
-            step(image, &mut after, pc, form);
+            step(&mut after, seen);
             if !fits_block(image, &after, next, &block) {
                 return Err(RuleName::Annotation);
             }
@@ -65,7 +71,7 @@ fn fall<V: ImageView>(
             if !in_function(image, pc, next) {
                 return Err(RuleName::FunctionEnd);
             }
-            step(image, context, pc, form);
+            step(context, seen);
         }
     }
     Ok(Edges {
@@ -177,7 +183,8 @@ fn flow_live<V: ImageView>(
     ensures rule { IfErr result (λ rule. rule_of_form (V.shown image.now) (Live (live_of context.old)) pc next form.now ≡ Some rule) }
     ensures same { IfErr result (λ rule. context.new ≡ context.old) }
 {
-    if let Some(rule) = operand_rule(image, context, pc, form) {
+    let seen = see(image, context, pc, form);
+    if let Some(rule) = operand_rule(context, &seen) {
         return Err(rule);
     }
     match form {
@@ -190,7 +197,7 @@ fn flow_live<V: ImageView>(
         }
         Form::Jump(target) => jump(image, context, pc, next, *target),
         Form::Branch(condition, target) => branch(image, context, pc, next, *condition, *target),
-        _ => fall(image, context, pc, next, form),
+        _ => fall(image, context, pc, next, form, &seen),
     }
 }
 

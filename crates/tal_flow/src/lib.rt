@@ -3,9 +3,10 @@
 // `place_of` says what a memory operand means, and `flow` tries the rules of typing at an instruction: it
 // answers the least rule that fails, or where runs go from there (`Edges`), and turns the context into
 // what is known where the instruction falls through. Neither allocates. The definitions stand in
-// `specs/`: `Forms` (instructions by what typing says of them), `Places`, `Rows` (CMP and TEST), `Calls`,
-// `Afterwards`, `Edges`, `Rules` and `Strongest` (the context at each instruction, `At`); what holds of
-// them in the module `laws`.
+// `specs/`: `Forms` (instructions by what typing says of them), `Places` (operands and how they resolve),
+// `Rows` (CMP and TEST), `Calls`, `Functions`, `Seen` (forms with their operands resolved), `Trials` (the
+// rules by their names), `Rules`, `Afterwards`, `Edges` and `Strongest` (the context at each instruction,
+// `At`); what holds of them in the module `laws`.
 #![tactic(auto)]
 
 mod afterwards;
@@ -13,12 +14,14 @@ mod calls;
 mod edges;
 mod flowing;
 mod forms;
+mod functions;
 mod known;
 pub mod laws;
 mod operands;
 mod places;
 mod rows;
 mod rules;
+mod seen;
 mod trials;
 
 pub use calls::is_entry;

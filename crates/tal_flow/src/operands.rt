@@ -1,11 +1,11 @@
 ghost use Rattle.std.specs.Prelude.{◌≡◌};
-ghost use Rattle.std.specs.List.{list_all};
 ghost use Rattle.tal_types.specs.Kept.{live_of};
-ghost use Rattle.tal_flow.specs.Places.{place_in, place_type, is_readable, is_writable, takes, operand_place, mark_type, immediate_type, operand_type, is_esp, spares_esp, found, readable, writable, is_num, storable};
+ghost use Rattle.tal_flow.specs.Places.{place_type, operand_place, mark_type, immediate_type, operand_type, is_esp, spares_esp, resolve, found, readable, writable, is_num, storable, reads_of};
 
 use crate::known::register;
 use crate::places::{Place, place_in};
 use ia32_code::{Operand, Reg};
+use object_layout::Shapes;
 use tal_types::{Context, ImageView, Mark, Ty, same, sub};
 
 /// The type of what is read at a place.
@@ -75,21 +75,6 @@ pub(crate) fn operand_place<V: ImageView>(
     }
 }
 
-/// The type of an operand of the instruction at `pc`.
-#[tactic(auto, unfolding(crate::specs::Places::operand_type, crate::specs::Places::operand_place))]
-pub(crate) fn operand_type<V: ImageView>(image: &V, context: &Context, pc: u32, x: &Operand) -> Ty
-    ensures { result ≡ operand_type (V.shown image.now) (live_of context.now) pc x.now }
-{
-    match x {
-        Operand::R(r) => register(context, *r),
-        Operand::M(_) => match operand_place(image, context, x) {
-            Some(place) => place_type(context, place),
-            None => Ty::Junk,
-        },
-        Operand::I(n) => immediate_type(image, pc, *n),
-    }
-}
-
 /// Whether a register is there, and is ESP.
 pub(crate) fn is_esp(r: Option<Reg>) -> bool
     ensures { result ≡ is_esp r }
@@ -112,36 +97,83 @@ pub(crate) fn spares_esp(x: &Operand) -> bool
     }
 }
 
-/// Whether an operand is a place, where it is memory.
-#[tactic(auto, unfolding(crate::specs::Places::found, crate::specs::Places::operand_place))]
-pub(crate) fn found<V: ImageView>(image: &V, context: &Context, x: &Operand) -> bool
-    ensures { result ≡ found (V.shown image.now) (live_of context.now) x.now }
+/// An operand as it stands at an instruction.
+#[derive(Clone, Copy, Debug, PartialEq, Eq)]
+pub struct Resolved {
+    pub operand: Operand,
+    /// ESP is named, if at all, as the base of a memory operand without an index
+    pub spares_esp: bool,
+    /// its place, where it is memory and has one
+    pub place: Option<Place>,
+    /// the type of what is read there
+    pub ty: Ty,
+}
+
+/// The type of an operand of the instruction at `pc` that has this place.
+#[tactic(auto, unfolding(crate::specs::Places::operand_type, crate::specs::Places::operand_place))]
+fn type_there<V: ImageView>(
+    image: &V,
+    context: &Context,
+    pc: u32,
+    x: &Operand,
+    place: Option<Place>,
+) -> Ty
+    requires { place ≡ operand_place (V.shown image.now) (live_of context.now) x.now }
+    ensures { result ≡ operand_type (V.shown image.now) (live_of context.now) pc x.now }
 {
     match x {
-        Operand::M(_) => operand_place(image, context, x).is_some(),
-        _ => true,
+        Operand::R(r) => register(context, *r),
+        Operand::M(_) => match place {
+            Some(place) => place_type(context, place),
+            None => Ty::Junk,
+        },
+        Operand::I(n) => immediate_type(image, pc, *n),
+    }
+}
+
+/// An operand of the instruction at `pc`: its place is looked for once.
+pub(crate) fn resolve<V: ImageView>(image: &V, context: &Context, pc: u32, x: &Operand) -> Resolved
+    ensures { result ≡ resolve (V.shown image.now) (live_of context.now) pc x.now }
+{
+    let place = operand_place(image, context, x);
+    Resolved {
+        operand: *x,
+        spares_esp: spares_esp(x),
+        place,
+        ty: type_there(image, context, pc, x, place),
+    }
+}
+
+/// Whether an operand is a place, where it is memory.
+#[tactic(auto, unfolding(crate::specs::Places::found))]
+pub(crate) fn found(x: &Resolved) -> bool
+    ensures { result ≡ found x.now }
+{
+    match x.operand {
+        Operand::M(_) => x.place.is_some(),
+        Operand::R(_) | Operand::I(_) => true,
     }
 }
 
 /// Whether an operand may be read by other instructions than CMP.
 #[tactic(auto, unfolding(crate::specs::Places::readable, crate::specs::Places::is_readable))]
-pub(crate) fn readable<V: ImageView>(image: &V, context: &Context, x: &Operand) -> bool
-    ensures { result ≡ readable (V.shown image.now) (live_of context.now) x.now }
+pub(crate) fn readable(x: &Resolved) -> bool
+    ensures { result ≡ readable x.now }
 {
-    match operand_place(image, context, x) {
+    match x.place {
         Some(Place::Display(_, _)) => false,
         _ => true,
     }
 }
 
 /// Whether an operand may be written.
-#[tactic(auto, unfolding(crate::specs::Places::writable, crate::specs::Places::is_writable, crate::specs::Places::operand_place))]
-pub(crate) fn writable<V: ImageView>(image: &V, context: &Context, x: &Operand) -> bool
-    ensures { result ≡ writable (V.shown image.now) (live_of context.now) x.now }
+#[tactic(auto, unfolding(crate::specs::Places::writable, crate::specs::Places::is_writable))]
+pub(crate) fn writable(x: &Resolved) -> bool
+    ensures { result ≡ writable x.now }
 {
-    match x {
+    match x.operand {
         Operand::R(_) => true,
-        Operand::M(_) => match operand_place(image, context, x) {
+        Operand::M(_) => match x.place {
             Some(Place::Whole(_) | Place::Slot(_)) => true,
             _ => false,
         },
@@ -162,41 +194,51 @@ pub(crate) fn is_num(t: Ty) -> bool
 
 /// Whether a value of the type may be stored in an operand.
 #[tactic(auto, unfolding(crate::specs::Places::storable, crate::specs::Places::takes))]
-pub(crate) fn storable<V: ImageView>(image: &V, context: &Context, t: Ty, x: &Operand) -> bool
-    ensures { result ≡ storable (V.shown image.now) (live_of context.now) t x.now }
+pub(crate) fn storable(shapes: &Shapes, t: Ty, x: &Resolved) -> bool
+    ensures { result ≡ storable shapes.now t x.now }
 {
-    match operand_place(image, context, x) {
-        Some(Place::Whole(u)) => sub(image.shapes(), t, u),
+    match x.place {
+        Some(Place::Whole(u)) => sub(shapes, t, u),
         _ => true,
     }
 }
 
-pub(crate) fn all_spare_esp(xs: &[Operand]) -> bool
-    ensures { result ≡ list_all spares_esp xs.now }
-{
-    xs.iter().all(|x| spares_esp(x))
+/// What rules ask of all that an operation reads.
+#[derive(Clone, Copy, Debug, PartialEq, Eq)]
+pub struct Reads {
+    /// each spares ESP
+    pub spares_esp: bool,
+    /// each is a place, where it is memory
+    pub found: bool,
+    /// each may be read
+    pub readable: bool,
+    /// each is a number
+    pub numbers: bool,
 }
 
-pub(crate) fn all_found<V: ImageView>(image: &V, context: &Context, xs: &[Operand]) -> bool
-    ensures { result ≡ list_all (found (V.shown image.now) (live_of context.now)) xs.now }
-{
-    xs.iter().all(|x| found(image, context, x))
-}
-
-pub(crate) fn all_readable<V: ImageView>(image: &V, context: &Context, xs: &[Operand]) -> bool
-    ensures { result ≡ list_all (readable (V.shown image.now) (live_of context.now)) xs.now }
-{
-    xs.iter().all(|x| readable(image, context, x))
-}
-
-pub(crate) fn all_numbers<V: ImageView>(
+/// What holds of the sources of the instruction at `pc`.
+pub(crate) fn reads_of<V: ImageView>(
     image: &V,
     context: &Context,
     pc: u32,
-    xs: &[Operand],
-) -> bool
-    ensures { result ≡ list_all (λ x. is_num (operand_type (V.shown image.now) (live_of context.now) pc x)) xs.now }
+    sources: &[Operand],
+) -> Reads
+    ensures { result ≡ reads_of (V.shown image.now) (live_of context.now) pc sources.now }
 {
-    xs.iter()
-        .all(|x| is_num(operand_type(image, context, pc, x)))
+    let mut reads = Reads {
+        spares_esp: true,
+        found: true,
+        readable: true,
+        numbers: true,
+    };
+    for source in sources {
+        let x = resolve(image, context, pc, source);
+        reads = Reads {
+            spares_esp: reads.spares_esp && x.spares_esp,
+            found: reads.found && found(&x),
+            readable: reads.readable && readable(&x),
+            numbers: reads.numbers && is_num(x.ty),
+        };
+    }
+    reads
 }

@@ -1,13 +1,13 @@
 ghost use Rattle.std.specs.Prelude.{◌≡◌};
 ghost use Rattle.tal_types.specs.Kept.{live_of};
-ghost use Rattle.tal_flow.specs.Rows.{family, has_null, unmarked_zero, table_class, marked_class, base_of_length, length_base, has_depth, first_head, class_test, display_row, bound_kind, null_kind, compare_row, compare_kind, same_register, test_row, test_kind};
+ghost use Rattle.tal_flow.specs.Rows.{family, has_null, is_zero, marked_class, length_base, has_depth, first_head, class_test, display_row, bound_kind, null_kind, compare_row, compare_kind, same_register, test_row, test_kind};
 
 use crate::known::has_pair;
-use crate::operands::{immediate_type, operand_place, operand_type};
+use crate::operands::{Resolved, is_num};
 use crate::places::Place;
 use ia32_code::{Operand, Reg};
 use object_layout::Shapes;
-use tal_types::{Context, FlagKind, ImageView, Ty, same};
+use tal_types::{Context, FlagKind, Ty, same};
 
 /// What CMP and TEST ask of a type.
 #[derive(Clone, Copy, Debug, PartialEq, Eq)]
@@ -45,41 +45,35 @@ fn has_null(family: Family) -> bool
     }
 }
 
-/// Whether an operand is the number 0.
-#[tactic(auto, unfolding(crate::specs::Rows::unmarked_zero))]
-fn unmarked_zero<V: ImageView>(image: &V, pc: u32, x: &Operand) -> bool
-    ensures { result ≡ unmarked_zero (V.shown image.now) pc x.now }
+/// Whether an operand of the type is the number 0. A marked immediate is no number.
+#[tactic(auto, unfolding(crate::specs::Rows::is_zero))]
+fn is_zero(x: &Operand, t: Ty) -> bool
+    ensures { result ≡ is_zero x.now t }
 {
     match x {
-        Operand::I(n) => *n == 0 && image.mark_at(pc).is_none(),
+        Operand::I(n) => *n == 0 && is_num(t),
         _ => false,
     }
 }
 
-/// The class that an immediate is marked with.
+/// The class that an immediate of the type is marked with.
 #[tactic(auto, unfolding(crate::specs::Rows::marked_class))]
-fn marked_class<V: ImageView>(image: &V, pc: u32, x: &Operand) -> Option<u32>
-    ensures { result ≡ marked_class (V.shown image.now) pc x.now }
+fn marked_class(x: &Operand, t: Ty) -> Option<u32>
+    ensures { result ≡ marked_class x.now t }
 {
-    match x {
-        Operand::I(n) => match immediate_type(image, pc, *n) {
-            Ty::Tab(c) => Some(c),
-            _ => None,
-        },
+    match (x, t) {
+        (Operand::I(_), Ty::Tab(c)) => Some(c),
         _ => None,
     }
 }
 
-/// The register of the array whose length an operand is.
-#[tactic(auto, unfolding(crate::specs::Rows::length_base, crate::specs::Places::operand_place))]
-fn length_base<V: ImageView>(image: &V, context: &Context, x: &Operand) -> Option<Reg>
-    ensures { result ≡ length_base (V.shown image.now) (live_of context.now) x.now }
+/// The register of the array whose length an operand at the place is.
+#[tactic(auto, unfolding(crate::specs::Rows::length_base))]
+fn length_base(x: &Operand, place: Option<Place>) -> Option<Reg>
+    ensures { result ≡ length_base x.now place }
 {
-    match x {
-        Operand::M(m) => match operand_place(image, context, x) {
-            Some(Place::Length) => m.base,
-            _ => None,
-        },
+    match (x, place) {
+        (Operand::M(m), Some(Place::Length)) => m.base,
         _ => None,
     }
 }
@@ -172,29 +166,25 @@ fn null_kind(d: &Operand) -> FlagKind
 
 /// The kind that CMP gives; none where its operands have no row.
 #[tactic(auto, unfolding(crate::specs::Rows::compare_kind, crate::specs::Rows::compare_row))]
-pub(crate) fn compare_kind<V: ImageView>(
-    image: &V,
+pub(crate) fn compare_kind(
+    shapes: &Shapes,
     context: &Context,
-    pc: u32,
-    d: &Operand,
-    x: &Operand,
+    d: &Resolved,
+    x: &Resolved,
 ) -> Option<FlagKind>
-    ensures { result ≡ compare_kind (V.shown image.now) (live_of context.now) pc d.now x.now }
+    ensures { result ≡ compare_kind shapes.now (live_of context.now) d.now x.now }
 {
-    let f = family_of(operand_type(image, context, pc, d));
-    let g = family_of(operand_type(image, context, pc, x));
+    let f = family_of(d.ty);
+    let g = family_of(x.ty);
     match (f, g) {
-        (Family::Numbers, Family::Numbers) => Some(bound_kind(d, length_base(image, context, x))),
+        (Family::Numbers, Family::Numbers) => {
+            Some(bound_kind(&d.operand, length_base(&x.operand, x.place)))
+        }
         (Family::Objects, Family::Objects) | (Family::Arrays, Family::Arrays) => Some(FlagKind::Eq),
-        _ => if has_null(f) && unmarked_zero(image, pc, x) {
-            Some(null_kind(d))
+        _ => if has_null(f) && is_zero(&x.operand, x.ty) {
+            Some(null_kind(&d.operand))
         } else {
-            display_row(
-                image.shapes(),
-                context,
-                operand_place(image, context, d),
-                marked_class(image, pc, x),
-            )
+            display_row(shapes, context, d.place, marked_class(&x.operand, x.ty))
         },
     }
 }
@@ -210,21 +200,14 @@ fn same_register(d: &Operand, x: &Operand) -> bool
 
 /// The kind that TEST gives; none where its operands have no row.
 #[tactic(auto, unfolding(crate::specs::Rows::test_kind, crate::specs::Rows::test_row))]
-pub(crate) fn test_kind<V: ImageView>(
-    image: &V,
-    context: &Context,
-    pc: u32,
-    d: &Operand,
-    x: &Operand,
-) -> Option<FlagKind>
-    ensures { result ≡ test_kind (V.shown image.now) (live_of context.now) pc d.now x.now }
+pub(crate) fn test_kind(d: &Resolved, x: &Resolved) -> Option<FlagKind>
+    ensures { result ≡ test_kind d.now x.now }
 {
-    let f = family_of(operand_type(image, context, pc, d));
-    let g = family_of(operand_type(image, context, pc, x));
-    match (f, g) {
+    let f = family_of(d.ty);
+    match (f, family_of(x.ty)) {
         (Family::Numbers, Family::Numbers) => Some(FlagKind::Num),
-        _ => if same_register(d, x) && has_null(f) {
-            Some(null_kind(d))
+        _ => if same_register(&d.operand, &x.operand) && has_null(f) {
+            Some(null_kind(&d.operand))
         } else {
             None
         },
