@@ -1,10 +1,9 @@
 -- The bytes of numbers as fields, both ways.
-use Rattle.std.proofs.Common.{◌≡◌, ℕ, zero, suc, ◌<◌, ◌^◌, Bool, true, List, [], ◌∷◌, ◌++◌, length, take, drop, refl, sym, ap, subst, ◌∙◌, arith, lit<}
-use Rattle.std.specs.Int.{w32, to_le_bytes, from_le_bytes}
+use Rattle.std.proofs.Common.{◌≡◌, ℕ, zero, suc, ◌<◌, ◌^◌, Bool, List, [], ◌∷◌, ◌++◌, length, take, drop, refl, sym, ap, subst, ◌∙◌, arith, lit<}
 use Rattle.std.proofs.lemmas.Nat.{le_bytes_4, from_le_bytes-to_le_bytes_4}
 use Rattle.std.proofs.lemmas.List.{append-nil, take-append-drop}
 use Rattle.file_fields.specs.declared.fault.ImageFault.{ImageFault}
-use Rattle.file_fields.specs.Grammar.{Grammar, done, chunk, number, pair, field, number_bytes, bytes_number, Field, Chunk, Instruction, fields_text, AreBytes, Sound}
+use Rattle.file_fields.specs.Grammar.{Grammar, done, pair, field, number_bytes, bytes_number, Field, Chunk, Instruction, fields_text, AreBytes, Sound}
 use Rattle.file_fields.specs.Laws.{NumberMeanings}
 use Rattle.file_fields.specs.Parts.{FieldsOf, Means, Checked, CheckedPair, pair_bytes}
 use Rattle.file_fields.specs.Composed.{at_end}

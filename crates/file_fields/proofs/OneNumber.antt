@@ -1,5 +1,5 @@
 -- A file of one number is four bytes, so that it ends inside the number where it has fewer.
-use Rattle.std.proofs.Common.{◌≡◌, ℕ, ◌<◌, ◌^◌, Bool, List, [], ◌∷◌, length, sym, subst, arith}
+use Rattle.std.proofs.Common.{ℕ, ◌<◌, ◌^◌, Bool, List, [], ◌∷◌, length, sym, subst, arith}
 use Rattle.file_fields.specs.Grammar.{Grammar, done, checked, bytes_number, Field, Chunk, Instruction, Sound, EndsInside}
 use Rattle.file_fields.specs.Laws.{EndsBy}
 

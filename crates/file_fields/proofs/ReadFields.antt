@@ -1,16 +1,16 @@
 -- Reading fields from left to right gives what the sound fields stand for, or the fault of the first field that is not sound.
-use Rattle.std.proofs.Common.{◌≡◌, ◌≢◌, ℕ, zero, suc, ◌+◌, ◌<◌, ◌≤◌, ◌⊎◌, inl, inr, Bool, true, false, cond, List, [], ◌∷◌, ◌++◌, length, take, drop, get_or, Result, Ok, Err, refl, sym, ap, subst, ◌∙◌, append_assoc, arith, lit<}
+use Rattle.std.proofs.Common.{◌≡◌, ℕ, zero, suc, ◌+◌, ◌<◌, ◌≤◌, ◌⊎◌, inl, inr, Bool, true, false, cond, List, [], ◌∷◌, ◌++◌, length, take, drop, Result, Ok, Err, refl, sym, ap, subst, ◌∙◌, append_assoc, arith, lit<}
 use Rattle.std.specs.Prelude.{nat_lt, nat_le}
 use Rattle.std.proofs.lemmas.Bool.Decides.{nat_tests}
-use Rattle.std.proofs.lemmas.List.{length-take-le, length-append, length-drop, drop-drop, take-append-drop, append-nil, drop_all}
+use Rattle.std.proofs.lemmas.List.{length-take-le, length-append, length-drop, drop-drop, take-append-drop}
 use Rattle.ia32_code.specs.declared.instruction.Inst.{Inst}
 use Rattle.ia32_code.specs.declared.decoding.Decoded.{Decoded}
 use Rattle.ia32_code.specs.declared.decoding.Decoded.TheVariants as answer
 use Rattle.ia32_code.specs.Spells.{Spells}
 use Rattle.ia32_code.specs.Decoding.{Answers, IsCut, HasFront, PrefixLaw, DecodedLaw, decoded}
 use Rattle.file_fields.specs.declared.fault.ImageFault.{ImageFault}
-use Rattle.file_fields.specs.declared.fault.ImageFault.TheVariants.{Short, Rest, Bad}
-use Rattle.file_fields.specs.Grammar.{Grammar, done, chunk, instruction, Field, Chunk, Instruction, field_text, fields_text, AreBytes, Meets, Sound, EndsInside, Breaks, FaultOf, SoundFile}
+use Rattle.file_fields.specs.declared.fault.ImageFault.TheVariants.{Short, Bad}
+use Rattle.file_fields.specs.Grammar.{Grammar, done, chunk, instruction, Field, Chunk, Instruction, field_text, fields_text, AreBytes, Meets, Sound, EndsInside, Breaks}
 use Rattle.file_fields.specs.Reading.{◌▸◌, chunk_at, after_decoding, run}
 use Rattle.file_fields.proofs.OneEnd.{same_text, not_cut, take_front}
 

@@ -11,7 +11,7 @@ use Rattle.file_fields.specs.declared.fault.ImageFault.TheVariants.{Magic, Versi
 use Rattle.file_fields.specs.Grammar.{Grammar, done, chunk, instruction, fields_text, AreBytes, EndsInside, Breaks, FaultOf, SoundFile}
 use Rattle.file_fields.specs.Laws.{EachIsOne, EndsBy, IsFrontOf}
 use Rattle.file_fields.specs.Reading.{Fails, run}
-use Rattle.file_fields.proofs.OneEnd.{front_of_other, take_front}
+use Rattle.file_fields.proofs.OneEnd.{front_of_other}
 use Rattle.file_fields.proofs.ReadFields.{Took, Failed, took, failed}
 
 -- a list of no length is empty

@@ -10,8 +10,8 @@ use Rattle.ia32_code.specs.declared.decoding.Decoded.TheVariants as answer
 use Rattle.ia32_code.specs.Decoding.{decoded}
 use Rattle.file_fields.specs.declared.fault.ImageFault.{ImageFault}
 use Rattle.file_fields.specs.declared.fault.ImageFault.TheVariants.{Magic, Version, Short, Rest, Bad, NoMemory}
-use Rattle.file_fields.specs.Grammar.{Grammar, done, chunk, instruction, number, pair, checked, then_with, many, each, bytes_number, Field, Chunk, Instruction, field_text, fields_text, Meets, Sound}
-use Rattle.file_fields.specs.Parts.{FieldsOf, Means, EachAfter, Each, Counted, AreRows}
+use Rattle.file_fields.specs.Grammar.{Grammar, done, chunk, instruction, number, pair, checked, then_with, many, each, Field, Chunk, Instruction, field_text, fields_text, Meets, Sound}
+use Rattle.file_fields.specs.Parts.{FieldsOf, Means, Each, Counted, AreRows}
 use Rattle.file_fields.specs.Reading.{◌▸◌, Fails, chunk_at, word_at, pair_at, checked_at, after_decoding, run}
 
 -- ---- what parts stand for

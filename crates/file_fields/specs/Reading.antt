@@ -1,12 +1,12 @@
 -- Reading a file from left to right, with the first fault that is met. A reader promises what `run` gives of a grammar.
-use Rattle.std.specs.Prelude.{◌≡◌, ℕ, ◌+◌, ◌<◌, ◌≤◌, List, length, take, drop, Result, Ok, Err, Bool, cond, nat_lt, nat_le, ◌++◌, ◌⊎◌}
+use Rattle.std.specs.Prelude.{◌≡◌, ℕ, ◌+◌, List, length, take, drop, Result, Ok, Err, Bool, cond, nat_lt, nat_le}
 use Rattle.ia32_code.specs.declared.instruction.Inst.{Inst}
 use Rattle.ia32_code.specs.declared.decoding.Decoded.{Decoded}
 use Rattle.ia32_code.specs.declared.decoding.Decoded.TheVariants as answer
 use Rattle.ia32_code.specs.Decoding.{decoded}
 use Rattle.file_fields.specs.declared.fault.ImageFault.{ImageFault}
 use Rattle.file_fields.specs.declared.fault.ImageFault.TheVariants.{Magic, Version, Short, Rest, Bad, NoMemory}
-use Rattle.file_fields.specs.Grammar.{Grammar, done, chunk, instruction, bytes_number, checked}
+use Rattle.file_fields.specs.Grammar.{Grammar, done, chunk, instruction, bytes_number}
 
 -- what is read, and what is read then
 infixl 10 ◌▸◌
