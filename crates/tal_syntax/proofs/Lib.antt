@@ -1,0 +1,14 @@
+pub mod RowSteps
+pub mod Fronts
+pub mod FirstLine
+pub mod LinePlaces
+pub mod TextSteps
+pub mod Lawful
+pub mod LawfulChoices
+pub mod TokenLaws
+pub mod ListLaws
+pub mod TypeLaws
+pub mod MemberLaws
+pub mod DeclarationLaws
+pub mod FaultLaws
+pub mod LineFaults

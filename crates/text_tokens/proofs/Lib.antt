@@ -1,0 +1,5 @@
+pub mod Fronts
+pub mod Digits
+pub mod Skips
+pub mod Places
+pub mod WordTable
