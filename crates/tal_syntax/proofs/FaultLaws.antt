@@ -3,7 +3,7 @@ use Rattle.std.proofs.Common.{◌≡◌, inl, inr, ℕ, ◌≤◌, Bool, true, f
 use Rattle.text_tokens.specs.Token.{Lexeme, Name, Bad, EndOfLine, Placed, lexemes_of, long_name, is_long}
 use Rattle.tal_syntax.specs.Reading.{Read}
 use Rattle.tal_syntax.specs.Text.{place, passed, LineFault, At, whole, refusal, refused_or_long, taken_or_long}
-use Rattle.tal_syntax.specs.Faults.{Begins, NoLong, FaultOf, FirstFault}
+use Rattle.tal_syntax.specs.Faults.{BeginsForm, NoLong, TokenFault, FirstTokenFault}
 use Rattle.tal_syntax.specs.declared.form.Form.{Form}
 use Rattle.tal_syntax.proofs.Lawful.{Lawful, Stuck}
 use Rattle.tal_syntax.proofs.LinePlaces.{place_is, passed_is}
@@ -68,7 +68,7 @@ lexemes-append (i ∷ a) b = ap (λ (l : List Lexeme). i.token ∷ l) (lexemes-a
 
 module _ (p : Read Form) (S : Form → List Lexeme → Type 0) (l : Lawful p S) where
   -- no form goes on with a token that is refused
-  no_more : (front : List Lexeme) (t : Lexeme) → ((more : List Lexeme) → p (front ++ t ∷ more) ≡ Err (t ∷ more)) → Begins S (front ++ t ∷ []) → ⊥
+  no_more : (front : List Lexeme) (t : Lexeme) → ((more : List Lexeme) → p (front ++ t ∷ more) ≡ Err (t ∷ more)) → BeginsForm S (front ++ t ∷ []) → ⊥
   no_more front t stuck b =
       let e = append_assoc front (t ∷ []) b.more in
       let read = l.again b.form (front ++ t ∷ b.more) [] (subst (λ (ts : List Lexeme). S b.form ts) e b.says) in
@@ -76,22 +76,22 @@ module _ (p : Read Form) (S : Form → List Lexeme → Type 0) (l : Lawful p S) 
       let clash = sym read ∙ fails in
       cc
 
-  long_fault : (front : List Lexeme) (t : Lexeme) → is_long t ≡ true → FaultOf S front t 4
+  long_fault : (front : List Lexeme) (t : Lexeme) → is_long t ≡ true → TokenFault S front t 4
   long_fault front (Name w) h = inr (refl, h)
   long_fault front t h = absurd cc
 
-  long_least : (front : List Lexeme) (t : Lexeme) (c : ℕ) → is_long t ≡ true → Begins S (front ++ t ∷ []) → FaultOf S front t c → 4 ≤ c
+  long_least : (front : List Lexeme) (t : Lexeme) (c : ℕ) → is_long t ≡ true → BeginsForm S (front ++ t ∷ []) → TokenFault S front t c → 4 ≤ c
   long_least front (Name w) c h b (inl f) = absurd (f.1 b)
   long_least front (Name w) c h b (inr f) = let e = f.0 in omega (arith, e)
   long_least front t c h b f = absurd cc
 
   -- a name that is too long, among tokens that begin a form
-  first_long : (items before after : List Placed) (column : ℕ) → items ≡ before ++ after → Begins S (lexemes_of before) → LongAt before column → FirstFault S items column 4
+  first_long : (items before after : List Placed) (column : ℕ) → items ≡ before ++ after → BeginsForm S (lexemes_of before) → LongAt before column → FirstTokenFault S items column 4
   first_long items before after column parts b k =
       let text : lexemes_of before ≡ lexemes_of k.front ++ k.item.token ∷ lexemes_of k.back = ap lexemes_of k.parts ∙ lexemes-append k.front (k.item ∷ k.back) in
       let says = subst (λ (ts : List Lexeme). S b.form (ts ++ b.more)) text b.says in
-      let here : Begins S (lexemes_of k.front) = record { form = b.form; more = k.item.token ∷ lexemes_of k.back ++ b.more; says = subst (λ (ts : List Lexeme). S b.form ts) (append_assoc (lexemes_of k.front) (k.item.token ∷ lexemes_of k.back) b.more) says } in
-      let next : Begins S (lexemes_of k.front ++ k.item.token ∷ []) = record { form = b.form; more = lexemes_of k.back ++ b.more; says = subst (λ (ts : List Lexeme). S b.form ts) (append_assoc (lexemes_of k.front) (k.item.token ∷ lexemes_of k.back) b.more ∙ sym (append_assoc (lexemes_of k.front) (k.item.token ∷ []) (lexemes_of k.back ++ b.more))) says } in
+      let here : BeginsForm S (lexemes_of k.front) = record { form = b.form; more = k.item.token ∷ lexemes_of k.back ++ b.more; says = subst (λ (ts : List Lexeme). S b.form ts) (append_assoc (lexemes_of k.front) (k.item.token ∷ lexemes_of k.back) b.more) says } in
+      let next : BeginsForm S (lexemes_of k.front ++ k.item.token ∷ []) = record { form = b.form; more = lexemes_of k.back ++ b.more; says = subst (λ (ts : List Lexeme). S b.form ts) (append_assoc (lexemes_of k.front) (k.item.token ∷ lexemes_of k.back) b.more ∙ sym (append_assoc (lexemes_of k.front) (k.item.token ∷ []) (lexemes_of k.back ++ b.more))) says } in
       record {
         front = k.front;
         item = k.item;
@@ -105,12 +105,12 @@ module _ (p : Read Form) (S : Form → List Lexeme → Type 0) (l : Lawful p S) 
       }
 
   -- the code of a token that is refused
-  refused_fault : (front : List Lexeme) (t : Lexeme) (ts : List Lexeme) (items : List Placed) (column code : ℕ) → ((more : List Lexeme) → p (front ++ t ∷ more) ≡ Err (t ∷ more)) → refusal items (t ∷ ts) ≡ At column code → FaultOf S front t code
+  refused_fault : (front : List Lexeme) (t : Lexeme) (ts : List Lexeme) (items : List Placed) (column code : ℕ) → ((more : List Lexeme) → p (front ++ t ∷ more) ≡ Err (t ∷ more)) → refusal items (t ∷ ts) ≡ At column code → TokenFault S front t code
   refused_fault front (Bad d) ts items column code stuck e = cc
   refused_fault front EndOfLine ts items column code stuck e = absurd cc
   refused_fault front t ts items column code stuck e = inl (cc, no_more front t stuck)
 
-  refused_least : (front : List Lexeme) (t : Lexeme) (ts : List Lexeme) (items : List Placed) (column code c : ℕ) → refusal items (t ∷ ts) ≡ At column code → FaultOf S front t c → code ≤ c
+  refused_least : (front : List Lexeme) (t : Lexeme) (ts : List Lexeme) (items : List Placed) (column code c : ℕ) → refusal items (t ∷ ts) ≡ At column code → TokenFault S front t c → code ≤ c
   refused_least front (Bad d) ts items column code c e f = let same : d ≡ code = cc in omega (arith, same, f)
   refused_least front EndOfLine ts items column code c e f = absurd f
   refused_least front t ts items column code c e (inl f) = let same : 3 ≡ code = cc in let g = f.0 in omega (arith, same, g)
@@ -122,8 +122,8 @@ module _ (p : Read Form) (S : Form → List Lexeme → Type 0) (l : Lawful p S) 
   refused_place t ts items column code e = cc
 
   -- a token that no form has there, behind tokens without a fault
-  first_refused : (items before : List Placed) (i : Placed) (back : List Placed) (column code : ℕ) → items ≡ before ++ i ∷ back → Begins S (lexemes_of before) → NoLong (lexemes_of before)
-      → ((more : List Lexeme) → p (lexemes_of before ++ i.token ∷ more) ≡ Err (i.token ∷ more)) → refusal items (i.token ∷ lexemes_of back) ≡ At column code → FirstFault S items column code
+  first_refused : (items before : List Placed) (i : Placed) (back : List Placed) (column code : ℕ) → items ≡ before ++ i ∷ back → BeginsForm S (lexemes_of before) → NoLong (lexemes_of before)
+      → ((more : List Lexeme) → p (lexemes_of before ++ i.token ∷ more) ≡ Err (i.token ∷ more)) → refusal items (i.token ∷ lexemes_of back) ≡ At column code → FirstTokenFault S items column code
   first_refused items before i back column code parts b short stuck e = record {
     front = before;
     item = i;
@@ -141,7 +141,7 @@ module _ (p : Read Form) (S : Form → List Lexeme → Type 0) (l : Lawful p S) 
   taken_case (Some c) before f column code h e = let a : c ≡ column = cc in let b : 4 ≡ code = cc in (h ∙ ap (λ (n : ℕ). Some n) a, b)
 
   abbrev at_code : List Placed → ℕ → ℕ → Type 0
-  at_code items column code = FirstFault S items column code
+  at_code items column code = FirstTokenFault S items column code
 
   taken_first : (items : List Placed) (x : Form × List Lexeme) (column code : ℕ) → p (lexemes_of items) ≡ Ok x → taken_or_long (long_name (passed items x.1)) x.0 ≡ Err (At column code) → at_code items column code
   taken_first items x column code h e =
@@ -149,10 +149,10 @@ module _ (p : Read Form) (S : Form → List Lexeme → Type 0) (l : Lawful p S) 
       let k = cut items took.front x.1 took.parts in
       let same : passed items x.1 ≡ k.before = ap (λ (ts : List Lexeme). passed items ts) (sym k.two) ∙ passed_is items k.before k.after k.parts in
       let long = taken_case (long_name k.before) k.before x.0 column code refl (ap (λ (is : List Placed). taken_or_long (long_name is) x.0) (sym same) ∙ e) in
-      let b : Begins S (lexemes_of k.before) = record { form = x.0; more = []; says = subst (λ (ts : List Lexeme). S x.0 ts) (sym k.one ∙ sym (append-nil (lexemes_of k.before))) took.says } in
+      let b : BeginsForm S (lexemes_of k.before) = record { form = x.0; more = []; says = subst (λ (ts : List Lexeme). S x.0 ts) (sym k.one ∙ sym (append-nil (lexemes_of k.before))) took.says } in
       subst (λ (n : ℕ). at_code items column n) long.1 (first_long items k.before k.after column k.parts b (long_at k.before column long.0))
 
-  refused_after : (items before after : List Placed) (column code : ℕ) → items ≡ before ++ after → Begins S (lexemes_of before) → Stuck p (lexemes_of before) (lexemes_of after) → (o : Option ℕ) → long_name before ≡ o
+  refused_after : (items before after : List Placed) (column code : ℕ) → items ≡ before ++ after → BeginsForm S (lexemes_of before) → Stuck p (lexemes_of before) (lexemes_of after) → (o : Option ℕ) → long_name before ≡ o
       → refused_or_long o (refusal items (lexemes_of after)) ≡ At column code → at_code items column code
   refused_after items before after column code parts b stuck (Some c) h e =
       let a : c ≡ column = cc in
@@ -166,7 +166,7 @@ module _ (p : Read Form) (S : Form → List Lexeme → Type 0) (l : Lawful p S) 
       let r = l.refused (lexemes_of items) left h in
       let k = cut items r.front left r.parts in
       let same : passed items left ≡ k.before = ap (λ (ts : List Lexeme). passed items ts) (sym k.two) ∙ passed_is items k.before k.after k.parts in
-      let b : Begins S (lexemes_of k.before) = record { form = r.value; more = r.rest; says = subst (λ (ts : List Lexeme). S r.value (ts ++ r.rest)) (sym k.one) r.begun } in
+      let b : BeginsForm S (lexemes_of k.before) = record { form = r.value; more = r.rest; says = subst (λ (ts : List Lexeme). S r.value (ts ++ r.rest)) (sym k.one) r.begun } in
       let stuck : Stuck p (lexemes_of k.before) (lexemes_of k.after) = subst (λ (ts : List Lexeme). Stuck p (lexemes_of k.before) ts) (sym k.two) (subst (λ (ts : List Lexeme). Stuck p ts left) (sym k.one) r.stuck) in
       refused_after items k.before k.after column code k.parts b stuck (long_name k.before) refl
       (ap (λ (is : List Placed). refused_or_long (long_name is) (refusal items (lexemes_of k.after))) (sym same) ∙ ap (λ (ts : List Lexeme). refused_or_long (long_name (passed items left)) (refusal items ts)) k.two ∙ e)
@@ -179,5 +179,5 @@ module _ (p : Read Form) (S : Form → List Lexeme → Type 0) (l : Lawful p S) 
   by_read items column code (Ok x) h e = taken_first items x column code h e
   by_read items column code (Err left) h e = refused_first items left column code h (fault_is (refused_or_long (long_name (passed items left)) (refusal items left)) (At column code) e)
 
-  pub first_fault : (items : List Placed) (column code : ℕ) → whole items (p (lexemes_of items)) ≡ Err (At column code) → FirstFault S items column code
+  pub first_fault : (items : List Placed) (column code : ℕ) → whole items (p (lexemes_of items)) ≡ Err (At column code) → FirstTokenFault S items column code
   first_fault items column code e = by_read items column code (p (lexemes_of items)) refl e

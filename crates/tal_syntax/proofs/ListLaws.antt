@@ -88,7 +88,10 @@ module _ {A : Type 0} (m : ℕ) (v : A) (p : Read A) (S : A → List Lexeme → 
   pub Lawful-unless : Lawful (if_mark m (done v) p) (Unless m v S)
   Lawful-unless = record {
     lives = record { value = lp.lives.value; text = lp.lives.text; says = inr lp.lives.says };
-    took = un_all_took; again = un_again; refused = un_all_refused }
+    took = un_all_took;
+    again = un_again;
+    refused = un_all_refused;
+  }
 
 -- ---- lists
 

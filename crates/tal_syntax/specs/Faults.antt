@@ -4,7 +4,7 @@ use Rattle.text_tokens.specs.Token.{Lexeme, Bad, EndOfLine, Placed, lexemes_of, 
 use Rattle.tal_syntax.specs.declared.form.Form.{Form}
 
 -- some form begins with these tokens
-pub record Begins (S : Form → List Lexeme → Type 0) (ts : List Lexeme) : Type 0 where
+pub record BeginsForm (S : Form → List Lexeme → Type 0) (ts : List Lexeme) : Type 0 where
   pub form : Form
   pub more : List Lexeme
   pub says : S form (ts ++ more)
@@ -15,19 +15,19 @@ NoLong [] = Unit {0}
 NoLong (t ∷ ts) = (is_long t ≡ false) × NoLong ts
 
 -- The faults of a token behind others: that of bytes that are no token, 3 where no form has it there, 4 for a long name.
-abbrev pub FaultOf : (Form → List Lexeme → Type 0) → List Lexeme → Lexeme → ℕ → Type 0
-FaultOf S front (Bad d) code = code ≡ d
-FaultOf S front EndOfLine code = ⊥
-FaultOf S front t code = ((code ≡ 3) × (Begins S (front ++ t ∷ []) → ⊥)) ⊎ ((code ≡ 4) × (is_long t ≡ true))
+abbrev pub TokenFault : (Form → List Lexeme → Type 0) → List Lexeme → Lexeme → ℕ → Type 0
+TokenFault S front (Bad d) code = code ≡ d
+TokenFault S front EndOfLine code = ⊥
+TokenFault S front t code = ((code ≡ 3) × (BeginsForm S (front ++ t ∷ []) → ⊥)) ⊎ ((code ≡ 4) × (is_long t ≡ true))
 
 -- the first token with a fault, behind tokens without, and there the least code
-pub record FirstFault (S : Form → List Lexeme → Type 0) (items : List Placed) (column code : ℕ) : Type 0 where
+pub record FirstTokenFault (S : Form → List Lexeme → Type 0) (items : List Placed) (column code : ℕ) : Type 0 where
   pub front : List Placed
   pub item : Placed
   pub back : List Placed
   pub parts : items ≡ front ++ item ∷ back
   pub place : item.column ≡ column
-  pub begins : Begins S (lexemes_of front)
+  pub begins : BeginsForm S (lexemes_of front)
   pub short : NoLong (lexemes_of front)
-  pub fault : FaultOf S (lexemes_of front) item.token code
-  pub least : (c : ℕ) → FaultOf S (lexemes_of front) item.token c → code ≤ c
+  pub fault : TokenFault S (lexemes_of front) item.token code
+  pub least : (c : ℕ) → TokenFault S (lexemes_of front) item.token c → code ≤ c

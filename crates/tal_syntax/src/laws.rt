@@ -1,17 +1,17 @@
 // Laws over the definitions.
 ghost use Rattle.std.specs.Prelude.{◌≡◌, ℕ, List, Err};
 ghost use Rattle.text_tokens.specs.Token.{Placed};
-ghost use Rattle.tal_syntax.specs.Faults.{FirstFault};
+ghost use Rattle.tal_syntax.specs.Faults.{FirstTokenFault};
 ghost use Rattle.tal_syntax.specs.Grammar.{member_says, outside_says};
 ghost use Rattle.tal_syntax.specs.Text.{At, line_at};
 ghost use Rattle.tal_syntax.specs.declared.form.Scope.TheVariants.{InClass, Outside};
 
 /// A line of a class that is refused has its first fault, by the sentences of such lines, there.
 pub fn first_fault_in_class()
-    ensures { (line : List Placed) (column code : ℕ) → line_at InClass line ≡ Err (At column code) → FirstFault member_says line column code }
+    ensures { (line : List Placed) (column code : ℕ) → line_at InClass line ≡ Err (At column code) → FirstTokenFault member_says line column code }
 {}
 
 /// A line outside classes and functions that is refused has its first fault, by the sentences of such lines, there.
 pub fn first_fault_outside()
-    ensures { (line : List Placed) (column code : ℕ) → line_at Outside line ≡ Err (At column code) → FirstFault outside_says line column code }
+    ensures { (line : List Placed) (column code : ℕ) → line_at Outside line ≡ Err (At column code) → FirstTokenFault outside_says line column code }
 {}

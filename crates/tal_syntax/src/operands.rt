@@ -121,6 +121,7 @@ fn signed_term(alloc: Global, tokens: &mut Tokens<'_>) -> Result<Term, Stop>
 
 impl Row for Term {
     ghost reads = { term_at };
+
     ghost reads_next = { signed_at };
 
     fn read(alloc: Global, tokens: &mut Tokens<'_>) -> Result<Term, Stop> {

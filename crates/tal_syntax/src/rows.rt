@@ -13,6 +13,7 @@ use text_tokens::Tokens;
 /// What stands in each place of a list.
 pub trait Row: Drop {
     ghost reads: { Read Self };
+
     ghost reads_next: { Read Self };
 
     /// The first row.
@@ -28,6 +29,7 @@ pub trait Row: Drop {
 
 impl Row for RegType {
     ghost reads = { reg_type_at };
+
     ghost reads_next = { comma_at reg_type_at };
 
     fn read(alloc: Global, tokens: &mut Tokens<'_>) -> Result<RegType, Stop> {
@@ -43,6 +45,7 @@ impl Row for RegType {
 
 impl Row for TypeText {
     ghost reads = { type_at };
+
     ghost reads_next = { comma_at type_at };
 
     fn read(alloc: Global, tokens: &mut Tokens<'_>) -> Result<TypeText, Stop> {
@@ -58,6 +61,7 @@ impl Row for TypeText {
 
 impl Row for i64 {
     ghost reads = { number_at };
+
     ghost reads_next = { comma_at number_at };
 
     fn read(alloc: Global, tokens: &mut Tokens<'_>) -> Result<i64, Stop> {
@@ -72,11 +76,7 @@ impl Row for i64 {
 }
 
 /// A first row, and those behind it up to the closing mark.
-pub fn some_rows<R: Row>(
-    alloc: Global,
-    tokens: &mut Tokens<'_>,
-    close: u8,
-) -> Result<Vec<R>, Stop>
+pub fn some_rows<R: Row>(alloc: Global, tokens: &mut Tokens<'_>, close: u8) -> Result<Vec<R>, Stop>
     ensures gives { GivesVia (λ rows. rows.items) result (some_rows close R.reads R.reads_next tokens.old.left) tokens.new.left }
     ensures line { tokens.new.line ≡ tokens.old.line }
 {

@@ -68,8 +68,10 @@ fn texts_of_programs(rt: HostRuntime) {
     assert_eq!(rt; told(&rt, rt.alloc(), four_lines), (0, 0, 4));
     assert_eq!(rt; told(&rt, rt.alloc(), b"func f s\nret\n\n"), (4, 1, 5));
     assert_eq!(rt; told(&rt, rt.alloc(), b"func f s\r\nret\n"), (3, 1, 5));
-    let declarations = b"heap 64 ; words\nstacks 2\nentry 0 f\nsig s (eax ref C, ecx num) num\nkind k num\nstatic t fun s\ndata d k 2 { 1, -0x2 }\nclass C below B\n field v num\n method m s f\nend\nextern func g s\n";
+    let declarations =
+        b"heap 64 ; words\nstacks 2\nentry 0 f\nsig s (eax ref C, ecx num) num\nkind k num\nstatic t fun s\ndata d k 2 { 1, -0x2 }\nclass C below B\n field v num\n method m s f\nend\nextern func g s\n";
     assert_eq!(rt; told(&rt, rt.alloc(), declarations), (0, 0, 12));
-    let code = b"func f s\nl: (eax ref C) [num, tab C]\nmov eax, [eax + ecx * 4 - 4 + field C v]\nimul eax, ecx, 5\nshl eax, cl\ncall nucleus 3\ncall g\njne l\nret\nend";
+    let code =
+        b"func f s\nl: (eax ref C) [num, tab C]\nmov eax, [eax + ecx * 4 - 4 + field C v]\nimul eax, ecx, 5\nshl eax, cl\ncall nucleus 3\ncall g\njne l\nret\nend";
     assert_eq!(rt; told(&rt, rt.alloc(), code), (0, 0, 10));
 }
