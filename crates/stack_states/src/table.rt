@@ -140,7 +140,6 @@ mod tests {
     #[test]
     fn stacks_hand_over_to_one_another(rt: HostRuntime) -> Result<(), Fail> {
         let mut stacks = Stacks::new(rt.alloc(), 3)?;
-        assert_eq!(rt; stacks.count(), 3);
         assert_eq!(rt; stacks.current(), 0);
         for (s, want) in [
             (0, Some(StackState::Running)),
