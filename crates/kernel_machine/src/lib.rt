@@ -32,7 +32,7 @@ pub use machine::Machine;
 pub use number_text::word_digits;
 pub use report_text::report;
 pub use run_end::RunEnd;
-pub use running::run;
+pub use running::{MOST_TURNS, run};
 pub use shown::Shown;
 pub use turn::Turn;
 

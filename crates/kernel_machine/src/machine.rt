@@ -13,6 +13,7 @@ use crate::ending::Ending;
 use crate::journal::Journal;
 use crate::laws::{first_is_typed, runs_go_on, turns_keep_typing};
 use crate::run_end::RunEnd;
+use crate::running::MOST_TURNS;
 use crate::screen_text::CELLS;
 use crate::shown::Shown;
 use crate::stack_words::{STACK_END, StackWords};
@@ -96,7 +97,7 @@ fn inst_in(image: &Image, pc: u32) -> (Inst, u8)
 impl Machine {
     /// A machine before its first turn: stack 0 runs at its function, with all registers 0 and all flags clear.
     ///
-    /// The events' turns are 1 to 50000000 and do not fall, and the image is of the form that runs, for which
+    /// The events' turns are 1 to [`crate::MOST_TURNS`] and do not fall, and the image is of the form that runs, for which
     /// `first_outside` is the test. After `NoMemory` the image and the events are given up.
     pub fn new(alloc: Global, checked: Checked, events: Vec<Event>) -> Result<Machine, NoMemory>
         requires ordered { InOrder events.items }
@@ -139,7 +140,7 @@ impl Machine {
     /// It takes no memory, and always succeeds.
     pub fn turn(&mut self, journal: &mut Journal) -> Turn
         requires room { 1 ≤ journal.old.spare }
-        requires turns { self.old.turns < 50000000 }
+        requires turns { self.old.turns < MOST_TURNS }
         ensures follows { Follows self.old journal.old.entries → Follows self.new journal.new.entries }
         ensures image { self.new.image ≡ self.old.image }
         ensures events { self.new.events ≡ self.old.events }
@@ -191,7 +192,7 @@ impl Machine {
     // One instruction of a machine that has not ended.
     fn step(&mut self)
         requires on { self.old.ending ≡ None }
-        requires turns { self.old.turns < 50000000 }
+        requires turns { self.old.turns < MOST_TURNS }
         ensures { Steps self.old self.new }
     {
         accepted_runs();
