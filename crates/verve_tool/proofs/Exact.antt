@@ -1,15 +1,19 @@
 -- Which status comes, where files are told and no count rises.
-use Rattle.std.specs.Prelude.{String, Some}
+use Rattle.std.specs.Prelude.{String, Option, Some}
 use Rattle.std.specs.declared.alloc.Global.{Global}
 use Rattle.std.proofs.Common.{◌≡◌, ◌⊎◌, ℕ, List, [], ◌∷◌, codes, inl, inr, refl, sym, ap, ◌∙◌, subst, arith}
 use Rattle.std.proofs.lemmas.Fmt.{decimal_injective}
 use Rattle.outside.specs.FileMaps.{FileMap}
 use Rattle.outside.specs.Faults.{Faulted, Quiet}
 use Rattle.tal_image.specs.Image.{ImageParts}
-use Rattle.verve_tool.specs.Words.{RunWords, Request, Run, Check, SpellsRun, WordsOf}
-use Rattle.verve_tool.specs.Files.{TypedImage, Loaded}
-use Rattle.verve_tool.specs.Outcome.{Call, Outcome, RanWhole, CheckDone, RunDone, RunUnwritten, CheckUnwritten, TooLongOf}
-use Rattle.verve_tool.specs.Decided.{Refuses, IsMissing, Serves, OneStatus}
+use Rattle.kernel_machine.specs.declared.run_end.RunEnd.{RunEnd}
+use Rattle.kernel_machine.specs.declared.run_end.RunEnd.TheVariants as run_end
+use Rattle.verve_tool.specs.Words.{RunWords, Request, Run, Check, SpellsRun, WordsOf, NoCommand}
+use Rattle.verve_tool.specs.Causes.{Cause, Missing, IsFirst, NoneHolds, OneCause, TypedImage, status_of}
+use Rattle.verve_tool.specs.Commands.{causes, Serves, NothingStops, MayEnd}
+use Rattle.verve_tool.specs.Seen.{Call}
+use Rattle.verve_tool.specs.Runs.{status_at}
+use Rattle.verve_tool.specs.Outcome.{Outcome, Ends, Finished, Did, PartWritten}
 use Rattle.verve_tool.specs.declared.status.Status.{Status}
 use Rattle.verve_tool.specs.declared.status.Status.TheVariants.{Done, Usage, ReadFault, WriteFault, Malformed, Refused, TooLong, KernelFault, NoMemory, NotBuilt}
 
@@ -49,149 +53,101 @@ quiet_or_faulted : (before after : ℕ) → Quiet before after → Faulted befor
 quiet_or_faulted before after q (inl rose) = omega (arith, q.0, rose)
 quiet_or_faulted before after q (inr full) = omega (arith, q.1, full)
 
--- the statuses of a command that did its work; after WriteFault a fault of the output was counted
-abbrev Worked : Call → Status → Type 0
-Worked c Done = Unit {0}
-Worked c KernelFault = Unit {0}
-Worked c WriteFault = Faulted c.outs c.outs_after
-Worked c _ = ⊥
-
--- A command that ended so was short of memory, or a read failed, or its files refused it, or nothing stopped it.
-data Ended (c : Call) (request : Request) (s : Status) : Type 0 where
-  short : s ≡ NoMemory → Ended c request s
-  unread : s ≡ ReadFault → Faulted c.reads c.reads_after → Ended c request s
-  refused : Refuses c.files request s → Ended c request s
-  worked : Serves c.files request → Worked c s → Ended c request s
-
--- words are one command, so what refuses that refuses every command that they are
-refused_at : (c : Call) (request other : Request) (s : Status) → WordsOf c.words request → WordsOf c.words other → Refuses c.files other s → Ended c request s
-refused_at c request other s w v r = refused (subst (λ (q : Request). Refuses c.files q s) (same_request c.words other request v w) r)
-
--- and what serves that serves every command that they are
-serves_at : (c : Call) (request other : Request) → WordsOf c.words request → WordsOf c.words other → Serves c.files other → Serves c.files request
-serves_at c request other w v x = subst (λ (q : Request). Serves c.files q) (same_request c.words other request v w) x
-
--- nothing stopped a run that took its turns
-served_run : (c : Call) (request : Request) (run : RunWords) → WordsOf c.words request → WordsOf c.words (Run run) → RanWhole c run → Serves c.files request
-served_run c request run w v r = serves_at c request (Run run) w v (r.within.machine.image, r.within.loaded)
-
--- nothing stopped a check whose image was accepted
-served_check : (c : Call) (request : Request) (name : List ℕ) (image : ImageParts) → WordsOf c.words request → WordsOf c.words (Check name)
-    → TypedImage c.files (Check name) image → Serves c.files request
-served_check c request name image w v t = serves_at c request (Check name) w v (image, t)
-
--- nothing stopped a command that is done
-served_done : (c : Call) (request : Request) → WordsOf c.words request → RunDone c ⊎ CheckDone c → Serves c.files request
-served_done c request w (inl x) = served_run c request x.printed.run w x.printed.words x.printed.ran
-served_done c request w (inr x) = served_check c request x.name x.image w x.words x.typed
-
--- nothing but writing stopped a command whose text was not written whole
-served_unwritten : (c : Call) (request : Request) → WordsOf c.words request → RunUnwritten c ⊎ CheckUnwritten c → Serves c.files request
-served_unwritten c request w (inl x) = served_run c request x.run w x.words x.ran
-served_unwritten c request w (inr x) = served_check c request x.name x.image w x.words x.typed
-
--- a file that is too long refuses the command
-refused_too_long : (c : Call) (request : Request) (line : List ℕ) → WordsOf c.words request → TooLongOf c line → Ended c request TooLong
-refused_too_long c request line w o = elim o.cause [
-  | inl x ↦ refused_at c request o.request TooLong w o.words (inl x.0)
-  | inr x ↦ refused_at c request (Run x.0) TooLong w (subst (λ (q : Request). WordsOf c.words q) x.1 o.words) (inr x.2)
-]
-
--- how a command ended
-ended : (c : Call) (s : Status) (line : List ℕ) (request : Request) → Outcome c s line → WordsOf c.words request → Ended c request s
-ended c Done line request o w = worked (served_done c request w o.did) tt
-ended c KernelFault line request o w = worked (served_run c request _ w o.printed.words o.printed.ran) tt
-ended c WriteFault line request o w = worked (served_unwritten c request w o.unwritten) o.fault
-ended c Usage line request o w = absurd (o.no_command request w)
-ended c ReadFault line request o w = unread refl o.fault
-ended c NoMemory line request o w = short refl
-ended c Malformed line request o w = refused_at c request o.request Malformed w o.words (o.fault, o.cause)
-ended c Refused line request o w = refused_at c request o.request Refused w o.words (o.address, o.rule, o.cause)
-ended c TooLong line request o w = refused_too_long c request line w o
-ended c NotBuilt line request o w =
-    refused_at c request (Run o.run) NotBuilt w o.words (elim o.cause [ inl x ↦ inl (x.0, x.1) | inr x ↦ inr x.0 ])
+-- the words of a command ended as that command
+ends_as : (words : List (String Global)) (c : Call) (s : Status) (line : List ℕ) (request : Request) → Outcome words c s line → WordsOf words request
+    → Ends c request s line
+ends_as words c s line request (inl none) w = absurd (none.no_command request w)
+ends_as words c s line request (inr asked) w =
+    subst (λ (r : Request). Ends c r s line) (same_request words asked.request request asked.spelled w) asked.ends
 
 -- the words are no command: that is all that is told
-pub usage_status : (c : Call) (s : Status) (line : List ℕ) → Outcome c s line → ((request : Request) → WordsOf c.words request → ⊥) → s ≡ Usage
-usage_status c Usage line o none = refl
-usage_status c Done line o none = elim o.did [ inl x ↦ absurd (none (Run x.printed.run) x.printed.words) | inr x ↦ absurd (none (Check x.name) x.words) ]
-usage_status c KernelFault line o none = absurd (none (Run o.printed.run) o.printed.words)
-usage_status c WriteFault line o none = elim o.unwritten [ inl x ↦ absurd (none (Run x.run) x.words) | inr x ↦ absurd (none (Check x.name) x.words) ]
-usage_status c ReadFault line o none = absurd (none _ o.words)
-usage_status c NoMemory line o none = absurd (none _ o.words)
-usage_status c Malformed line o none = absurd (none _ o.words)
-usage_status c Refused line o none = absurd (none _ o.words)
-usage_status c TooLong line o none = absurd (none _ o.words)
-usage_status c NotBuilt line o none = absurd (none (Run o.run) o.words)
+pub usage_status : (words : List (String Global)) (c : Call) (s : Status) (line : List ℕ) → Outcome words c s line → NoCommand words → s ≡ Usage
+usage_status words c s line (inl none) h = none.status
+usage_status words c s line (inr asked) h = absurd (h asked.request asked.spelled)
 
--- a file that would be read is missing
-pub missing_status : (c : Call) (s : Status) (line : List ℕ) (files : FileMap) (request : Request) → OneStatus files request
-    → Outcome c s line → c.files ≡ Some files → WordsOf c.words request → IsMissing (Some files) request → (s ≡ ReadFault) ⊎ (s ≡ NoMemory)
-missing_status c s line files request one o told w m = elim (ended c s line request o w) [
+-- the files of a command that did its work are such that it could
+did_serve : (c : Call) (request : Request) (s : Status) (text : List ℕ) → Did c request s text → Serves c.files.told request
+did_serve c (Run run) s text d = (d.0.within.machine.image, d.0.within.loaded)
+did_serve c (Check name) s text d = (d.0, d.1)
+
+-- a run is done, or ended by a fault of the kernel
+run_ends : (e : RunEnd) → (status_at e ≡ Done) ⊎ (status_at e ≡ KernelFault)
+run_ends run_end.Turns = inl refl
+run_ends (run_end.Halted n) = inl refl
+run_ends (run_end.KernelFault v) = inr refl
+run_ends run_end.NoMemory = inl refl
+
+-- a command that did its work has a status of such a command
+did_end : (c : Call) (request : Request) (s : Status) (text : List ℕ) → Did c request s text → MayEnd request s
+did_end c (Run run) s text d = elim (run_ends _) [ inl is ↦ inl (d.1 ∙ is) | inr is ↦ inr (d.1 ∙ is) ]
+did_end c (Check name) s text d = d.3
+
+-- a text was not written whole, so a fault of the output was counted
+part_fault : (c : Call) (request : Request) (text : List ℕ) → PartWritten c request text → Faulted c.out.faults c.out_after.faults
+part_fault c (Run run) text p = p.0
+part_fault c (Check name) text p = p.0
+
+-- A command that ended so was short of memory, or a read failed, or its files stopped it, or it did its work.
+data Ended (c : Call) (request : Request) (s : Status) : Type 0 where
+  short : s ≡ NoMemory → Ended c request s
+  unread : s ≡ ReadFault → Faulted c.files.read_faults c.files_after.read_faults → Ended c request s
+  stopped : (cause : Cause) (line : List ℕ) → IsFirst c.files.told (causes request) cause line → s ≡ status_of cause → Ended c request s
+  worked : Serves c.files.told request → MayEnd request s ⊎ Faulted c.out.faults c.out_after.faults → Ended c request s
+
+-- a command that finished did its work
+finished : (c : Call) (request : Request) (s : Status) (line : List ℕ) → Finished c request s line → Ended c request s
+finished c request s line e = worked (did_serve c request s e.text e.did) (inl (did_end c request s e.text e.did))
+
+-- how a command ended
+ended : (c : Call) (request : Request) (s : Status) (line : List ℕ) → Ends c request s line → Ended c request s
+ended c request Done line e = finished c request Done line e
+ended c request KernelFault line e = finished c request KernelFault line e
+ended c request WriteFault line e = worked (did_serve c request e.s e.text e.did) (inr (part_fault c request e.text e.part))
+ended c request ReadFault line e = unread refl e.fault
+ended c request NoMemory line e = short refl
+ended c request Usage line e = absurd e
+ended c request Malformed line e = stopped e.cause line e.first e.status
+ended c request Refused line e = stopped e.cause line e.first e.status
+ended c request TooLong line e = stopped e.cause line e.first e.status
+ended c request NotBuilt line e = stopped e.cause line e.first e.status
+
+-- the first cause is a file that is missing
+pub missing_status : (words : List (String Global)) (c : Call) (s : Status) (line : List ℕ) (files : FileMap) (request : Request) (name first_line : List ℕ)
+    → OneCause files (causes request) → NothingStops → Outcome words c s line → c.files.told ≡ Some files → WordsOf words request
+    → IsFirst (Some files) (causes request) (Missing name) first_line → (s ≡ ReadFault) ⊎ (s ≡ NoMemory)
+missing_status words c s line files request name first_line one nothing o told w first = elim (ended c request s line (ends_as words c s line request o w)) [
   | short is ↦ inr is
   | unread is fault ↦ inl is
-  | refused r ↦ absurd (one.refused_or_missing s (rw told at r) m)
-  | worked x did ↦ absurd (one.served_or_missing (rw told at x) m)
+  | stopped cause l h is ↦ inl (is ∙ ap status_of (one.one_first cause (Missing name) l first_line (rw told at h) first))
+  | worked x did ↦ absurd (one.not_both (Missing name) first_line first (nothing (Some files) request (rw told at x)))
 ]
 
--- the files refuse the command
-pub refuses_status : (c : Call) (s : Status) (line : List ℕ) (files : FileMap) (request : Request) (t : Status) → OneStatus files request
-    → Outcome c s line → c.files ≡ Some files → WordsOf c.words request → Quiet c.reads c.reads_after → Refuses (Some files) request t
-    → (s ≡ t) ⊎ (s ≡ NoMemory)
-refuses_status c s line files request t one o told w quiet x = elim (ended c s line request o w) [
+-- the files stop the command
+pub stopped_status : (words : List (String Global)) (c : Call) (s : Status) (line : List ℕ) (files : FileMap) (request : Request) (cause : Cause) (first_line : List ℕ)
+    → OneCause files (causes request) → NothingStops → Outcome words c s line → c.files.told ≡ Some files → WordsOf words request
+    → Quiet c.files.read_faults c.files_after.read_faults → IsFirst (Some files) (causes request) cause first_line → (s ≡ status_of cause) ⊎ (s ≡ NoMemory)
+stopped_status words c s line files request cause first_line one nothing o told w quiet first = elim (ended c request s line (ends_as words c s line request o w)) [
   | short is ↦ inr is
   | unread is fault ↦ absurd (quiet_or_faulted _ _ quiet fault)
-  | refused r ↦ inl (one.one_refusal s t (rw told at r) x)
-  | worked y did ↦ absurd (one.refused_or_served t x (rw told at y))
+  | stopped other l h is ↦ inl (is ∙ ap status_of (one.one_first other cause l first_line (rw told at h) first))
+  | worked x did ↦ absurd (one.not_both cause first_line first (nothing (Some files) request (rw told at x)))
 ]
-
--- a command that did its work is done or ended by a kernel fault, where writing does not fail
-worked_status : (c : Call) (s : Status) → Quiet c.outs c.outs_after → Worked c s → (s ≡ Done) ⊎ (s ≡ KernelFault) ⊎ (s ≡ NoMemory)
-worked_status c Done quiet did = inl refl
-worked_status c KernelFault quiet did = inr (inl refl)
-worked_status c WriteFault quiet did = absurd (quiet_or_faulted _ _ quiet did)
-worked_status c _ quiet did = absurd did
 
 -- nothing stops the command, and writing does not fail
-served_status : (c : Call) (s : Status) (line : List ℕ) (files : FileMap) (request : Request) → OneStatus files request
-    → Outcome c s line → c.files ≡ Some files → WordsOf c.words request → Quiet c.reads c.reads_after → Quiet c.outs c.outs_after → Serves (Some files) request
-    → (s ≡ Done) ⊎ (s ≡ KernelFault) ⊎ (s ≡ NoMemory)
-served_status c s line files request one o told w quiet out x = elim (ended c s line request o w) [
-  | short is ↦ inr (inr is)
+pub complete_status : (words : List (String Global)) (c : Call) (s : Status) (line : List ℕ) (files : FileMap) (request : Request)
+    → OneCause files (causes request) → Outcome words c s line → c.files.told ≡ Some files → WordsOf words request
+    → Quiet c.files.read_faults c.files_after.read_faults → Quiet c.out.faults c.out_after.faults → NoneHolds (Some files) (causes request)
+    → MayEnd request s ⊎ (s ≡ NoMemory)
+complete_status words c s line files request one o told w quiet out none = elim (ended c request s line (ends_as words c s line request o w)) [
+  | short is ↦ inr is
   | unread is fault ↦ absurd (quiet_or_faulted _ _ quiet fault)
-  | refused r ↦ absurd (one.refused_or_served s (rw told at r) x)
-  | worked y did ↦ worked_status c s out did
+  | stopped cause l h is ↦ absurd (one.not_both cause l (rw told at h) none)
+  | worked x did ↦ elim did [ inl is ↦ inl is | inr fault ↦ absurd (quiet_or_faulted _ _ out fault) ]
 ]
 
--- the files of a run are a well typed image of the form that runs and no events, and writing does not fail
-pub complete_status : (c : Call) (s : Status) (line : List ℕ) (files : FileMap) (run : RunWords) (image : ImageParts) → OneStatus files (Run run)
-    → Outcome c s line → c.files ≡ Some files → WordsOf c.words (Run run) → Quiet c.reads c.reads_after → Quiet c.outs c.outs_after → Loaded (Some files) run image
-    → (s ≡ Done) ⊎ (s ≡ KernelFault) ⊎ (s ≡ NoMemory)
-complete_status c s line files run image one o told w quiet out l = served_status c s line files (Run run) one o told w quiet out (image, l)
-
--- no check ends by a kernel fault
-no_kernel_fault : (c : Call) (s : Status) (line name : List ℕ) → Outcome c s line → WordsOf c.words (Check name) → s ≡ KernelFault → ⊥
-no_kernel_fault c s line name o w is = let k = subst (λ (t : Status). Outcome c t line) is o in not_both _ _ _ _ (sym k.printed.words.spelled ∙ w.spelled)
-
--- the file of a check is a well typed image, and writing does not fail
-pub complete_check_status : (c : Call) (s : Status) (line : List ℕ) (files : FileMap) (name : List ℕ) (image : ImageParts) → OneStatus files (Check name)
-    → Outcome c s line → c.files ≡ Some files → WordsOf c.words (Check name) → Quiet c.reads c.reads_after → Quiet c.outs c.outs_after
-    → TypedImage (Some files) (Check name) image → (s ≡ Done) ⊎ (s ≡ NoMemory)
-complete_check_status c s line files name image one o told w quiet out t =
-    elim (served_status c s line files (Check name) one o told w quiet out (image, t)) [
-      | inl is ↦ inl is
-      | inr more ↦ elim more [ inl is ↦ absurd (no_kernel_fault c s line name o w is) | inr is ↦ inr is ]
-    ]
-
--- an image whose check is done is well typed
-checked_image : (c : Call) (name : List ℕ) → WordsOf c.words (Check name) → RunDone c ⊎ CheckDone c → (image : ImageParts) × TypedImage c.files (Check name) image
-checked_image c name w (inl x) = absurd (not_both _ _ _ _ (sym x.printed.words.spelled ∙ w.spelled))
-checked_image c name w (inr x) =
-    subst (λ (n : List ℕ). (image : ImageParts) × TypedImage c.files (Check n) image) (same_names x.name name (sym x.words.spelled ∙ w.spelled)) (x.image, x.typed)
-
 -- a check that is done is that of a well typed image
-pub accepted_status : (c : Call) (s : Status) (line : List ℕ) (files : FileMap) (name : List ℕ)
-    → Outcome c s line → c.files ≡ Some files → WordsOf c.words (Check name) → s ≡ Done → (image : ImageParts) × TypedImage (Some files) (Check name) image
-accepted_status c s line files name o told w is =
-    let d = subst (λ (t : Status). Outcome c t line) is o in
-    subst (λ (f : _). (image : ImageParts) × TypedImage f (Check name) image) told (checked_image c name w d.did)
+pub accepted_status : (words : List (String Global)) (c : Call) (s : Status) (line : List ℕ) (files : FileMap) (name : List ℕ)
+    → Outcome words c s line → c.files.told ≡ Some files → WordsOf words (Check name) → s ≡ Done → (image : ImageParts) × TypedImage (Some files) name image
+accepted_status words c s line files name o told w is =
+    let e : Ends c (Check name) Done line = subst (λ (t : Status). Ends c (Check name) t line) is (ends_as words c s line (Check name) o w) in
+    (e.did.0, subst (λ (f : Option FileMap). TypedImage f name e.did.0) told e.did.1)

@@ -1,10 +1,6 @@
-pub mod Loading
-pub mod Printing
-pub mod Decided
-pub mod Decisions
-pub mod Causes
+pub mod CauseLists
+pub mod FilesRead
+pub mod Endings
 pub mod Exact
-pub mod StopStatuses
-pub mod Stopped
 pub mod Complaints
 pub mod WordLemmas

@@ -1,8 +1,9 @@
 pub mod Number
 pub mod Words
-pub mod Files
 pub mod Lines
+pub mod Causes
+pub mod Commands
+pub mod Seen
+pub mod Runs
 pub mod Outcome
 pub mod Stops
-pub mod Running
-pub mod Decided

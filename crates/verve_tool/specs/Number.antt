@@ -3,14 +3,14 @@ use Rattle.std.specs.Prelude.{ℕ}
 use Rattle.verve_tool.specs.declared.status.Status.{Status}
 use Rattle.verve_tool.specs.declared.status.Status.TheVariants.{Done, Usage, ReadFault, WriteFault, Malformed, Refused, TooLong, KernelFault, NoMemory, NotBuilt}
 
-abbrev pub number_of : Status → ℕ
-number_of Done = 0
-number_of Usage = 1
-number_of ReadFault = 2
-number_of WriteFault = 3
-number_of Malformed = 5
-number_of Refused = 6
-number_of TooLong = 9
-number_of KernelFault = 10
-number_of NoMemory = 11
-number_of NotBuilt = 12
+abbrev pub exit_number : Status → ℕ
+exit_number Done = 0
+exit_number Usage = 1
+exit_number ReadFault = 2
+exit_number WriteFault = 3
+exit_number Malformed = 5
+exit_number Refused = 6
+exit_number TooLong = 9
+exit_number KernelFault = 10
+exit_number NoMemory = 11
+exit_number NotBuilt = 12

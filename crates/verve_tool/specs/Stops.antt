@@ -1,21 +1,38 @@
--- Why a command stopped: its status, its line, and what of the files says so.
-use Rattle.std.specs.Prelude.{◌≡◌, ◌≢◌, ◌⊎◌, ℕ, List, [], Bool, true, Option}
-use Rattle.outside.specs.FileMaps.{FileMap, Gives, Lacks}
+-- What stops a command in the code, with its status and its line, and what the code reads from the words.
+use Rattle.std.specs.Prelude.{◌≡◌, ℕ, List, [], true, Option, None, Result, Ok, Err}
+use Rattle.std.specs.Borrow.{Bor}
+use Rattle.outside.specs.FileMaps.{FileMap, Lacks}
 use Rattle.outside.specs.Faults.{Faulted}
-use Rattle.tal_image.specs.Image.{ImageParts}
-use Rattle.tal_image.specs.Formed.{ImageOf}
-use Rattle.tal_image.specs.Fields.{FirstFault}
+use Rattle.outside.specs.Sinks.{Gained, GainedFront}
+use Rattle.kernel_machine.specs.Machine.{MachineView, end_of}
+use Rattle.kernel_machine.specs.Report.{ReportText}
+use Rattle.kernel_machine.specs.declared.run_end.RunEnd.{RunEnd}
 use Rattle.tal_image.specs.declared.fault.ImageFault.{ImageFault}
 use Rattle.tal_image.specs.declared.fault.ImageFault.TheVariants as fault
-use Rattle.tal_checker.specs.WellTyped.{WellTyped, FirstRefusal}
-use Rattle.kernel_machine.specs.Built.{IsBuilt, FirstOutside}
-use Rattle.verve_tool.specs.Words.{RunWords, Request, Run, image_name}
-use Rattle.verve_tool.specs.Files.{ReadAt, LongImage, LongEvents, FaultyImage, IllTyped, OutsideForm, SomeEvents, IsTooLong}
+use Rattle.tal_checker.specs.declared.answer.CheckAnswer.{CheckAnswer}
+use Rattle.tal_checker.specs.declared.answer.CheckAnswer.TheVariants as answer
+use Rattle.verve_tool.specs.Words.{RunWords, Request, Run, Check}
 use Rattle.verve_tool.specs.Lines.{usage_line, read_line, write_line, long_line, no_memory_line, not_built_line, fault_line, refused_line}
+use Rattle.verve_tool.specs.Causes.{Cause, Missing, ComesTo, IsFirst, status_of as status_of_cause}
+use Rattle.verve_tool.specs.Seen.{FilesSeen, SinkSeen, Call, Leaves}
+use Rattle.verve_tool.specs.Runs.{status_at}
+use Rattle.verve_tool.specs.Outcome.{Ends}
+use Rattle.verve_tool.specs.declared.words.RunCommand.{RunCommand}
+use Rattle.verve_tool.specs.declared.words.Command.{Command}
+use Rattle.verve_tool.specs.declared.words.Command.TheVariants as command
 use Rattle.verve_tool.specs.declared.status.Status.{Status}
 use Rattle.verve_tool.specs.declared.status.Status.TheVariants as status
 use Rattle.verve_tool.specs.declared.stop.Stop.{Stop}
 use Rattle.verve_tool.specs.declared.stop.Stop.TheVariants.{Usage, Read, Write, Long, Image, Refused, Form, Events, NoMemory}
+
+-- the run that a command asks for
+abbrev pub run_of : RunCommand → RunWords
+run_of run = record { image = run.image.now; events = run.events.now; turns = run.turns }
+
+-- what a command asks for
+abbrev pub request_of : Command → Request
+request_of (command.Run run) = Run (run_of run)
+request_of (command.Check image) = Check image.now
 
 -- the status of an image file's fault
 abbrev pub fault_status : ImageFault → Status
@@ -50,52 +67,15 @@ line_of (Form name at) = not_built_line name.now at
 line_of (Events name) = not_built_line name.now 0
 line_of NoMemory = no_memory_line
 
--- why a file was not read, of this name and at most so long; the counts are before and after
-abbrev pub StopsRead : Option FileMap → Bool → ℕ → ℕ → List ℕ → ℕ → Stop → Type 0
-StopsRead told steady reads reads_after name most (Read n) = (n.now ≡ name) × Faulted reads reads_after × (steady ≡ true → Lacks told name)
-StopsRead told steady reads reads_after name most (Long n) = (n.now ≡ name) × ((bytes : List ℕ) × Gives told name most bytes × IsTooLong most bytes)
-StopsRead told steady reads reads_after name most NoMemory = Unit {0}
-StopsRead told steady reads reads_after name most _ = ⊥
+-- what stops a command whose image file has this fault
+abbrev pub stop_of_fault : Bor (List ℕ) → ImageFault → Stop
+stop_of_fault name fault.NoMemory = NoMemory
+stop_of_fault name f = Image name f
 
--- this holds of the fault, or memory was wanting, which tells nothing of the file
-abbrev pub FaultOrNoMemory : (ImageFault → Type 0) → ImageFault → Type 0
-FaultOrNoMemory Holds fault.NoMemory = Unit {0}
-FaultOrNoMemory Holds f = Holds f
-
--- why no image of the bytes of the file of this name is accepted
-abbrev pub StopsBytes : List ℕ → List ℕ → Stop → Type 0
-StopsBytes bytes name (Image n f) = (n.now ≡ name) × FaultOrNoMemory (FirstFault bytes) f
-StopsBytes bytes name (Refused address rule) = (image : ImageParts) × ImageOf bytes image × FirstRefusal image address rule
-StopsBytes bytes name NoMemory = Unit {0}
-StopsBytes bytes name _ = ⊥
-
--- why an accepted image is not run over the bytes of an event file
-abbrev pub StopsForm : ImageParts → List ℕ → RunWords → Stop → Type 0
-StopsForm image event_bytes run (Form n at) = (n.now ≡ run.image) × FirstOutside image at
-StopsForm image event_bytes run (Events n) = (n.now ≡ run.events) × IsBuilt image × (event_bytes ≢ [])
-StopsForm image event_bytes run _ = ⊥
-
--- why the bytes of both files of a run are not run: no image of the first is accepted, or that image is not run over the second
-abbrev pub StopsRunBytes : List ℕ → List ℕ → RunWords → Stop → Type 0
-StopsRunBytes image_bytes event_bytes run s =
-    StopsBytes image_bytes run.image s ⊎ ((image : ImageParts) × ImageOf image_bytes image × WellTyped image × StopsForm image event_bytes run s)
-
--- a file is too long: the image's, or a run's events'
-abbrev pub TooLongFile : Option FileMap → Request → List ℕ → Type 0
-TooLongFile told request name =
-    (LongImage told (image_name request) × (name ≡ image_name request))
-    ⊎ ((run : RunWords) × (request ≡ Run run) × LongEvents told run × (name ≡ run.events))
-
--- why the files of a command gave nothing to run or to accept
-abbrev pub StopsLoad : Option FileMap → Bool → ℕ → ℕ → Request → Stop → Type 0
-StopsLoad told steady reads reads_after request (Read n) = ReadAt told request n.now × Faulted reads reads_after × (steady ≡ true → Lacks told n.now)
-StopsLoad told steady reads reads_after request (Long n) = TooLongFile told request n.now
-StopsLoad told steady reads reads_after request (Image n f) = (n.now ≡ image_name request) × FaultOrNoMemory (FaultyImage told request) f
-StopsLoad told steady reads reads_after request (Refused address rule) = IllTyped told request address rule
-StopsLoad told steady reads reads_after request (Form n at) = (run : RunWords) × (request ≡ Run run) × OutsideForm told run at × (n.now ≡ run.image)
-StopsLoad told steady reads reads_after request (Events n) = (run : RunWords) × (request ≡ Run run) × SomeEvents told run × (n.now ≡ run.events)
-StopsLoad told steady reads reads_after request NoMemory = Unit {0}
-StopsLoad told steady reads reads_after request _ = ⊥
+-- what stops a command whose image is not accepted
+abbrev pub stop_of_answer : CheckAnswer → Stop
+stop_of_answer (answer.Refused address rule) = Refused address rule
+stop_of_answer answer.NoMemory = NoMemory
 
 -- a file was not read
 abbrev pub IsUnread : Stop → Type 0
@@ -106,3 +86,46 @@ IsUnread _ = ⊥
 abbrev pub IsUnwritten : Stop → Type 0
 IsUnwritten Write = Unit {0}
 IsUnwritten _ = ⊥
+
+-- the stop tells the first of these causes that holds
+pub record TellsFirst (told : Option FileMap) (causes : List Cause) (s : Stop) : Type 0 where
+  pub cause : Cause
+  pub first : IsFirst told causes cause (line_of s)
+  pub status : status_of s ≡ status_of_cause cause
+
+-- why bytes that were read stop a command with these causes: the first that holds, or want of memory, which tells nothing of them
+abbrev pub StopsBy : Option FileMap → List Cause → Stop → Type 0
+StopsBy told causes NoMemory = Unit {0}
+StopsBy told causes Usage = ⊥
+StopsBy told causes (Read name) = ⊥
+StopsBy told causes Write = ⊥
+StopsBy told causes s = TellsFirst told causes s
+
+-- why the files of a command with these causes stop it: a read of a file to which it comes failed, or what was read does
+abbrev pub StopsAt : FilesSeen → FilesSeen → List Cause → Stop → Type 0
+StopsAt before after causes (Read name) =
+    ComesTo before.told causes (Missing name.now) × Faulted before.read_faults after.read_faults × (before.steady ≡ true → Lacks before.told name.now)
+StopsAt before after causes s = StopsBy before.told causes s
+
+-- what was told of a machine after a run that answered this: its report, or why not
+abbrev pub Tells : SinkSeen → SinkSeen → MachineView → RunEnd → Result Status Stop → Type 0
+Tells before after machine end (Ok s) = (end ≡ end_of machine.ending) × (s ≡ status_at end)
+    × Gained before.told after.told (ReportText machine.shown end machine.turns)
+Tells before after machine end (Err Write) = (end ≡ end_of machine.ending) × Faulted before.faults after.faults
+    × GainedFront before.told after.told (ReportText machine.shown end machine.turns)
+Tells before after machine end (Err NoMemory) = after.told ≡ before.told
+Tells before after machine end (Err _) = ⊥
+
+-- the status and the line of what a command answers
+abbrev pub told_status : Result Status Stop → Status
+told_status (Ok s) = s
+told_status (Err stop) = status_of stop
+
+abbrev pub told_line : Result Status Stop → List ℕ
+told_line (Ok s) = []
+told_line (Err stop) = line_of stop
+
+-- a command ended so, and left no more than a command may that writes no file
+pub record Acted (request : Request) (c : Call) (result : Result Status Stop) : Type 0 where
+  pub ends : Ends c request (told_status result) (told_line result)
+  pub leaves : Leaves None c (told_status result)

@@ -1,6 +1,7 @@
 -- The words of a command.
 use Rattle.std.specs.Prelude.{◌≡◌, ◌≢◌, ◌≤◌, ℕ, List, [], ◌∷◌, map, codes, decimal, String, string_bytes}
 use Rattle.std.specs.declared.alloc.Global.{Global}
+use Rattle.kernel_machine.specs.declared.running.TheConstants.{MOST_TURNS}
 
 -- `run IMAGE EVENTS TURNS`: the names of the two files, and how many turns at most
 pub record RunWords : Type 0 where
@@ -13,13 +14,13 @@ pub data Request : Type 0 where
   Run : RunWords → Request
   Check : List ℕ → Request
 
--- The words are this run: no name is empty, and the turns are a decimal number from 1 to 50000000 without leading zeros.
+-- The words are this run: no name is empty, and the turns are a decimal number from 1 on without leading zeros.
 pub record SpellsRun (words : List (String Global)) (run : RunWords) : Type 0 where
   pub spelled : map string_bytes words ≡ codes "run" ∷ run.image ∷ run.events ∷ decimal run.turns ∷ []
   pub image_named : run.image ≢ []
   pub events_named : run.events ≢ []
   pub some_turns : 1 ≤ run.turns
-  pub not_too_many : run.turns ≤ 50000000
+  pub not_too_many : run.turns ≤ MOST_TURNS
 
 -- the words ask for the check of the image of this name
 pub record SpellsCheck (words : List (String Global)) (image : List ℕ) : Type 0 where
@@ -34,8 +35,3 @@ WordsOf words (Check image) = SpellsCheck words image
 -- the words are no command
 abbrev pub NoCommand : List (String Global) → Type 0
 NoCommand words = (request : Request) → WordsOf words request → ⊥
-
--- the name of the image's file
-abbrev pub image_name : Request → List ℕ
-image_name (Run run) = run.image
-image_name (Check image) = image

@@ -1,14 +1,20 @@
 // What holds of the definitions alone: each law is a function with nothing to do, whose clause is the law.
+ghost use Rattle.std.specs.Prelude.{List};
 ghost use Rattle.outside.specs.FileMaps.{FileMap};
-ghost use Rattle.verve_tool.specs.Words.{Request};
-ghost use Rattle.verve_tool.specs.Decided.{OneStatus};
+ghost use Rattle.verve_tool.specs.Causes.{Cause, OneCause};
+ghost use Rattle.verve_tool.specs.Commands.{NothingStops};
 
 use tal_checker::laws::one_refusal;
 use tal_image::laws::one_meaning;
 
-/// Told files decide one thing of a command: a status refuses it, or a file is missing, or nothing stops it.
-pub fn one_status()
-    ensures { (files : FileMap) (request : Request) → OneStatus files request }
+/// Told files decide one thing of a list of causes: one of them is the first that holds, or none holds.
+pub fn one_cause()
+    ensures { (files : FileMap) (causes : List Cause) → OneCause files causes }
+{}
+
+/// No cause holds of files over which a command does its work.
+pub fn nothing_stops()
+    ensures { NothingStops }
 {
     one_meaning();
     one_refusal();

@@ -4,9 +4,13 @@
 // number is the program's exit status. `run` runs an image, and leaves the journal of the run and the machine that ran;
 // `check` tells whether an image is accepted, and runs nothing.
 //
-// `Outcome` (in specs/) says for each status what of the words, the files and the run it tells, and which line goes to the
-// error stream. That a run is done says that the report is the typed machine's; that a check is done says that the image is
-// well typed. `Refuses`, `IsMissing` and `Serves` say of told files what they decide, and `OneStatus` that it is one thing.
+// `Outcome` (in specs/) says what a call came to: the words are no command, or the command ended in one of five ways. A
+// command has a list of causes, `causes`, by which its files can stop it; the first that holds decides. `Did` says what it did
+// where none holds, and `Leaves` what any command leaves of its files and its output.
+//
+// A further command is a module with its `act_..`, a variant of `Command` and a line in `read_words` and in `act`. Its
+// definitions are a row each of `Request` and `WordsOf`, `causes`, `Serves`, `Did` with `MayEnd`, and `Written` with
+// `PartWritten`, and a row of `Cause`, `status_of` and `Holds` for each cause of its own.
 #![tactic(auto)]
 
 mod checks;

@@ -1,9 +1,9 @@
 // How a command ended, and the number by which the program tells it.
 ghost use Rattle.std.specs.Prelude.{◌≡◌};
-ghost use Rattle.verve_tool.specs.Number.{number_of};
+ghost use Rattle.verve_tool.specs.Number.{exit_number};
 
-/// How a command ended. Of several causes the first is told: the image file is read before the event file, and both before
-/// what they hold is looked at.
+/// How a command ended. Of several causes the first in the command's list is told: the image file is read before the event
+/// file, and both before what they hold is looked at.
 #[derive(Clone, Copy, Debug, PartialEq, Eq)]
 pub enum Status {
     /// The command did its work: the image is accepted, or the run was made and its report written.
@@ -31,7 +31,7 @@ pub enum Status {
 impl Status {
     /// The exit status of the program.
     pub fn number(self) -> u8
-        ensures { result ≡ number_of self }
+        ensures { result ≡ exit_number self }
     {
         match self {
             Status::Done => 0,

@@ -1,8 +1,11 @@
 // What stops a command, with what is told of it.
 ghost use Rattle.std.specs.Prelude.{◌≡◌};
-ghost use Rattle.verve_tool.specs.Stops.{status_of};
+ghost use Rattle.verve_tool.specs.Stops.{status_of, stop_of_fault};
 
 use crate::status::Status;
+use no_memory::NoMemory;
+use outside::PutFailed;
+use tal_checker::CheckAnswer;
 use tal_image::ImageFault;
 
 // Why a command stopped short of its work, with what its line on the error stream tells.
@@ -16,7 +19,7 @@ pub(crate) enum Stop<'a> {
     Write,
     // The file of this name is too long.
     Long(&'a str),
-    // No image stands for the file of this name, or memory was wanting for it.
+    // No image stands for the file of this name.
     Image(&'a str, ImageFault),
     // This rule fails at this address.
     Refused { address: u32, rule: u8 },
@@ -26,6 +29,18 @@ pub(crate) enum Stop<'a> {
     Events(&'a str),
     // Memory was wanting.
     NoMemory,
+}
+
+impl<'a> Stop<'a> {
+    // Why the file of this name stands for no image.
+    pub(crate) fn of_fault(name: &'a str, fault: ImageFault) -> Stop<'a>
+        ensures { result ≡ stop_of_fault name.entry fault }
+    {
+        match fault {
+            ImageFault::NoMemory => Stop::NoMemory,
+            _ => Stop::Image(name, fault),
+        }
+    }
 }
 
 impl Stop<'_> {
@@ -41,6 +56,42 @@ impl Stop<'_> {
             Stop::Image(..) => Status::Malformed,
             Stop::Refused { .. } => Status::Refused,
             Stop::Form { .. } | Stop::Events(_) => Status::NotBuilt,
+        }
+    }
+}
+
+impl From<NoMemory> for Stop<'_> {
+    ghost use Rattle.std.specs.Prelude.{◌≡◌};
+    ghost use Rattle.verve_tool.specs.declared.stop.Stop.TheVariants.{NoMemory as no_memory};
+
+    ghost from_gives = { λ _ stop. stop ≡ no_memory };
+
+    fn from(_want: NoMemory) -> Self {
+        Stop::NoMemory
+    }
+}
+
+impl From<PutFailed> for Stop<'_> {
+    ghost use Rattle.std.specs.Prelude.{◌≡◌};
+    ghost use Rattle.verve_tool.specs.declared.stop.Stop.TheVariants.{Write as write};
+
+    ghost from_gives = { λ _ stop. stop ≡ write };
+
+    fn from(_failure: PutFailed) -> Self {
+        Stop::Write
+    }
+}
+
+impl From<CheckAnswer> for Stop<'_> {
+    ghost use Rattle.std.specs.Prelude.{◌≡◌};
+    ghost use Rattle.verve_tool.specs.Stops.{stop_of_answer};
+
+    ghost from_gives = { λ answer stop. stop ≡ stop_of_answer answer };
+
+    fn from(answer: CheckAnswer) -> Self {
+        match answer {
+            CheckAnswer::Refused { address, rule } => Stop::Refused { address, rule },
+            CheckAnswer::NoMemory => Stop::NoMemory,
         }
     }
 }

@@ -1,11 +1,10 @@
 // The words of a command.
 ghost use Rattle.std.specs.Prelude.{◌≡◌, ◌≤◌, ℕ, List, decimal, MatchOption};
 ghost use Rattle.verve_tool.specs.Words.{RunWords, SpellsRun, SpellsCheck, WordsOf, NoCommand};
-ghost use Rattle.verve_tool.specs.Running.{run_of, request_of};
+ghost use Rattle.verve_tool.specs.Stops.{run_of, request_of};
 
 use itoa::Buffer;
-
-const MOST_TURNS: u32 = 50000000;
+use kernel_machine::MOST_TURNS;
 
 // A run of an image over events for so many turns at most.
 #[derive(Clone, Copy)]
@@ -25,8 +24,8 @@ pub(crate) enum Command<'a> {
 // The turns are a decimal number as it is printed, so without leading zeros or a sign.
 fn read_turns(word: &str) -> Option<u32>
     ensures { MatchOption result
-        ((n : ℕ) → 1 ≤ n → n ≤ 50000000 → word.now ≡ decimal n → ⊥)
-        (λ n. (word.now ≡ decimal n) × (1 ≤ n) × (n ≤ 50000000)) }
+        ((n : ℕ) → 1 ≤ n → n ≤ MOST_TURNS → word.now ≡ decimal n → ⊥)
+        (λ n. (word.now ≡ decimal n) × (1 ≤ n) × (n ≤ MOST_TURNS)) }
 {
     let Ok(number) = word.parse::<u32>() else {
         return None;
@@ -48,14 +47,12 @@ fn read_run(words: &[String]) -> Option<RunCommand<'_>>
     if command.as_str() != "run" || image.is_empty() || events.is_empty() {
         return None;
     }
-    match read_turns(turns.as_str()) {
-        Some(turns) => Some(RunCommand {
-            image: image.as_str(),
-            events: events.as_str(),
-            turns,
-        }),
-        None => None,
-    }
+    let turns = read_turns(turns.as_str())?;
+    Some(RunCommand {
+        image: image.as_str(),
+        events: events.as_str(),
+        turns,
+    })
 }
 
 // The name of the image whose check the words are, if they are one.
@@ -75,11 +72,9 @@ fn read_check(words: &[String]) -> Option<&str>
 pub(crate) fn read_words(words: &[String]) -> Option<Command<'_>>
     ensures { MatchOption result (NoCommand words.now) (λ command. WordsOf words.now (request_of command)) }
 {
-    match read_run(words) {
-        Some(run) => Some(Command::Run(run)),
-        None => match read_check(words) {
-            Some(image) => Some(Command::Check(image)),
-            None => None,
-        },
+    if let Some(run) = read_run(words) {
+        return Some(Command::Run(run));
     }
+    let image = read_check(words)?;
+    Some(Command::Check(image))
 }

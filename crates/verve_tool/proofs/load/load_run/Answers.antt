@@ -1,32 +1,31 @@
-use Rattle.std.proofs.Common.{◌≡◌, ◌<◌, arith}
-use Rattle.verve_tool.specs.Words.{Run}
-use Rattle.verve_tool.specs.Files.{FilesRead}
-use Rattle.verve_tool.specs.Running.{run_of}
-use Rattle.verve_tool.proofs.Loading.{stops_events, run_loaded, run_stopped}
+use Rattle.std.proofs.lemmas.Result.{err_from_is_err_and}
+use Rattle.verve_tool.specs.Seen.{files_seen}
+use Rattle.verve_tool.specs.Stops.{run_of}
+use Rattle.verve_tool.proofs.FilesRead.{accept_stops_run, form_stops_run}
+use Rattle.verve_tool.proofs.Endings.{reads_both}
 use Rattle.verve_tool.proofs.load.load_run.Goals as goal
 
--- reading the image's file raised no count
-quiet : (g : _) (c : goal.After-drop-image_bytes g) → g.F.Files.read_faults c.args.files.now ≡ g.F.Files.read_faults c.read_file.new.files
-quiet g c =
-    let alone : g.F.Files.read_faults c.args.files.now < g.F.Files.read_faults c.read_file.new.files → ⊥ = λ h. cc ((c.in-Ok.ensures.failed_alone h).1) in
-    omega (arith, c.read_file.ensures.never_falls, alone)
+pub returns-in_err-checked-clause-stopped : goal.returns-in_err-checked-clause-stopped
+returns-in_err-checked-clause-stopped g c =
+    let p = err_from_is_err_and c.from_residual-in_err-checked.result c.from_residual-in_err-checked.ensures.1 in
+    let seen = files_seen g.F.Files.told g.F.Files.steady g.F.Files.read_faults g.F.Files.write_faults in
+    rw (p.1, p.2) (accept_stops_run (seen c.args.files.now) (seen c.read_file-2.new.files) (run_of c.args.run)
+    c.in_ok-image_bytes.image_bytes.items c.in_ok-event_bytes.event_bytes.items _ c.in_ok-image_bytes.ensures.read
+    (rw c.in_ok-image_bytes.ensures.reads.told at c.in_ok-event_bytes.ensures.read)
+    (c.in_err-checked.ensures.stopped _ (rw c.deref.ensures.value c.in_ok-image_bytes.ensures.read)))
 
-pub returns-in-Err-read_file-clause-stopped : goal.returns-in-Err-read_file-clause-stopped
-returns-in-Err-read_file-clause-stopped g c =
-    stops_events _ _ _ _ (run_of c.args.run) c.in-Ok.bytes.items _ (record { read = c.in-Ok.ensures.bytes; within = c.in-Ok.ensures.within })
-    (rw (c.read_file.ensures.told, c.read_file.ensures.steady, ← quiet g c) at c.in-Err-read_file.ensures.stopped)
+pub returns-in_err-runs-clause-stopped : goal.returns-in_err-runs-clause-stopped
+returns-in_err-runs-clause-stopped g c =
+    let p = err_from_is_err_and c.from_residual-in_err-runs.result c.from_residual-in_err-runs.ensures.1 in
+    let seen = files_seen g.F.Files.told g.F.Files.steady g.F.Files.read_faults g.F.Files.write_faults in
+    rw (p.1, p.2) (form_stops_run c.one_meaning.ensures c.one_refusal.ensures (seen c.args.files.now) (seen c.read_file-2.new.files) (run_of c.args.run)
+    c.deref.result.now c.deref-2.result.now c.image.result.now _ (rw c.deref.ensures.value c.in_ok-image_bytes.ensures.read)
+    (rw (c.deref-2.ensures.value, ← c.in_ok-image_bytes.ensures.reads.told) c.in_ok-event_bytes.ensures.read)
+    (rw c.image.ensures.value c.in_ok-checked.ensures.stands) (rw c.image.ensures.value c.in_ok-checked.ensures.well_typed)
+    (c.in_err-runs.ensures.stopped _))
 
--- both files were read
-both : (g : _) (c : goal.After-drop-image_bytes-2 g) → FilesRead (g.F.Files.told c.args.files.now) (Run (run_of c.args.run)) c.deref.result.now c.deref-2.result.now
-both g c = rw (c.deref.ensures.value, c.deref-2.ensures.value) (
-  record { read = c.in-Ok.ensures.bytes; within = c.in-Ok.ensures.within },
-  record { read = rw c.read_file.ensures.told at c.in-Ok-read_file.ensures.bytes; within = c.in-Ok-read_file.ensures.within },
-)
+pub returns-in_err-runs-clause-reads : goal.returns-in_err-runs-clause-reads
+returns-in_err-runs-clause-reads g c = reads_both _ _ _ _ c.in_ok-image_bytes.ensures.reads c.in_ok-event_bytes.ensures.reads
 
-pub returns-clause-loaded : goal.returns-clause-loaded
-returns-clause-loaded g c =
-    run_loaded _ _ _ _ c.accept_run.result (both g c) c.accept_run.ensures.stands c.accept_run.ensures.well_typed
-    c.accept_run.ensures.built c.accept_run.ensures.no_events
-
-pub returns-clause-stopped : goal.returns-clause-stopped
-returns-clause-stopped g c = run_stopped _ _ _ _ _ _ _ c.accept_run.result (both g c) c.accept_run.ensures.stopped
+pub returns-clause-reads : goal.returns-clause-reads
+returns-clause-reads g c = reads_both _ _ _ _ c.in_ok-image_bytes.ensures.reads c.in_ok-event_bytes.ensures.reads

@@ -1,0 +1,215 @@
+-- What was read of files tells which causes do not hold of them, and which do.
+use Rattle.std.specs.Prelude.{Option, Some, None, IsSomeAnd}
+use Rattle.std.proofs.Common.{◌≡◌, ◌≢◌, ◌⊎◌, ◌≤◌, ◌<◌, ℕ, ◌+◌, List, [], ◌∷◌, take, length, Bor, inl, inr, refl, sym, ◌∙◌, subst, arith}
+use Rattle.outside.specs.FileMaps.{FileMap, Gives, Lacks}
+use Rattle.tal_image.specs.Image.{ImageParts}
+use Rattle.tal_image.specs.Formed.{ImageOf}
+use Rattle.tal_image.specs.Laws.{OneMeaning}
+use Rattle.tal_image.specs.Fields.{FirstFault}
+use Rattle.tal_image.specs.declared.fault.ImageFault.{ImageFault}
+use Rattle.tal_image.specs.declared.fault.ImageFault.TheVariants as fault
+use Rattle.tal_checker.specs.WellTyped.{WellTyped, FirstRefusal, OneRefusal}
+use Rattle.tal_checker.specs.declared.answer.CheckAnswer.{CheckAnswer}
+use Rattle.tal_checker.specs.declared.answer.CheckAnswer.TheVariants as answer
+use Rattle.kernel_machine.specs.Built.{IsBuilt, FirstOutside, first_of, outside}
+use Rattle.verve_tool.specs.Words.{RunWords, Request, Run, Check}
+use Rattle.verve_tool.specs.Lines.{fault_line}
+use Rattle.verve_tool.specs.Causes.{Missing, Long, Malformed, IllTyped, Unbuilt, Eventful, Holds, Fails, NoneHolds, FileRead, HoldsImage, TypedImage}
+use Rattle.verve_tool.specs.Commands.{causes, Serves, Loaded, NothingStops}
+use Rattle.verve_tool.specs.Seen.{FilesSeen}
+use Rattle.verve_tool.specs.Stops.{StopsBy, StopsAt, TellsFirst, stop_of_fault, stop_of_answer}
+use Rattle.verve_tool.proofs.CauseLists.{none_of_both, stops_more, stops_later, stops_by_bytes}
+use Rattle.verve_tool.specs.declared.load.TheConstants.{IMAGE_MOST, EVENTS_MOST}
+use Rattle.verve_tool.specs.declared.stop.Stop.{Stop}
+use Rattle.verve_tool.specs.declared.stop.Stop.TheVariants.{Form, Events}
+
+-- a file has one front of a length
+one_front : (o : Option (List ℕ)) (n : ℕ) (a b : List ℕ) → IsSomeAnd o (λ whole. a ≡ take n whole) → IsSomeAnd o (λ whole. b ≡ take n whole) → a ≡ b
+one_front None n a b p q = absurd p
+one_front (Some whole) n a b p q = p ∙ sym q
+
+-- two reads of one file give the same bytes
+gives_one : (files : FileMap) (name : List ℕ) (most : ℕ) (a b : List ℕ) → Gives (Some files) name most a → Gives (Some files) name most b → a ≡ b
+gives_one files name most a b p q = one_front (files name) (most + 1) a b p q
+
+-- a file that is not there has no front
+none_given : (o : Option (List ℕ)) (n : ℕ) (a : List ℕ) → IsSomeAnd o (λ whole. a ≡ take n whole) → o ≡ None → ⊥
+none_given None n a p e = absurd p
+none_given (Some whole) n a p e = cc e
+
+-- a file that was read is there
+pub not_missing : (told : Option FileMap) (name : List ℕ) (most : ℕ) (bytes : List ℕ) → Gives told name most bytes → Fails told (Missing name)
+not_missing None name most bytes g = tt
+not_missing (Some files) name most bytes g = λ line h. none_given (files name) (most + 1) bytes g h.0
+
+-- a length is within a limit or above it, and not both
+within_or_above : (most n : ℕ) → n ≤ most → most < n → ⊥
+within_or_above most n w l = omega arith
+
+-- a file within its limit is not too long
+not_long : (told : Option FileMap) (name : List ℕ) (most : ℕ) (bytes : List ℕ) → FileRead told name most bytes → Fails told (Long name most)
+not_long None name most bytes f = tt
+not_long (Some files) name most bytes f = λ line h. within_or_above most (length bytes) f.within
+    (subst (λ (b : List ℕ). most < length b) (gives_one files name most h.0.bytes bytes h.0.read f.read) h.0.more)
+
+-- a file that was read, and is within its limit, has neither cause
+pub read_stops_none : (told : Option FileMap) (name : List ℕ) (most : ℕ) (bytes : List ℕ) → FileRead told name most bytes
+    → NoneHolds told (Missing name ∷ Long name most ∷ [])
+read_stops_none told name most bytes f = (not_missing told name most bytes f.read, (not_long told name most bytes f, tt))
+
+-- told files hold one image
+same_image : OneMeaning → (files : FileMap) (name : List ℕ) (i j : ImageParts) → HoldsImage (Some files) name i → HoldsImage (Some files) name j → i ≡ j
+same_image meaning files name i j a b = meaning.one_image b.bytes i j
+    (subst (λ (x : List ℕ). ImageOf x i) (gives_one files name IMAGE_MOST a.bytes b.bytes a.file.read b.file.read) a.stands) b.stands
+
+-- a file for which an image stands is not malformed
+pub not_malformed : OneMeaning → (told : Option FileMap) (name : List ℕ) (image : ImageParts) → HoldsImage told name image → Fails told (Malformed name)
+not_malformed meaning None name image held = tt
+not_malformed meaning (Some files) name image held = λ line h. meaning.not_both held.bytes image h.0 held.stands
+    (subst (λ (b : List ℕ). FirstFault b h.0) (gives_one files name IMAGE_MOST h.1.bytes held.bytes h.1.file.read held.file.read) h.1.first)
+
+-- a file whose image is well typed is not ill typed
+not_ill_typed : OneMeaning → OneRefusal → (told : Option FileMap) (name : List ℕ) (image : ImageParts) → TypedImage told name image → Fails told (IllTyped name)
+not_ill_typed meaning refusal None name image t = tt
+not_ill_typed meaning refusal (Some files) name image t = λ line h. refusal.not_typed image h.0 h.1
+    (subst (λ (i : ImageParts). FirstRefusal i h.0 h.1) (same_image meaning files name h.2.image image h.2.held t.held) h.2.refusal) t.well_typed
+
+-- a well typed image in a file stops nothing by itself
+pub typed_stops_none : OneMeaning → OneRefusal → (told : Option FileMap) (name : List ℕ) (image : ImageParts) → TypedImage told name image
+    → NoneHolds told (Malformed name ∷ IllTyped name ∷ [])
+typed_stops_none meaning refusal told name image t =
+    (not_malformed meaning told name image t.held, (not_ill_typed meaning refusal told name image t, tt))
+
+-- a list is not empty and with a first element at once
+no_first : (xs : List ℕ) (at : ℕ) → xs ≡ [] → first_of xs ≡ Some at → ⊥
+no_first [] at e f = cc
+no_first (x ∷ xs) at e f = cc
+
+-- an image of the form that runs is not outside it
+pub not_unbuilt : OneMeaning → (told : Option FileMap) (name : List ℕ) (image : ImageParts) → TypedImage told name image → IsBuilt image
+    → Fails told (Unbuilt name)
+not_unbuilt meaning None name image t built = tt
+not_unbuilt meaning (Some files) name image t built = λ line h. no_first (outside image) h.0 built
+    (subst (λ (i : ImageParts). FirstOutside i h.0) (same_image meaning files name h.1.image image h.1.typed.held t.held) h.1.first)
+
+-- an event file that was read and is empty has no events
+pub not_eventful : (told : Option FileMap) (name : List ℕ) → FileRead told name EVENTS_MOST [] → Fails told (Eventful name)
+not_eventful None name f = tt
+not_eventful (Some files) name f = λ line h. h.0.some (gives_one files name EVENTS_MOST h.0.bytes [] h.0.file.read f.read)
+
+-- nothing stops a command over files with which it does its work
+pub nothing_stops : OneMeaning → OneRefusal → NothingStops
+nothing_stops meaning refusal told (Run run) (image, l) =
+    let image_file = read_stops_none told run.image IMAGE_MOST l.typed.held.bytes l.typed.held.file in
+    let event_file = read_stops_none told run.events EVENTS_MOST [] l.no_events in
+    let typed = typed_stops_none meaning refusal told run.image image l.typed in (
+      image_file.0,
+      (
+        image_file.1.0,
+        (
+          event_file.0,
+          (
+            event_file.1.0,
+            (
+              typed.0,
+              (
+                typed.1.0,
+                (not_unbuilt meaning told run.image image l.typed l.built, (not_eventful told run.events l.no_events, tt)),
+              ),
+            ),
+          ),
+        ),
+      ),
+    )
+nothing_stops meaning refusal told (Check name) (image, t) =
+    let file = read_stops_none told name IMAGE_MOST t.held.bytes t.held.file in
+    (file.0, (file.1.0, typed_stops_none meaning refusal told name image t))
+
+-- a fault of the format is the first cause of its bytes
+malformed : (told : Option FileMap) (name : List ℕ) (bytes : List ℕ) (f : ImageFault) → FileRead told name IMAGE_MOST bytes → f ≢ fault.NoMemory
+    → (f ≡ fault.NoMemory) ⊎ FirstFault bytes f → Holds told (Malformed name) (fault_line name f)
+malformed told name bytes f file real (inl is) = absurd (real is)
+malformed told name bytes f file real (inr first) = (f, record { bytes = bytes; file = file; first = first; real = real }, refl)
+
+-- a fault of the image file stops a command
+pub fault_stops : (told : Option FileMap) (name : Bor (List ℕ)) (bytes : List ℕ) (f : ImageFault) → FileRead told name.now IMAGE_MOST bytes
+    → (f ≡ fault.NoMemory) ⊎ FirstFault bytes f → StopsBy told (Malformed name.now ∷ []) (stop_of_fault name f)
+fault_stops told name bytes fault.NoMemory file h = tt
+fault_stops told name bytes fault.Magic file h =
+    record { cause = Malformed name.now; first = record { comes = inl refl; holds = malformed told name.now bytes _ file (λ e. cc e) h }; status = refl }
+fault_stops told name bytes fault.Version file h =
+    record { cause = Malformed name.now; first = record { comes = inl refl; holds = malformed told name.now bytes _ file (λ e. cc e) h }; status = refl }
+fault_stops told name bytes (fault.Short at) file h =
+    record { cause = Malformed name.now; first = record { comes = inl refl; holds = malformed told name.now bytes _ file (λ e. cc e) h }; status = refl }
+fault_stops told name bytes (fault.Rest at) file h =
+    record { cause = Malformed name.now; first = record { comes = inl refl; holds = malformed told name.now bytes _ file (λ e. cc e) h }; status = refl }
+fault_stops told name bytes (fault.Bad at condition) file h =
+    record { cause = Malformed name.now; first = record { comes = inl refl; holds = malformed told name.now bytes _ file (λ e. cc e) h }; status = refl }
+
+-- a refusal of the image stops a command
+pub answer_stops : OneMeaning → (told : Option FileMap) (name : List ℕ) (image : ImageParts) (a : CheckAnswer) → HoldsImage told name image
+    → ((address rule : ℕ) → a ≡ answer.Refused address rule → FirstRefusal image address rule)
+    → StopsBy told (Malformed name ∷ IllTyped name ∷ []) (stop_of_answer a)
+answer_stops meaning told name image answer.NoMemory held refused = tt
+answer_stops meaning told name image (answer.Refused address rule) held refused = record {
+  cause = IllTyped name;
+  first = record {
+    comes = inr (not_malformed meaning told name image held, inl refl);
+    holds = (address, rule, record { image = image; held = held; refusal = refused address rule refl }, refl);
+  };
+  status = refl;
+}
+
+-- an image outside the form that runs stops a run
+pub form_stops : (told : Option FileMap) (name events : Bor (List ℕ)) (image : ImageParts) (at : ℕ) → TypedImage told name.now image
+    → FirstOutside image at → StopsBy told (Unbuilt name.now ∷ Eventful events.now ∷ []) (Form name at)
+form_stops told name events image at typed first = record {
+  cause = Unbuilt name.now;
+  first = record { comes = inl refl; holds = (at, record { image = image; typed = typed; first = first }, refl) };
+  status = refl;
+}
+
+-- events stop a run
+pub events_stop : OneMeaning → (told : Option FileMap) (name events : Bor (List ℕ)) (image : ImageParts) (bytes : List ℕ) → TypedImage told name.now image
+    → IsBuilt image → FileRead told events.now EVENTS_MOST bytes → bytes ≢ [] → StopsBy told (Unbuilt name.now ∷ Eventful events.now ∷ []) (Events events)
+events_stop meaning told name events image bytes typed built file some = record {
+  cause = Eventful events.now;
+  first = record {
+    comes = inr (not_unbuilt meaning told name.now image typed built, inl refl);
+    holds = (record { bytes = bytes; file = file; some = some }, refl);
+  };
+  status = refl;
+}
+
+-- the image's bytes, of files that were read, stop a run
+pub accept_stops_run : (before after : FilesSeen) (run : RunWords) (image_bytes event_bytes : List ℕ) (s : Stop)
+    → FileRead before.told run.image IMAGE_MOST image_bytes → FileRead before.told run.events EVENTS_MOST event_bytes
+    → StopsBy before.told (Malformed run.image ∷ IllTyped run.image ∷ []) s → StopsAt before after (causes (Run run)) s
+accept_stops_run before after run image_bytes event_bytes s image_file event_file h =
+    let none : NoneHolds before.told (Missing run.image ∷ Long run.image IMAGE_MOST ∷ Missing run.events ∷ Long run.events EVENTS_MOST ∷ []) =
+    none_of_both before.told (Missing run.image ∷ Long run.image IMAGE_MOST ∷ []) (Missing run.events ∷ Long run.events EVENTS_MOST ∷ [])
+    (read_stops_none before.told run.image IMAGE_MOST image_bytes image_file) (read_stops_none before.told run.events EVENTS_MOST event_bytes event_file) in
+    stops_more before after
+    (Missing run.image ∷ Long run.image IMAGE_MOST ∷ Missing run.events ∷ Long run.events EVENTS_MOST ∷ Malformed run.image ∷ IllTyped run.image ∷ [])
+    (Unbuilt run.image ∷ Eventful run.events ∷ []) s
+    (stops_later before after (Missing run.image ∷ Long run.image IMAGE_MOST ∷ Missing run.events ∷ Long run.events EVENTS_MOST ∷ [])
+    (Malformed run.image ∷ IllTyped run.image ∷ []) s none (stops_by_bytes before after (Malformed run.image ∷ IllTyped run.image ∷ []) s h))
+
+-- an accepted image of files that were read stops a run
+pub form_stops_run : OneMeaning → OneRefusal → (before after : FilesSeen) (run : RunWords) (image_bytes event_bytes : List ℕ) (image : ImageParts) (s : Stop)
+    → FileRead before.told run.image IMAGE_MOST image_bytes → FileRead before.told run.events EVENTS_MOST event_bytes
+    → ImageOf image_bytes image → WellTyped image
+    → (TypedImage before.told run.image image → FileRead before.told run.events EVENTS_MOST event_bytes
+    → StopsBy before.told (Unbuilt run.image ∷ Eventful run.events ∷ []) s) → StopsAt before after (causes (Run run)) s
+form_stops_run meaning refusal before after run image_bytes event_bytes image s image_file event_file stands well_typed h =
+    let typed : TypedImage before.told run.image image =
+    record { held = record { bytes = image_bytes; file = image_file; stands = stands }; well_typed = well_typed } in
+    let image_read = read_stops_none before.told run.image IMAGE_MOST image_bytes image_file in
+    let event_read = read_stops_none before.told run.events EVENTS_MOST event_bytes event_file in
+    let both = typed_stops_none meaning refusal before.told run.image image typed in
+    let none : NoneHolds before.told
+    (Missing run.image ∷ Long run.image IMAGE_MOST ∷ Missing run.events ∷ Long run.events EVENTS_MOST ∷ Malformed run.image ∷ IllTyped run.image ∷ []) =
+    (image_read.0, (image_read.1.0, (event_read.0, (event_read.1.0, both)))) in
+    stops_later before after
+    (Missing run.image ∷ Long run.image IMAGE_MOST ∷ Missing run.events ∷ Long run.events EVENTS_MOST ∷ Malformed run.image ∷ IllTyped run.image ∷ [])
+    (Unbuilt run.image ∷ Eventful run.events ∷ []) s none (stops_by_bytes before after (Unbuilt run.image ∷ Eventful run.events ∷ []) s (h typed event_file))

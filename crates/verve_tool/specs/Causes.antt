@@ -1,0 +1,119 @@
+-- Why the files of a command stop it: the causes, which come in an order, and of which the first that holds decides.
+use Rattle.std.specs.Prelude.{◌≡◌, ◌≢◌, ◌⊎◌, ◌<◌, ◌≤◌, ℕ, List, [], ◌∷◌, length, Option, Some, None}
+use Rattle.outside.specs.FileMaps.{FileMap, Gives, Lacks}
+use Rattle.tal_image.specs.Image.{ImageParts}
+use Rattle.tal_image.specs.Formed.{ImageOf}
+use Rattle.tal_image.specs.Fields.{FirstFault}
+use Rattle.tal_image.specs.declared.fault.ImageFault.{ImageFault}
+use Rattle.tal_image.specs.declared.fault.ImageFault.TheVariants.{NoMemory}
+use Rattle.tal_checker.specs.WellTyped.{WellTyped, FirstRefusal}
+use Rattle.kernel_machine.specs.Built.{FirstOutside}
+use Rattle.verve_tool.specs.Lines.{read_line, long_line, fault_line, refused_line, not_built_line}
+use Rattle.verve_tool.specs.declared.load.TheConstants.{IMAGE_MOST, EVENTS_MOST}
+use Rattle.verve_tool.specs.declared.status.Status.{Status}
+use Rattle.verve_tool.specs.declared.status.Status.TheVariants as status
+
+-- Each cause is of the file of a name.
+pub data Cause : Type 0 where
+  -- there is none
+  Missing : List ℕ → Cause
+  -- it has more than so many bytes
+  Long : List ℕ → ℕ → Cause
+  -- no image stands for it
+  Malformed : List ℕ → Cause
+  -- its image is not well typed
+  IllTyped : List ℕ → Cause
+  -- its image has a form that does not run yet
+  Unbuilt : List ℕ → Cause
+  -- it has events, which are not built
+  Eventful : List ℕ → Cause
+
+-- the status by which a cause is told
+abbrev pub status_of : Cause → Status
+status_of (Missing name) = status.ReadFault
+status_of (Long name most) = status.TooLong
+status_of (Malformed name) = status.Malformed
+status_of (IllTyped name) = status.Refused
+status_of (Unbuilt name) = status.NotBuilt
+status_of (Eventful name) = status.NotBuilt
+
+-- a file was read, and has at most so many bytes
+pub record FileRead (told : Option FileMap) (name : List ℕ) (most : ℕ) (bytes : List ℕ) : Type 0 where
+  pub read : Gives told name most bytes
+  pub within : length bytes ≤ most
+
+-- an image stands for the file
+pub record HoldsImage (told : Option FileMap) (name : List ℕ) (image : ImageParts) : Type 0 where
+  pub bytes : List ℕ
+  pub file : FileRead told name IMAGE_MOST bytes
+  pub stands : ImageOf bytes image
+
+-- a well typed image does
+pub record TypedImage (told : Option FileMap) (name : List ℕ) (image : ImageParts) : Type 0 where
+  pub held : HoldsImage told name image
+  pub well_typed : WellTyped image
+
+-- an image does, and a rule fails in it: first at this address, this one
+pub record IsIllTyped (told : Option FileMap) (name : List ℕ) (address rule : ℕ) : Type 0 where
+  pub image : ImageParts
+  pub held : HoldsImage told name image
+  pub refusal : FirstRefusal image address rule
+
+-- a well typed image does, and this is the first byte of the file outside the form that runs
+pub record IsUnbuilt (told : Option FileMap) (name : List ℕ) (at : ℕ) : Type 0 where
+  pub image : ImageParts
+  pub typed : TypedImage told name image
+  pub first : FirstOutside image at
+
+-- the file has more than so many bytes
+pub record IsLong (told : Option FileMap) (name : List ℕ) (most : ℕ) : Type 0 where
+  pub bytes : List ℕ
+  pub read : Gives told name most bytes
+  pub more : most < length bytes
+
+-- no image stands for the file, and this is its first fault
+pub record HasFault (told : Option FileMap) (name : List ℕ) (fault : ImageFault) : Type 0 where
+  pub bytes : List ℕ
+  pub file : FileRead told name IMAGE_MOST bytes
+  pub first : FirstFault bytes fault
+  pub real : fault ≢ NoMemory
+
+-- the file is not empty
+pub record HasEvents (told : Option FileMap) (name : List ℕ) : Type 0 where
+  pub bytes : List ℕ
+  pub file : FileRead told name EVENTS_MOST bytes
+  pub some : bytes ≢ []
+
+-- The cause holds of the files, and this is its line. Of files that tell nothing it says that there are such bytes.
+abbrev pub Holds : Option FileMap → Cause → List ℕ → Type 0
+Holds told (Missing name) line = Lacks told name × (line ≡ read_line name)
+Holds told (Long name most) line = IsLong told name most × (line ≡ long_line name)
+Holds told (Malformed name) line = (fault : ImageFault) × HasFault told name fault × (line ≡ fault_line name fault)
+Holds told (IllTyped name) line = (address rule : ℕ) × IsIllTyped told name address rule × (line ≡ refused_line address rule)
+Holds told (Unbuilt name) line = (at : ℕ) × IsUnbuilt told name at × (line ≡ not_built_line name at)
+Holds told (Eventful name) line = HasEvents told name × (line ≡ not_built_line name 0)
+
+-- The cause does not hold. Of files that tell nothing nobody knows.
+abbrev pub Fails : Option FileMap → Cause → Type 0
+Fails None cause = Unit {0}
+Fails (Some files) cause = (line : List ℕ) → Holds (Some files) cause line → ⊥
+
+-- A command with these causes comes to this one: nothing earlier holds.
+abbrev pub ComesTo : Option FileMap → List Cause → Cause → Type 0
+ComesTo told [] cause = ⊥
+ComesTo told (c ∷ cs) cause = (cause ≡ c) ⊎ (Fails told c × ComesTo told cs cause)
+
+-- the first of these causes that holds, with its line
+pub record IsFirst (told : Option FileMap) (causes : List Cause) (cause : Cause) (line : List ℕ) : Type 0 where
+  pub comes : ComesTo told causes cause
+  pub holds : Holds told cause line
+
+-- none of these causes holds
+abbrev pub NoneHolds : Option FileMap → List Cause → Type 0
+NoneHolds told [] = Unit {0}
+NoneHolds told (c ∷ cs) = Fails told c × NoneHolds told cs
+
+-- Told files decide one thing of a list of causes: one is the first, or none holds.
+pub record OneCause (files : FileMap) (causes : List Cause) : Type 0 where
+  pub one_first : (a b : Cause) (s t : List ℕ) → IsFirst (Some files) causes a s → IsFirst (Some files) causes b t → a ≡ b
+  pub not_both : (a : Cause) (s : List ℕ) → IsFirst (Some files) causes a s → NoneHolds (Some files) causes → ⊥
