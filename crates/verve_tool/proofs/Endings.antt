@@ -18,7 +18,7 @@ use Rattle.verve_tool.specs.Causes.{Cause, Missing, Long, Malformed, IllTyped, U
 use Rattle.verve_tool.specs.Commands.{causes, Loaded}
 use Rattle.verve_tool.specs.Seen.{FilesSeen, SinkSeen, Call, OnlyReads, OnlyPuts, Leaves}
 use Rattle.verve_tool.specs.Runs.{RanFor, IsOver, RanWithin, RanWhole, text_of, status_at}
-use Rattle.verve_tool.specs.Outcome.{Ends, Finished, Did, Unrun, Idle, MayHaveRun, Stopped}
+use Rattle.verve_tool.specs.Outcome.{Ends, Finished, Did, Written, PartWritten, Idle, MayHaveRun, Stopped}
 use Rattle.verve_tool.specs.Stops.{Acted, StopsAt, TellsFirst, Tells, IsUnread, IsUnwritten, status_of, line_of, told_status, told_line}
 use Rattle.verve_tool.specs.declared.status.Status.{Status}
 use Rattle.verve_tool.specs.declared.status.Status.TheVariants as status
@@ -171,27 +171,27 @@ acted_stopped c request s idle left stops reads puts = record {
   leaves = leaves_all c (status_of s) (IsUnread s) ⊥ reads puts (unread_status s) (λ h. absurd h);
 }
 
--- a check was done
-pub acted_check : (c : Call) (name : List ℕ) (image : ImageParts) → TypedImage c.files.told name image → Unrun c
-    → OnlyReads c.files c.files_after ⊥ → OnlyPuts c.out c.out_after ⊥ → Gained c.out.told c.out_after.told accepted_text → Acted (Check name) c (Ok status.Done)
-acted_check c name image typed unrun reads puts text = record {
-  ends = record { text = accepted_text; did = (image, typed, unrun, refl, refl); written = text; line_is = refl };
+-- a command was done
+pub acted_done : (c : Call) (request : Request) (text : List ℕ) → Did c request status.Done text → Written c request text
+    → OnlyReads c.files c.files_after ⊥ → OnlyPuts c.out c.out_after ⊥ → Acted request c (Ok status.Done)
+acted_done c request text did written reads puts = record {
+  ends = record { text = text; did = did; written = written; line_is = refl };
   leaves = leaves_all c status.Done ⊥ ⊥ reads puts (λ h. absurd h) (λ h. absurd h);
 }
 
--- a check was done, and that was not written
-pub acted_check_unwritten : (c : Call) (name : List ℕ) (image : ImageParts) (P : Type 0) → TypedImage c.files.told name image → Unrun c
-    → OnlyReads c.files c.files_after ⊥ → OnlyPuts c.out c.out_after P → Faulted c.out.faults c.out_after.faults
-    → GainedFront c.out.told c.out_after.told accepted_text → Acted (Check name) c (Err Write)
-acted_check_unwritten c name image P typed unrun reads puts fault text = record {
-  ends = record { s = status.Done; text = accepted_text; did = (image, typed, unrun, refl, refl); part = (fault, text); line_is = refl };
+-- a command was done, and its text was not written whole
+pub acted_unwritten : (c : Call) (request : Request) (text : List ℕ) (P : Type 0) → Did c request status.Done text → PartWritten c request text
+    → OnlyReads c.files c.files_after ⊥ → OnlyPuts c.out c.out_after P → Acted request c (Err Write)
+acted_unwritten c request text P did part reads puts = record {
+  ends = record { s = status.Done; text = text; did = did; part = part; line_is = refl };
   leaves = leaves_all c status.WriteFault ⊥ P reads puts (λ h. absurd h) (λ h. refl);
 }
 
--- memory was wanting for the machine of a run
-pub acted_no_machine : (c : Call) (run : RunWords) → Idle c → OnlyReads c.files c.files_after ⊥ → OnlyPuts c.out c.out_after ⊥ → Acted (Run run) c (Err NoMemory)
-acted_no_machine c run idle reads puts = record {
-  ends = record { silent = idle.silent; left = inl idle.unrun; line_is = refl };
+-- memory was wanting before anything was put
+pub acted_wanting : (c : Call) (request : Request) → Idle c → MayHaveRun c request → OnlyReads c.files c.files_after ⊥ → OnlyPuts c.out c.out_after ⊥
+    → Acted request c (Err NoMemory)
+acted_wanting c request idle left reads puts = record {
+  ends = record { silent = idle.silent; left = left; line_is = refl };
   leaves = leaves_all c status.NoMemory ⊥ ⊥ reads puts (λ h. absurd h) (λ h. absurd h);
 }
 

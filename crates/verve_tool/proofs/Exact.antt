@@ -8,7 +8,7 @@ use Rattle.outside.specs.Faults.{Faulted, Quiet}
 use Rattle.tal_image.specs.Image.{ImageParts}
 use Rattle.kernel_machine.specs.declared.run_end.RunEnd.{RunEnd}
 use Rattle.kernel_machine.specs.declared.run_end.RunEnd.TheVariants as run_end
-use Rattle.verve_tool.specs.Words.{RunWords, Request, Run, Check, SpellsRun, WordsOf, NoCommand}
+use Rattle.verve_tool.specs.Words.{RunWords, Request, Run, Check, Listing, SpellsRun, WordsOf, NoCommand}
 use Rattle.verve_tool.specs.Causes.{Cause, Missing, IsFirst, NoneHolds, OneCause, TypedImage, status_of}
 use Rattle.verve_tool.specs.Commands.{causes, Serves, NothingStops, MayEnd}
 use Rattle.verve_tool.specs.Seen.{Call}
@@ -33,20 +33,29 @@ same_run words a b p q =
     let t : a.turns ≡ b.turns = decimal_injective a.turns b.turns (omega (arith, p.not_too_many)) (omega (arith, q.not_too_many)) w.2 in
     same_fields _ _ _ _ _ _ w.0 w.1 t
 
--- words are the check of one image
-same_names : (i j : List ℕ) → (codes "check" ∷ i ∷ []) ≡ (codes "check" ∷ j ∷ []) → i ≡ j
-same_names i j h = cc
+-- two words have one second
+same_names : (w i j : List ℕ) → (w ∷ i ∷ []) ≡ (w ∷ j ∷ []) → i ≡ j
+same_names w i j h = cc
 
--- words are no run and check at once
-not_both : (i e t j : List ℕ) → (codes "run" ∷ i ∷ e ∷ t ∷ []) ≡ (codes "check" ∷ j ∷ []) → ⊥
-not_both i e t j h = cc
+-- four words are not two
+four_or_two : (r i e t w j : List ℕ) → (r ∷ i ∷ e ∷ t ∷ []) ≡ (w ∷ j ∷ []) → ⊥
+four_or_two r i e t w j h = cc
+
+-- words are no check and listing at once
+check_or_list : (i j : List ℕ) → (codes "check" ∷ i ∷ []) ≡ (codes "list" ∷ j ∷ []) → ⊥
+check_or_list i j h = cc
 
 -- words are one command
 same_request : (words : List (String Global)) (a b : Request) → WordsOf words a → WordsOf words b → a ≡ b
 same_request words (Run a) (Run b) p q = ap (λ (r : RunWords). Run r) (same_run words a b p q)
-same_request words (Run a) (Check b) p q = absurd (not_both _ _ _ _ (sym p.spelled ∙ q.spelled))
-same_request words (Check a) (Run b) p q = absurd (not_both _ _ _ _ (sym q.spelled ∙ p.spelled))
-same_request words (Check a) (Check b) p q = ap (λ (n : List ℕ). Check n) (same_names a b (sym p.spelled ∙ q.spelled))
+same_request words (Run a) (Check b) p q = absurd (four_or_two _ _ _ _ _ _ (sym p.spelled ∙ q.spelled))
+same_request words (Run a) (Listing b) p q = absurd (four_or_two _ _ _ _ _ _ (sym p.spelled ∙ q.spelled))
+same_request words (Check a) (Run b) p q = absurd (four_or_two _ _ _ _ _ _ (sym q.spelled ∙ p.spelled))
+same_request words (Check a) (Check b) p q = ap (λ (n : List ℕ). Check n) (same_names _ a b (sym p.spelled ∙ q.spelled))
+same_request words (Check a) (Listing b) p q = absurd (check_or_list _ _ (sym p.spelled ∙ q.spelled))
+same_request words (Listing a) (Run b) p q = absurd (four_or_two _ _ _ _ _ _ (sym q.spelled ∙ p.spelled))
+same_request words (Listing a) (Check b) p q = absurd (check_or_list _ _ (sym q.spelled ∙ p.spelled))
+same_request words (Listing a) (Listing b) p q = ap (λ (n : List ℕ). Listing n) (same_names _ a b (sym p.spelled ∙ q.spelled))
 
 -- a count did not rise, or something failed, and not both
 quiet_or_faulted : (before after : ℕ) → Quiet before after → Faulted before after → ⊥
@@ -69,6 +78,7 @@ usage_status words c s line (inr asked) h = absurd (h asked.request asked.spelle
 did_serve : (c : Call) (request : Request) (s : Status) (text : List ℕ) → Did c request s text → Serves c.files.told request
 did_serve c (Run run) s text d = (d.0.within.machine.image, d.0.within.loaded)
 did_serve c (Check name) s text d = (d.0, d.1)
+did_serve c (Listing name) s text d = (d.0, d.1)
 
 -- a run is done, or ended by a fault of the kernel
 run_ends : (e : RunEnd) → (status_at e ≡ Done) ⊎ (status_at e ≡ KernelFault)
@@ -81,11 +91,13 @@ run_ends run_end.NoMemory = inl refl
 did_end : (c : Call) (request : Request) (s : Status) (text : List ℕ) → Did c request s text → MayEnd request s
 did_end c (Run run) s text d = elim (run_ends _) [ inl is ↦ inl (d.1 ∙ is) | inr is ↦ inr (d.1 ∙ is) ]
 did_end c (Check name) s text d = d.3
+did_end c (Listing name) s text d = d.3
 
 -- a text was not written whole, so a fault of the output was counted
 part_fault : (c : Call) (request : Request) (text : List ℕ) → PartWritten c request text → Faulted c.out.faults c.out_after.faults
 part_fault c (Run run) text p = p.0
 part_fault c (Check name) text p = p.0
+part_fault c (Listing name) text p = p.0
 
 -- A command that ended so was short of memory, or a read failed, or its files stopped it, or it did its work.
 data Ended (c : Call) (request : Request) (s : Status) : Type 0 where

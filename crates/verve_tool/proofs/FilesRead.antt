@@ -12,7 +12,7 @@ use Rattle.tal_checker.specs.WellTyped.{WellTyped, FirstRefusal, OneRefusal}
 use Rattle.tal_checker.specs.declared.answer.CheckAnswer.{CheckAnswer}
 use Rattle.tal_checker.specs.declared.answer.CheckAnswer.TheVariants as answer
 use Rattle.kernel_machine.specs.Built.{IsBuilt, FirstOutside, first_of, outside}
-use Rattle.verve_tool.specs.Words.{RunWords, Request, Run, Check}
+use Rattle.verve_tool.specs.Words.{RunWords, Request, Run, Check, Listing}
 use Rattle.verve_tool.specs.Lines.{fault_line}
 use Rattle.verve_tool.specs.Causes.{Missing, Long, Malformed, IllTyped, Unbuilt, Eventful, Holds, Fails, NoneHolds, FileRead, HoldsImage, TypedImage}
 use Rattle.verve_tool.specs.Commands.{causes, Serves, Loaded, NothingStops}
@@ -124,6 +124,9 @@ nothing_stops meaning refusal told (Run run) (image, l) =
 nothing_stops meaning refusal told (Check name) (image, t) =
     let file = read_stops_none told name IMAGE_MOST t.held.bytes t.held.file in
     (file.0, (file.1.0, typed_stops_none meaning refusal told name image t))
+nothing_stops meaning refusal told (Listing name) (image, held) =
+    let file = read_stops_none told name IMAGE_MOST held.bytes held.file in
+    (file.0, (file.1.0, (not_malformed meaning told name image held, tt)))
 
 -- a fault of the format is the first cause of its bytes
 malformed : (told : Option FileMap) (name : List ℕ) (bytes : List ℕ) (f : ImageFault) → FileRead told name IMAGE_MOST bytes → f ≢ fault.NoMemory

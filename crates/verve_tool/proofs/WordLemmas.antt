@@ -35,6 +35,11 @@ two_words (w ∷ []) a b len h0 h1 = let bad : ⊥ = omega arith in absurd bad
 two_words (w ∷ x ∷ []) a b len h0 h1 = cc
 two_words (w ∷ x ∷ y ∷ rest) a b len h0 h1 = let bad : ⊥ = omega arith in absurd bad
 
+-- a text without length has no bytes
+pub no_bytes : (xs : List ℕ) → length xs ≡ 0 → xs ≡ []
+no_bytes [] h = refl
+no_bytes (x ∷ xs) h = let bad : ⊥ = omega arith in absurd bad
+
 -- two texts that `!=` told apart
 pub told_apart : (xs ys : List ℕ) (b : Bool) → xs ≡ ys → b ≡ true → b ≡ not (bytes_eq xs ys) → ⊥
 told_apart xs ys b same t is = true≢false (sym t ∙ is ∙ (rw ((bytes_eq-Decides xs ys).1 same) refl))

@@ -5,9 +5,10 @@ use Rattle.outside.specs.FileMaps.{Lacks}
 use Rattle.outside.specs.Faults.{Faulted}
 use Rattle.outside.specs.Sinks.{Gained, GainedFront}
 use Rattle.tal_image.specs.Image.{ImageParts}
-use Rattle.verve_tool.specs.Words.{Request, Run, Check, WordsOf, NoCommand}
+use Rattle.tal_listing.specs.Listing.{ListText}
+use Rattle.verve_tool.specs.Words.{Request, Run, Check, Listing, WordsOf, NoCommand}
 use Rattle.verve_tool.specs.Lines.{accepted_text, usage_line, read_line, write_line, no_memory_line}
-use Rattle.verve_tool.specs.Causes.{Cause, Missing, ComesTo, IsFirst, TypedImage, status_of}
+use Rattle.verve_tool.specs.Causes.{Cause, Missing, ComesTo, IsFirst, HoldsImage, TypedImage, status_of}
 use Rattle.verve_tool.specs.Commands.{causes}
 use Rattle.verve_tool.specs.Seen.{Call}
 use Rattle.kernel_machine.specs.Machine.{end_of}
@@ -29,21 +30,25 @@ pub record Idle (c : Call) : Type 0 where
 abbrev pub Did : Call → Request → Status → List ℕ → Type 0
 Did c (Run run) s text = (ran : RanWhole c run) × (s ≡ status_at (end_of (typed_run c run ran).state.ending)) × (text ≡ text_of (typed_run c run ran))
 Did c (Check name) s text = (image : ImageParts) × TypedImage c.files.told name image × Unrun c × (s ≡ Done) × (text ≡ accepted_text)
+Did c (Listing name) s text = (image : ImageParts) × HoldsImage c.files.told name image × Unrun c × (s ≡ Done) × (text ≡ ListText image)
 
 -- the text of a command was written whole where it goes
 abbrev pub Written : Call → Request → List ℕ → Type 0
 Written c (Run run) text = Gained c.out.told c.out_after.told text
 Written c (Check name) text = Gained c.out.told c.out_after.told text
+Written c (Listing name) text = Gained c.out.told c.out_after.told text
 
 -- writing it failed, after a front of it
 abbrev pub PartWritten : Call → Request → List ℕ → Type 0
 PartWritten c (Run run) text = Faulted c.out.faults c.out_after.faults × GainedFront c.out.told c.out_after.told text
 PartWritten c (Check name) text = Faulted c.out.faults c.out_after.faults × GainedFront c.out.told c.out_after.told text
+PartWritten c (Listing name) text = Faulted c.out.faults c.out_after.faults × GainedFront c.out.told c.out_after.told text
 
 -- a command that wanted memory ran for a while or not at all; one that runs nothing did not run
 abbrev pub MayHaveRun : Call → Request → Type 0
 MayHaveRun c (Run run) = Unrun c ⊎ RanWithin c run
 MayHaveRun c (Check name) = Unrun c
+MayHaveRun c (Listing name) = Unrun c
 
 -- the work was done, and its text written whole
 pub record Finished (c : Call) (request : Request) (s : Status) (line : List ℕ) : Type 0 where

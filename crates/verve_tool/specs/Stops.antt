@@ -11,7 +11,7 @@ use Rattle.tal_image.specs.declared.fault.ImageFault.{ImageFault}
 use Rattle.tal_image.specs.declared.fault.ImageFault.TheVariants as fault
 use Rattle.tal_checker.specs.declared.answer.CheckAnswer.{CheckAnswer}
 use Rattle.tal_checker.specs.declared.answer.CheckAnswer.TheVariants as answer
-use Rattle.verve_tool.specs.Words.{RunWords, Request, Run, Check}
+use Rattle.verve_tool.specs.Words.{RunWords, Request, Run, Check, Listing}
 use Rattle.verve_tool.specs.Lines.{usage_line, read_line, write_line, long_line, no_memory_line, not_built_line, fault_line, refused_line}
 use Rattle.verve_tool.specs.Causes.{Cause, Missing, ComesTo, IsFirst, status_of as status_of_cause}
 use Rattle.verve_tool.specs.Seen.{FilesSeen, SinkSeen, Call, Leaves}
@@ -33,6 +33,7 @@ run_of run = record { image = run.image.now; events = run.events.now; turns = ru
 abbrev pub request_of : Command → Request
 request_of (command.Run run) = Run (run_of run)
 request_of (command.Check image) = Check image.now
+request_of (command.List image) = Listing image.now
 
 -- the status of an image file's fault
 abbrev pub fault_status : ImageFault → Status

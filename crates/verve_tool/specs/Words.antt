@@ -9,10 +9,11 @@ pub record RunWords : Type 0 where
   pub events : List ℕ
   pub turns : ℕ
 
--- what a command asks for: a run, or whether the image of a file is accepted
+-- what a command asks for: a run, or of the image of a file whether it is accepted, or its listing
 pub data Request : Type 0 where
   Run : RunWords → Request
   Check : List ℕ → Request
+  Listing : List ℕ → Request
 
 -- The words are this run: no name is empty, and the turns are a decimal number from 1 on without leading zeros.
 pub record SpellsRun (words : List (String Global)) (run : RunWords) : Type 0 where
@@ -22,15 +23,16 @@ pub record SpellsRun (words : List (String Global)) (run : RunWords) : Type 0 wh
   pub some_turns : 1 ≤ run.turns
   pub not_too_many : run.turns ≤ MOST_TURNS
 
--- the words ask for the check of the image of this name
-pub record SpellsCheck (words : List (String Global)) (image : List ℕ) : Type 0 where
-  pub spelled : map string_bytes words ≡ codes "check" ∷ image ∷ []
+-- the words are this command of the image of this name alone
+pub record SpellsImage (command : List ℕ) (words : List (String Global)) (image : List ℕ) : Type 0 where
+  pub spelled : map string_bytes words ≡ command ∷ image ∷ []
   pub image_named : image ≢ []
 
 -- the words ask for this
 abbrev pub WordsOf : List (String Global) → Request → Type 0
 WordsOf words (Run run) = SpellsRun words run
-WordsOf words (Check image) = SpellsCheck words image
+WordsOf words (Check image) = SpellsImage (codes "check") words image
+WordsOf words (Listing image) = SpellsImage (codes "list") words image
 
 -- the words are no command
 abbrev pub NoCommand : List (String Global) → Type 0

@@ -15,6 +15,7 @@ ghost use Rattle.verve_tool.specs.declared.status.Status.{Status};
 use crate::checks::act_check;
 use crate::complaint::complain;
 use crate::laws::{nothing_stops, one_cause};
+use crate::listings::act_list;
 use crate::runs::act_run;
 use crate::status::Status;
 use crate::stop::Stop;
@@ -45,18 +46,20 @@ fn act<'a, F: Files, K: Sink>(
     match command {
         Command::Run(run) => act_run(alloc, run, files, out, journal, kept),
         Command::Check(image) => act_check(alloc, image, files, out),
+        Command::List(image) => act_list(alloc, image, files, out),
     }
 }
 
 /// Does what the words of a command line, without the program's own name, say: `run IMAGE EVENTS TURNS` runs the image of
 /// one file over the events of another for so many turns at most, from 1 to [`kernel_machine::MOST_TURNS`], and puts the
-/// report into `out` in one piece; `check IMAGE` puts `accepted` into `out` where the image of a file is well typed. An image
-/// file has at most 4 MiB, an event file 32 MiB.
+/// report into `out` in one piece; `check IMAGE` puts `accepted` into `out` where the image of a file is well typed;
+/// `list IMAGE` puts the listing of a file's image into `out` in one piece, well typed or not. An image file has at most
+/// 4 MiB, an event file 32 MiB.
 ///
 /// [`Status`] says for each answer when it comes. What stops the command goes to `err` as one line, for which no memory is
 /// taken; a failure of `err` changes nothing but the line, of which `err` then has a front. The journal is cleared first, and
 /// is then that of the run in this call. The machine that ran is kept after `Done`, `WriteFault` and `KernelFault` of a run;
-/// after `NoMemory` it is kept, or none is and nothing ran; after any other answer, and after a check, none is.
+/// after `NoMemory` it is kept, or none is and nothing ran; after any other answer, and after a check or a listing, none is.
 pub fn verve<F: Files, K: Sink, E: Sink>(
     alloc: Global,
     words: &[String],

@@ -2,7 +2,7 @@
 //
 // `verve` does what the words of a command line say, over files and sinks that it is given, and answers a `Status`, whose
 // number is the program's exit status. `run` runs an image, and leaves the journal of the run and the machine that ran;
-// `check` tells whether an image is accepted, and runs nothing.
+// `check` tells whether an image is accepted, and `list` prints the listing of an image; neither runs anything.
 //
 // `Outcome` (in specs/) says what a call came to: the words are no command, or the command ended in one of five ways. A
 // command has a list of causes, `causes`, by which its files can stop it; the first that holds decides. `Did` says what it did
@@ -17,6 +17,7 @@ mod checks;
 mod command;
 mod complaint;
 pub mod laws;
+mod listings;
 mod load;
 mod runs;
 mod status;

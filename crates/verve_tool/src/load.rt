@@ -4,8 +4,8 @@ ghost use Rattle.outside.specs.FileMaps.{FileMap};
 ghost use Rattle.tal_image.specs.Formed.{ImageOf};
 ghost use Rattle.tal_checker.specs.WellTyped.{WellTyped};
 ghost use Rattle.kernel_machine.specs.Built.{IsBuilt};
-ghost use Rattle.verve_tool.specs.Words.{Run, Check};
-ghost use Rattle.verve_tool.specs.Causes.{Missing, Long, Malformed, IllTyped, Unbuilt, Eventful, FileRead, TypedImage};
+ghost use Rattle.verve_tool.specs.Words.{Run, Check, Listing};
+ghost use Rattle.verve_tool.specs.Causes.{Missing, Long, Malformed, IllTyped, Unbuilt, Eventful, FileRead, HoldsImage, TypedImage};
 ghost use Rattle.verve_tool.specs.Commands.{causes, Loaded};
 ghost use Rattle.verve_tool.specs.Seen.{files_seen, OnlyReads};
 ghost use Rattle.verve_tool.specs.Stops.{StopsBy, StopsAt, IsUnread, run_of};
@@ -95,6 +95,22 @@ fn runs<'a>(image: &Image, run: RunCommand<'a>, event_bytes: &[u8]) -> Result<()
         return Err(Stop::Events(run.events));
     }
     Ok(())
+}
+
+// Reads the image's file, and the image that its bytes stand for.
+pub(crate) fn hold_image<'a, F: Files>(
+    alloc: Global,
+    files: &mut F,
+    name: &'a str,
+) -> Result<Image, Stop<'a>>
+    ensures held { IfOk result (λ i. HoldsImage (F.told files.old) name.now i) }
+    ensures stopped { let seen = files_seen F.told F.steady F.read_faults F.write_faults in
+        IfErr result (λ s. StopsAt (seen files.old) (seen files.new) (causes (Listing name.now)) s) }
+    ensures reads { let seen = files_seen F.told F.steady F.read_faults F.write_faults in
+        OnlyReads (seen files.old) (seen files.new) (IsErrAnd result IsUnread) }
+{
+    let bytes = read_file(alloc, files, name, IMAGE_MOST)?;
+    read_image(alloc, name, &bytes)
 }
 
 // Reads the image's file, and accepts what it holds.

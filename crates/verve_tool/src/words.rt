@@ -1,6 +1,6 @@
 // The words of a command.
 ghost use Rattle.std.specs.Prelude.{◌≡◌, ◌≤◌, ℕ, List, decimal, MatchOption};
-ghost use Rattle.verve_tool.specs.Words.{RunWords, SpellsRun, SpellsCheck, WordsOf, NoCommand};
+ghost use Rattle.verve_tool.specs.Words.{RunWords, SpellsRun, SpellsImage, WordsOf, NoCommand};
 ghost use Rattle.verve_tool.specs.Stops.{run_of, request_of};
 
 use itoa::Buffer;
@@ -14,11 +14,12 @@ pub(crate) struct RunCommand<'a> {
     pub(crate) turns: u32,
 }
 
-// What the words ask for: a run, or whether the image of a file is accepted.
+// What the words ask for: a run, or of the image of a file whether it is accepted, or its listing.
 #[derive(Clone, Copy)]
 pub(crate) enum Command<'a> {
     Run(RunCommand<'a>),
     Check(&'a str),
+    List(&'a str),
 }
 
 // The turns are a decimal number as it is printed, so without leading zeros or a sign.
@@ -55,14 +56,15 @@ fn read_run(words: &[String]) -> Option<RunCommand<'_>>
     })
 }
 
-// The name of the image whose check the words are, if they are one.
-fn read_check(words: &[String]) -> Option<&str>
-    ensures { MatchOption result ((image : List ℕ) → SpellsCheck words.now image → ⊥) (λ image. SpellsCheck words.now image.now) }
+// The name of the image, if the words are this command of an image alone.
+fn read_image_name<'a>(words: &'a [String], command: &str) -> Option<&'a str>
+    ensures { MatchOption result ((image : List ℕ) → SpellsImage command.now words.now image → ⊥)
+        (λ image. SpellsImage command.now words.now image.now) }
 {
-    let [command, image] = words else {
+    let [first, image] = words else {
         return None;
     };
-    if command.as_str() != "check" || image.is_empty() {
+    if first.as_str() != command || image.is_empty() {
         return None;
     }
     Some(image.as_str())
@@ -75,6 +77,9 @@ pub(crate) fn read_words(words: &[String]) -> Option<Command<'_>>
     if let Some(run) = read_run(words) {
         return Some(Command::Run(run));
     }
-    let image = read_check(words)?;
-    Some(Command::Check(image))
+    if let Some(image) = read_image_name(words, "check") {
+        return Some(Command::Check(image));
+    }
+    let image = read_image_name(words, "list")?;
+    Some(Command::List(image))
 }
