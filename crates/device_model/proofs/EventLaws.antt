@@ -8,6 +8,7 @@ use Rattle.std.proofs.lemmas.List.Sums.{fold_push}
 use Rattle.device_model.specs.declared.events.Event.{Event}
 use Rattle.device_model.specs.declared.events.EventFault.{EventFault}
 use Rattle.device_model.specs.declared.events.EventFault.TheVariants.{Syntax, Range, TooMany, NoMemory}
+use Rattle.device_model.specs.declared.events.TheConstants.{LAST_TURN, MOST_EVENTS}
 use Rattle.device_model.specs.EventFile.{LineForm, Skipped, TickLine, KeyLine, lines_of, last_turn, InRange, event_in, LineLeaves, LinesLeave, EventsOf, BreaksSyntax, BreaksRange, BreaksRoom, FirstLineThat, IsFirstFault}
 use Rattle.device_model.specs.declared.events.EventKind.TheVariants.{Tick, Key}
 use Rattle.device_model.specs.EventFile.{InOrder, InOrderFrom, IsTurn}
@@ -65,7 +66,7 @@ no_range before line breaks l = breaks.breaks (in_range_of before line breaks.fo
 no_room : (before : List Event) (line : List ℕ) → BreaksRoom before line → LeavesSome before line → ⊥
 no_room before line breaks l =
     let same = one_form line l.leaves.form breaks.form l.leaves.has breaks.has in
-    let room : length before < 1000000 = l.leaves.room (subst (λ (g : LineForm). IsSome (event_in g)) (sym same) breaks.brings) in
+    let room : length before < MOST_EVENTS = l.leaves.room (subst (λ (g : LineForm). IsSome (event_in g)) (sym same) breaks.brings) in
     omega (arith, room, breaks.full)
 
 -- So a file with a list has no fault but want of memory.
@@ -166,7 +167,7 @@ first_or_memory bytes (TooMany m) g is x y = inl (one_fault bytes (TooMany m) g 
 
 -- An event behind others, with no lower turn, keeps the order.
 order_push : (turn : ℕ) (events : List Event) (event : Event) → InOrderFrom turn events → fold (λ t e. e.turn) turn events ≤ event.turn
-    → event.turn ≤ 50000000 → InOrderFrom turn (events ++ event ∷ [])
+    → event.turn ≤ LAST_TURN → InOrderFrom turn (events ++ event ∷ [])
 order_push turn [] event o low high = (low, high, tt)
 order_push turn (e ∷ events) event o low high = (o.0, o.1, order_push e.turn events event o.2 low high)
 

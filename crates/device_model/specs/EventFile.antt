@@ -6,6 +6,7 @@ use Rattle.device_model.specs.declared.events.Event.{Event}
 use Rattle.device_model.specs.declared.events.EventKind.TheVariants.{Tick, Key}
 use Rattle.device_model.specs.declared.events.EventFault.{EventFault}
 use Rattle.device_model.specs.declared.events.EventFault.TheVariants.{Syntax, Range, TooMany, NoMemory}
+use Rattle.device_model.specs.declared.events.TheConstants.{LAST_TURN, MOST_EVENTS}
 
 -- ---- lines
 
@@ -74,10 +75,10 @@ HasForm line (KeyLine turn code) = IsKey line turn code
 unfoldable pub last_turn : List Event → ℕ
 last_turn events = fold (λ turn event. event.turn) 0 events
 
--- 1 to 50000000, and not below the turn before it in the list
+-- from 1 to the last turn, and not below the turn before it in the list
 pub record IsTurn (events : List Event) (turn : ℕ) : Type 0 where
   pub first : 1 ≤ turn
-  pub last : turn ≤ 50000000
+  pub last : turn ≤ LAST_TURN
   pub in_order : last_turn events ≤ turn
 
 -- The numbers of a form are in range, after these events.
@@ -94,12 +95,12 @@ event_in (KeyLine turn code) = Some (record { turn = turn; kind = Key code })
 
 -- ---- the list of events
 
--- After these events the line leaves those: its own event, if it brings one, is in range, and stands last of at most 1000000.
+-- After these events the line leaves those: its own event, if it brings one, is in range, and stands last of no more than there may be.
 pub record LineLeaves (before : List Event) (line : List ℕ) (after : List Event) : Type 0 where
   pub form : LineForm
   pub has : HasForm line form
   pub in_range : InRange before form
-  pub room : IsSome (event_in form) → length before < 1000000
+  pub room : IsSome (event_in form) → length before < MOST_EVENTS
   pub are : after ≡ before ++ option_to_list (event_in form)
 
 -- Lines leave them one after another.
@@ -111,12 +112,12 @@ LinesLeave before (line ∷ lines) after = (between : List Event) × LineLeaves 
 abbrev pub EventsOf : List ℕ → List Event → Type 0
 EventsOf bytes events = LinesLeave [] (lines_of bytes) events
 
--- From this turn on no turn falls, and none is above 50000000.
+-- From this turn on no turn falls, and none is above the last.
 abbrev pub InOrderFrom : ℕ → List Event → Type 0
 InOrderFrom turn [] = Unit {0}
-InOrderFrom turn (event ∷ events) = (turn ≤ event.turn) × (event.turn ≤ 50000000) × InOrderFrom event.turn events
+InOrderFrom turn (event ∷ events) = (turn ≤ event.turn) × (event.turn ≤ LAST_TURN) × InOrderFrom event.turn events
 
--- The turns are 1 to 50000000 and do not fall.
+-- The turns are 1 to the last and do not fall.
 abbrev pub InOrder : List Event → Type 0
 InOrder events = InOrderFrom 1 events
 
@@ -138,7 +139,7 @@ pub record BreaksRoom (before : List Event) (line : List ℕ) : Type 0 where
   pub has : HasForm line form
   pub in_range : InRange before form
   pub brings : IsSome (event_in form)
-  pub full : 1000000 ≤ length before
+  pub full : MOST_EVENTS ≤ length before
 
 -- The first line that breaks a rule has this number, counted from 1.
 pub record FirstLineThat (Breaks : List Event → List ℕ → Type 0) (bytes : List ℕ) (number : ℕ) : Type 0 where

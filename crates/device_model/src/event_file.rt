@@ -7,13 +7,10 @@ ghost use Rattle.device_model.specs.EventReading.{said, CodeFits, LineGives};
 ghost use Rattle.device_model.specs.declared.events.Event.{Event};
 ghost use Rattle.device_model.specs.declared.events.EventFault.{EventFault};
 
+use crate::events::{LAST_TURN, MOST_EVENTS};
 use crate::line_form::{Form, form_of};
 use crate::{Event, EventFault, EventKind};
 use std::alloc::Global;
-
-const LAST_TURN: u32 = 50_000_000;
-
-const MOST_EVENTS: usize = 1_000_000;
 
 const LINE_FEED: u8 = b'\n';
 
@@ -43,7 +40,7 @@ fn first_line(bytes: &[u8]) -> (&[u8], &[u8])
 }
 
 fn is_turn(turn: u32, last: u32) -> bool
-    ensures { IsTrue result ↔ ((1 ≤ turn) × (turn ≤ 50000000) × (last ≤ turn)) }
+    ensures { IsTrue result ↔ ((1 ≤ turn) × (turn ≤ LAST_TURN) × (last ≤ turn)) }
 {
     (1..=LAST_TURN).contains(&turn) && last <= turn
 }

@@ -13,11 +13,9 @@ mod interrupt_lines;
 pub mod laws;
 mod line_form;
 mod screen;
-#[cfg(test)]
-mod tests;
 
 pub use devices::Devices;
 pub use event_file::read_events;
-pub use events::{Event, EventFault, EventKind};
+pub use events::{Event, EventFault, EventKind, LAST_TURN, MOST_EVENTS};
 pub use interrupt_lines::Line;
 pub use screen::{BLANK, CELLS};

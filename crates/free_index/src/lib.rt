@@ -12,6 +12,3 @@ mod links;
 mod size_class;
 
 pub use index::FreeIndex;
-
-#[cfg(test)]
-mod tests;

@@ -11,6 +11,3 @@ mod heap;
 pub mod laws;
 
 pub use heap::Heap;
-
-#[cfg(test)]
-mod tests;

@@ -8,4 +8,3 @@ pub mod Totals
 pub mod ObjectWords
 pub mod Gaps
 pub mod Addresses
-pub mod LowWords

@@ -19,6 +19,3 @@ pub use collecting::collect;
 pub use objects::{object_address, shape_named};
 pub use passes::Collected;
 pub use roots::Roots;
-
-#[cfg(test)]
-mod tests;

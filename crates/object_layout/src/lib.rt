@@ -18,6 +18,3 @@ mod rows;
 pub use faults::ShapeFault;
 pub use look_ups::Shapes;
 pub use rows::{ClassRow, FieldList, FieldTy, FunRow, KindRow, MethodList, Shape};
-
-#[cfg(test)]
-mod tests;

@@ -61,25 +61,3 @@ impl<W: Write + Drop> Sink for StreamSink<W> {
         Err(PutFailed)
     }
 }
-
-#[cfg(test)]
-mod tests {
-    use super::*;
-
-    #[test]
-    fn a_writer_that_is_full_has_a_front(rt: HostRuntime) {
-        let mut room = [b'-'; 4];
-        let mut sink = StreamSink::new(room.as_mut_slice());
-        assert_eq!(rt; sink.put(b"abc"), Ok(()));
-        assert_eq!(rt; sink.put(b"def"), Err(PutFailed));
-        assert_eq!(rt; sink.faults(), 1);
-        assert_eq!(rt; room, *b"abcd");
-    }
-
-    #[test]
-    fn standard_error_takes_bytes(rt: HostRuntime) {
-        let mut sink = StreamSink::new(rt.stderr());
-        assert_eq!(rt; sink.put(b"to standard error\n"), Ok(()));
-        assert_eq!(rt; sink.faults(), 0);
-    }
-}

@@ -27,6 +27,3 @@ pub use form::{Arg, Form, RegType, Term, TypeText};
 pub use lists::{ArgList, NumberList, RegTypeList, TermList, TypeTextList};
 pub use module::{Module, TextLine, parse};
 pub use name::Name;
-
-#[cfg(test)]
-mod tests;

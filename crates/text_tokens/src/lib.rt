@@ -20,6 +20,3 @@ mod words;
 pub use token::{Keyword, Token};
 pub use tokens::Tokens;
 pub use words::{Word, word_at};
-
-#[cfg(test)]
-mod tests;
