@@ -8,7 +8,7 @@ use Rattle.ia32_code.specs.Spells.{Filled, meaning, Spells}
 use Rattle.ia32_code.specs.Decoding.{HasFront, IsCut}
 use Rattle.ia32_code.specs.Reading.{spelling_at}
 use Rattle.ia32_code.proofs.TakesFront.{IsBytes, ok_is}
-use Rattle.ia32_code.proofs.ReadIsSpelled.{SpelledBy, spells_meaning, front, goes_on, no_front, no_more, spelled_again, prefix_law}
+use Rattle.ia32_code.proofs.ReadIsSpelled.{SpelledBy, spells_meaning, front, goes_on, no_more, spelled_again, prefix_law}
 use Rattle.ia32_code.proofs.Lengths.{spelling_length}
 
 -- what is below 256 at each place is bytes
@@ -65,9 +65,13 @@ read_is bytes s rest t more j e h parts =
 
 -- ---- no instruction
 
+-- a prefix that is a spelling is read
+pub read_front : (bytes : List ℕ) → (h : HasFront bytes) → spelling_at bytes ≡ Ok (h.2.spelling, drop h.1 bytes)
+read_front bytes h = ap spelling_at (sym (take-append-drop h.1 bytes)) ∙ spelled_again (take h.1 bytes) (drop h.1 bytes) h.0 h.2
+
 -- no prefix of unknown bytes is a spelling
 pub no_front_at : (bytes : List ℕ) → spelling_at bytes ≡ Err Unknown → HasFront bytes → ⊥
-no_front_at bytes e h = no_front bytes e (take h.1 bytes) (drop h.1 bytes) h.0 (sym (take-append-drop h.1 bytes)) h.2
+no_front_at bytes e h = let again = read_front bytes h in cc
 
 -- unknown bytes begin no spelling
 pub no_cut_at : (bytes : List ℕ) → spelling_at bytes ≡ Err Unknown → IsCut bytes → ⊥
@@ -75,14 +79,7 @@ no_cut_at bytes e h = no_more bytes e h.1 h.0 h.3
 
 -- bytes that end too early begin a spelling, and none of their prefixes is one
 pub cut_at : (bytes : List ℕ) → ((k : ℕ) → get_or bytes k 0 < 256) → spelling_at bytes ≡ Err Short → IsCut bytes × (HasFront bytes → ⊥)
-cut_at bytes fits e =
-    let g = goes_on bytes (bytes_fit bytes fits) e in (
-      (g.1, g.0, g.2, g.3),
-      λ h.
-          let again : spelling_at bytes ≡ Ok (h.2.spelling, drop h.1 bytes) = ap spelling_at (sym (take-append-drop h.1 bytes))
-          ∙ spelled_again (take h.1 bytes) (drop h.1 bytes) h.0 h.2 in
-          cc,
-    )
+cut_at bytes fits e = let g = goes_on bytes (bytes_fit bytes fits) e in ((g.1, g.0, g.2, g.3), λ h. let again = read_front bytes h in cc)
 
 -- bytes that begin with a spelling have it at the front
 pub has_front : (bytes t more : List ℕ) (i : Inst) → Spells t i → bytes ≡ t ++ more → HasFront bytes

@@ -261,10 +261,6 @@ goes_on bytes fits e =
       spells_meaning (bytes ++ ends.text) ends.value (spelling_takes (bytes ++ ends.text) ends.value (IsBytes-append bytes ends.text fits ends.fits) whole),
     )
 
--- no spelling is at the front of unknown bytes
-pub no_front : (bytes : List ℕ) → spelling_at bytes ≡ Err Unknown → (t more : List ℕ) (i : Inst) → bytes ≡ t ++ more → Spells t i → ⊥
-no_front bytes e t more i parts s = let again : spelling_at bytes ≡ Ok (s.spelling, more) = ap spelling_at parts ∙ spelled_again t more i s in cc
-
 -- unknown bytes begin no spelling
 pub no_more : (bytes : List ℕ) → spelling_at bytes ≡ Err Unknown → (more : List ℕ) (i : Inst) → Spells (bytes ++ more) i → ⊥
 no_more bytes e more i s =

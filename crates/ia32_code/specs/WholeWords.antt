@@ -1,8 +1,9 @@
 -- The whole words of a spelling: the displacement or address within it, and the number, address or distance at its end.
-use Rattle.std.specs.Prelude.{◌≡◌, ℕ, ◌+◌, ◌*◌, ◌<◌, ◌^◌, List, [], ◌∷◌, ◌++◌, length, Option, Some, None}
+use Rattle.std.specs.Prelude.{◌≡◌, ℕ, ◌+◌, ◌*◌, ◌<◌, ◌^◌, List, [], ◌∷◌, ◌++◌, length, Option, Some, None, option_map}
 use Rattle.std.specs.Int.{w32, to_le_bytes}
 use Rattle.ia32_code.specs.declared.instruction.Reg.{Reg}
 use Rattle.ia32_code.specs.declared.spelling.Spelling.{Spelling}
+use Rattle.ia32_code.specs.declared.word_offsets.WholeWords.{WholeWords}
 use Rattle.ia32_code.specs.declared.row.ModRm.{ModRm}
 use Rattle.ia32_code.specs.declared.row.ModRm.TheVariants.{Absent, Register, Memory, Digit}
 use Rattle.ia32_code.specs.declared.row.Trailing.{Trailing}
@@ -92,3 +93,11 @@ pub record EndStays (s : Spelling) (f g : Filling) (v : ℕ) : Type 0 where
   pub there : whole_word AtEnd (f.with v) ≡ Some at_end
   pub place : length at_end.before ≡ length g.before
   pub word : at_end.word ≡ g.word
+
+-- how far into the bytes of a spelling the whole word at a place begins
+abbrev pub word_offset : WordPlace → Spelling → Option ℕ
+word_offset place s = option_map (λ f. length f.before) (whole_word place s)
+
+-- the same of both places
+abbrev pub word_offsets : Spelling → WholeWords
+word_offsets s = record { within = word_offset Within s; at_end = word_offset AtEnd s }

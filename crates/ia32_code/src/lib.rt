@@ -20,12 +20,14 @@ mod reading;
 mod row;
 mod spelling;
 mod table;
+mod word_offsets;
 mod writing;
 
 pub use code_buf::CodeBuf;
 pub use decoding::{Decoded, decode};
 pub use encoding::{CodeFault, encode, len_of};
 pub use instruction::{Alu, Cond, Count, Inst, Mem, Operand, Reg, Shift};
+pub use word_offsets::{WholeWords, whole_words};
 
 #[cfg(test)]
 mod table_tests;

@@ -205,3 +205,41 @@ fn refused_instructions(rt: HostRuntime) {
     assert_eq!(rt; encode(&Inst::Nop, &mut room), Err(CodeFault::Full));
     assert_eq!(rt; room.bytes(), [0x90u8; 16].as_slice());
 }
+
+#[test]
+fn places_of_whole_words(rt: HostRuntime) {
+    let rows: [(&[u8], Option<u8>, Option<u8>); 8] = [
+        // MOV [EAX + EBX * 4 + 256], 7
+        (
+            &[0xC7, 0x84, 0x98, 0, 1, 0, 0, 7, 0, 0, 0],
+            Some(3),
+            Some(7),
+        ),
+        // ADD [0x300000], 1000
+        (
+            &[0x81, 0x05, 0, 0, 0x30, 0, 0xE8, 3, 0, 0],
+            Some(2),
+            Some(6),
+        ),
+        // IMUL EAX, [EBX + 256], and bytes behind it
+        (&[0x0F, 0xAF, 0x83, 0, 1, 0, 0, 1, 2, 3], Some(3), None),
+        // MOV EAX, [0x300000], in its short form
+        (&[0xA1, 0, 0, 0x30, 0], None, Some(1)),
+        // JE 5
+        (&[0x0F, 0x84, 5, 0, 0, 0], None, Some(2)),
+        // MOV EAX, [EBP + 8]
+        (&[0x8B, 0x45, 8], None, None),
+        (&[0x90], None, None),
+        // ADD [0x300000], a byte
+        (&[0x83, 0x05, 0, 0, 0x30, 0, 1], Some(2), None),
+    ];
+    for (bytes, within, at_end) in rows {
+        assert_eq!(rt;
+            whole_words(bytes),
+            Some(WholeWords { within, at_end }),
+            "at {bytes:?}"
+        );
+    }
+    assert_eq!(rt; whole_words(&[0xE9, 0, 0]), None);
+    assert_eq!(rt; whole_words(&[0x82]), None);
+}
