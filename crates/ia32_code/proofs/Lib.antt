@@ -13,5 +13,4 @@ pub mod FirstMoves
 pub mod CanonicalIsFirst
 pub mod CanonicalSpells
 pub mod Encoded
-pub mod FrontLemmas
 pub mod FilledWords

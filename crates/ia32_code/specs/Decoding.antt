@@ -1,5 +1,5 @@
 -- What decoding answers, and the prefix law by which there is one answer.
-use Rattle.std.specs.Prelude.{◌≡◌, ◌≢◌, ℕ, ◌-◌, ◌<◌, ◌≤◌, List, [], ◌++◌, length, take, slice_index, Result, Ok, Err}
+use Rattle.std.specs.Prelude.{◌≡◌, ◌≢◌, ℕ, ◌-◌, ◌<◌, ◌≤◌, List, [], ◌++◌, length, take, slice_index, Option, Some, None, Result, Ok, Err}
 use Rattle.ia32_code.specs.declared.instruction.Inst.{Inst}
 use Rattle.ia32_code.specs.declared.spelling.Spelling.{Spelling}
 use Rattle.ia32_code.specs.declared.decoding.Decoded.{Decoded}
@@ -40,3 +40,13 @@ decoded bytes = decoded_as (length bytes) (spelling_at bytes)
 -- The answer to bytes tells what they begin with.
 abbrev pub DecodedLaw : Type 0
 DecodedLaw = (bytes : List ℕ) → ((k : ℕ) → slice_index bytes k < 256) → Answers bytes (decoded bytes)
+
+-- Bytes that begin with a spelling are decoded as its instruction.
+abbrev pub FrontLaw : Type 0
+FrontLaw = (text more : List ℕ) (inst : Inst) → Spells text inst → decoded (text ++ more) ≡ One inst (length text)
+
+-- the instruction of an answer, with its length
+abbrev pub instruction_of : Decoded → Option (Inst × ℕ)
+instruction_of (One i len) = Some (i, len)
+instruction_of Short = None
+instruction_of Unknown = None

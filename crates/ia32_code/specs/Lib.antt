@@ -8,5 +8,4 @@ pub mod Decoding
 pub mod Encoding
 pub mod Opcodes
 pub mod Reading
-pub mod Front
 pub mod WholeWords

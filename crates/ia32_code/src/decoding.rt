@@ -1,11 +1,6 @@
-ghost use Rattle.std.specs.Prelude.{◌≡◌, ◌≤◌, ◌<◌, ◌++◌, List, ℕ, Some, length, take};
-ghost use Rattle.ia32_code.specs.declared.instruction.Inst.{Inst};
+ghost use Rattle.std.specs.Prelude.{◌≡◌, ◌++◌, List, ℕ, length};
 ghost use Rattle.ia32_code.specs.Spells.{Spells};
-ghost use Rattle.ia32_code.specs.Canonical.{Canonical};
-ghost use Rattle.ia32_code.specs.Ranges.{InstInRange};
 ghost use Rattle.ia32_code.specs.Decoding.{IsCut, Answers, decoded};
-ghost use Rattle.ia32_code.specs.declared.decoding.Decoded.{Decoded};
-ghost use Rattle.ia32_code.specs.Front.{front_of, answered};
 
 use crate::instruction::Inst;
 use crate::reading::{Stop, spelling_of};
@@ -27,10 +22,7 @@ pub fn decode(bytes: &[u8]) -> Decoded
     ensures answers { Answers bytes.now result }
     ensures spelled { (text more : List ℕ) (inst : Inst) → Spells text inst → bytes.now ≡ text ++ more
         → result ≡ Decoded.One inst (length text) }
-    ensures canonical { (inst : Inst) (text more : List ℕ) → InstInRange inst → Canonical inst ≡ Some text
-        → bytes.now ≡ text ++ more → result ≡ Decoded.One inst (length text) }
     ensures cut { IsCut bytes.now → result ≡ Decoded.Short }
-    ensures front { front_of bytes.now ≡ answered result }
     ensures one { result ≡ decoded bytes.now }
 {
     match spelling_of(bytes) {

@@ -3,8 +3,7 @@ ghost use Rattle.std.specs.Prelude.{◌≡◌, ◌≤◌, ◌<◌, List, ℕ, So
 ghost use Rattle.ia32_code.specs.declared.instruction.Inst.{Inst};
 ghost use Rattle.ia32_code.specs.declared.spelling.Spelling.{Spelling};
 ghost use Rattle.ia32_code.specs.Spells.{Spells, Filled};
-ghost use Rattle.ia32_code.specs.Decoding.{PrefixLaw, DecodedLaw};
-ghost use Rattle.ia32_code.specs.Front.{FrontLaw};
+ghost use Rattle.ia32_code.specs.Decoding.{PrefixLaw, DecodedLaw, FrontLaw};
 ghost use Rattle.ia32_code.specs.Canonical.{Canonical};
 ghost use Rattle.ia32_code.specs.Ranges.{InstInRange};
 ghost use Rattle.ia32_code.specs.Order.{IsNotShorter, IsFirst};
@@ -16,12 +15,12 @@ pub fn prefix_law()
     ensures { PrefixLaw }
 {}
 
-/// The instruction at the front: it is read exactly where a prefix of the bytes spells it.
+/// Bytes that begin with a spelling are decoded as its instruction, whatever follows.
 pub fn front_law()
     ensures { FrontLaw }
 {}
 
-/// The answer to bytes, as `decode` gives it, tells what they begin with.
+/// The answer to bytes, as `decode` gives it, tells what they begin with. By the prefix law no other answer does.
 pub fn decoded_law()
     ensures { DecodedLaw }
 {}

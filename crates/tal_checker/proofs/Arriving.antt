@@ -3,7 +3,7 @@ use Rattle.std.specs.Prelude.{◌||◌, slice_get, IsSome}
 use Rattle.std.specs.Option.{option_and_then}
 use Rattle.std.proofs.Common.{◌≡◌, ℕ, ◌+◌, ◌<◌, ◌^◌, Bool, true, Option, Some, None, List, [], length, refl, sym, ap, subst, ◌∙◌, arith}
 use Rattle.std.proofs.lemmas.Option.{slice_get-get_or}
-use Rattle.ia32_code.specs.Front.{FrontLaw}
+use Rattle.ia32_code.specs.Decoding.{FrontLaw}
 use Rattle.object_layout.specs.Classes.{ShapesView}
 use Rattle.tal_types.specs.Contexts.{LiveContext, ContextView, Dead, Live, ContextBelow, context_below, entry}
 use Rattle.tal_types.specs.Shown.{ShownImage}

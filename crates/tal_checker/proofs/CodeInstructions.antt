@@ -4,7 +4,9 @@ use Rattle.std.proofs.Common.{◌≡◌, ℕ, zero, suc, ◌+◌, ◌-◌, ◌<�
 use Rattle.std.proofs.lemmas.Bool.{eqb-true}
 use Rattle.std.proofs.lemmas.Option.{none-some}
 use Rattle.ia32_code.specs.declared.instruction.Inst.{Inst}
-use Rattle.ia32_code.specs.Front.{front_of}
+use Rattle.ia32_code.specs.declared.decoding.Decoded.{Decoded}
+use Rattle.ia32_code.specs.declared.decoding.Decoded.TheVariants.{One}
+use Rattle.ia32_code.specs.Decoding.{decoded, instruction_of}
 use Rattle.tal_flow.specs.Strongest.{Placed, placed_at}
 use Rattle.tal_checker.specs.Instructions.{placed_then, placed_from}
 use Rattle.tal_checker.proofs.PlacedLists.{Ordered}
@@ -19,7 +21,7 @@ placed-skip (suc k) pc (b ∷ bytes) h =
     placed-skip k (pc + 1) bytes (omega arith) ∙ ap (λ (n : ℕ). placed_from zero n (drop k bytes)) e
 
 -- the instruction at the front is the first
-pub placed-step : (pc : ℕ) (bytes : List ℕ) (i : Inst) (n : ℕ) → front_of bytes ≡ Some (i, n) → 0 < n → n ≤ length bytes
+pub placed-step : (pc : ℕ) (bytes : List ℕ) (i : Inst) (n : ℕ) → decoded bytes ≡ One i n → 0 < n → n ≤ length bytes
     → placed_from 0 pc bytes ≡ record { pc = pc; inst = i; len = n } ∷ placed_from 0 (pc + n) (drop n bytes)
 unfolding placed_from
 placed-step pc bytes i zero e some fits = absurd (omega arith)
@@ -29,10 +31,10 @@ placed-step pc (b ∷ bytes) i (suc n) e some fits =
     let k : (pc + 1) + n ≡ pc + suc n = omega arith in
     let s = placed-skip n (pc + 1) bytes (omega arith) ∙ ap (λ (m : ℕ). placed_from zero m (drop n bytes)) k in
     let m : suc n - 1 ≡ n = omega arith in
-    ap (λ (o : Option (Inst × ℕ)). placed_then pc (λ inside. placed_from inside (pc + 1) bytes) o) e ∙ ap (λ (y : ℕ). x ∷ placed_from y (pc + 1) bytes) m ∙ ap (λ (t : List Placed). x ∷ t) s
+    ap (λ (d : Decoded). placed_then pc (λ inside. placed_from inside (pc + 1) bytes) (instruction_of d)) e ∙ ap (λ (y : ℕ). x ∷ placed_from y (pc + 1) bytes) m ∙ ap (λ (t : List Placed). x ∷ t) s
 
 -- where no instruction is at the front, there are no more
-pub placed-end : (pc : ℕ) (bytes : List ℕ) → front_of bytes ≡ None → placed_from 0 pc bytes ≡ []
+pub placed-end : (pc : ℕ) (bytes : List ℕ) → instruction_of (decoded bytes) ≡ None → placed_from 0 pc bytes ≡ []
 unfolding placed_from
 placed-end pc [] e = refl
 placed-end pc (b ∷ bytes) e = ap (λ (o : Option (Inst × ℕ)). placed_then pc (λ inside. placed_from inside (pc + 1) bytes) o) e
@@ -42,7 +44,7 @@ pub placed-above : (bytes : List ℕ) (k pc at : ℕ) (x : Placed) → placed_at
 unfolding placed_from placed_at
 placed-above [] k pc at x e = absurd (none-some x e)
 placed-above (b ∷ bytes) (suc k) pc at x e = let h = placed-above bytes k (pc + 1) at x e in omega arith
-placed-above (b ∷ bytes) zero pc at x e = go (front_of (b ∷ bytes)) e (λ n h. let l = placed-above bytes n (pc + 1) at x h in omega arith)
+placed-above (b ∷ bytes) zero pc at x e = go (instruction_of (decoded (b ∷ bytes))) e (λ n h. let l = placed-above bytes n (pc + 1) at x h in omega arith)
   where
     here : (t : Bool) (y : Placed) (n : ℕ) → eqb pc at ≡ t → (if t then Some y else placed_at (placed_from n (pc + 1) bytes) at) ≡ Some x
         → (placed_at (placed_from n (pc + 1) bytes) at ≡ Some x → pc ≤ at) → pc ≤ at
@@ -59,7 +61,7 @@ pub placed-ordered : (bytes : List ℕ) (k pc : ℕ) → Ordered (placed_from k 
 unfolding placed_from
 placed-ordered [] k pc = tt
 placed-ordered (b ∷ bytes) (suc k) pc = placed-ordered bytes k (pc + 1)
-placed-ordered (b ∷ bytes) zero pc = go (front_of (b ∷ bytes)) (λ n. placed-ordered bytes n (pc + 1))
+placed-ordered (b ∷ bytes) zero pc = go (instruction_of (decoded (b ∷ bytes))) (λ n. placed-ordered bytes n (pc + 1))
   where
     go : (o : Option (Inst × ℕ)) → ((n : ℕ) → Ordered (placed_from n (pc + 1) bytes)) → Ordered (placed_then pc (λ inside. placed_from inside (pc + 1) bytes) o)
     go None more = tt

@@ -6,7 +6,7 @@ use Rattle.std.proofs.lemmas.Bool.Decides.{nat_tests}
 use Rattle.std.proofs.lemmas.List.{length-append}
 use Rattle.std.proofs.lemmas.Option.{same_Some}
 use Rattle.std.proofs.lemmas.List.Concat.{flat_map-append}
-use Rattle.ia32_code.specs.Front.{FrontLaw}
+use Rattle.ia32_code.specs.Decoding.{FrontLaw}
 use Rattle.tal_types.specs.Contexts.{ContextView, plain}
 use Rattle.tal_types.specs.declared.signatures.Sig.{Sig}
 use Rattle.tal_flow.specs.Strongest.{Placed, placed_at}

@@ -4,7 +4,8 @@ use Rattle.std.proofs.Common.{◌≡◌, ℕ, ◌+◌, ◌<◌, ◌≤◌, ◌++
 use Rattle.std.proofs.lemmas.List.{append-nil}
 use Rattle.std.proofs.lemmas.List.Elements.{All-push, All-weaker}
 use Rattle.ia32_code.specs.declared.instruction.Inst.{Inst}
-use Rattle.ia32_code.specs.Front.{front_of}
+use Rattle.ia32_code.specs.declared.decoding.Decoded.TheVariants.{One}
+use Rattle.ia32_code.specs.Decoding.{decoded, instruction_of}
 use Rattle.tal_types.specs.Contexts.{ContextView, Dead}
 use Rattle.tal_types.specs.Shown.{ShownImage}
 use Rattle.tal_types.specs.declared.signatures.FrameRow.{FrameRow}
@@ -33,7 +34,7 @@ unfolding instructions
 all_left v code = record { accepts = λ n. n; refuses = λ x rule r. r; kept = refl }
 
 -- no instruction is left
-pub none_left : (v : ShownImage) (code : List ℕ) (pc : ℕ) (bytes : List ℕ) (c : ContextView) (rows : List RowAt) → Left v code pc bytes c rows → front_of bytes ≡ None
+pub none_left : (v : ShownImage) (code : List ℕ) (pc : ℕ) (bytes : List ℕ) (c : ContextView) (rows : List RowAt) → Left v code pc bytes c rows → instruction_of (decoded bytes) ≡ None
     → Passed v code rows
 none_left v code pc bytes c rows l e =
     let end = placed-end pc bytes e in
@@ -54,7 +55,7 @@ pub flows-pass : (v : ShownImage) (c : ContextView) (pc : ℕ) (i : Inst) (n : �
 unfolding Falls
 flows-pass v c pc i n after edges f = (f.none_fails, f.falls)
 
-module _ (v : ShownImage) (code : List ℕ) (pc : ℕ) (bytes : List ℕ) (c : ContextView) (rows : List RowAt) (i : Inst) (n : ℕ) (here : ContextView) (l : Left v code pc bytes c rows) (e : front_of bytes ≡ Some (i, n)) (some : 0 < n) (fits : n ≤ length bytes) (stands : here ≡ start v pc c) where
+module _ (v : ShownImage) (code : List ℕ) (pc : ℕ) (bytes : List ℕ) (c : ContextView) (rows : List RowAt) (i : Inst) (n : ℕ) (here : ContextView) (l : Left v code pc bytes c rows) (e : decoded bytes ≡ One i n) (some : 0 < n) (fits : n ≤ length bytes) (stands : here ≡ start v pc c) where
   -- the instruction at the front, and those after it
   abbrev step : placed_from 0 pc bytes ≡ record { pc = pc; inst = i; len = n } ∷ placed_from 0 (pc + n) (drop n bytes)
   step = placed-step pc bytes i n e some fits

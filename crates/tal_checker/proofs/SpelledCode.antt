@@ -4,9 +4,10 @@ use Rattle.std.proofs.Common.{◌≡◌, ℕ, ◌+◌, ◌-◌, ◌<◌, ◌≤�
 use Rattle.std.proofs.lemmas.Bool.{eqb-true}
 use Rattle.std.proofs.lemmas.Option.{none-some}
 use Rattle.std.proofs.lemmas.Bool.Decides.{nat_tests}
-use Rattle.std.proofs.lemmas.List.{length-append, take_at, drop_at, drop-drop}
+use Rattle.std.proofs.lemmas.List.{length-append, drop_at, drop-drop}
 use Rattle.ia32_code.specs.declared.instruction.Inst.{Inst}
-use Rattle.ia32_code.specs.Front.{front_of, FrontLaw}
+use Rattle.ia32_code.specs.declared.decoding.Decoded.TheVariants.{One}
+use Rattle.ia32_code.specs.Decoding.{decoded, FrontLaw}
 use Rattle.ia32_code.specs.Spells.{Spells}
 use Rattle.tal_flow.specs.Rules.{next_address}
 use Rattle.tal_flow.specs.Strongest.{Placed, placed_at, Chained}
@@ -19,7 +20,7 @@ use Rattle.tal_checker.proofs.CodeInstructions.{placed-step}
 -- each text has a byte at least, and the bytes from it on begin with what it means
 pub record IsText (s : Spelled) : Type 0 where
   pub some : 0 < length s.text
-  pub front : (rest : List ℕ) → front_of (s.text ++ rest) ≡ Some (s.means, length s.text)
+  pub front : (rest : List ℕ) → decoded (s.text ++ rest) ≡ One s.means (length s.text)
 
 -- each is spelled by its text
 abbrev pub AreTexts : List Spelled → Type 0
@@ -32,10 +33,7 @@ SpellingLength = (text : List ℕ) (inst : Inst) → Spells text inst → (0 < l
 
 -- what spells an instruction is its text
 pub spelled-text : FrontLaw → SpellingLength → (s : Spelled) → Spells s.text s.means → IsText s
-spelled-text front long s h = record {
-  some = (long s.text s.means h).0;
-  front = λ rest. (front (s.text ++ rest) s.means (length s.text)).0 (omega (arith, length-append s.text rest), rw (take_at s.text rest (length s.text) refl) h);
-}
+spelled-text front long s h = record { some = (long s.text s.means h).0; front = λ rest. front s.text rest s.means h }
 
 -- the instructions by their addresses, from an address on
 abbrev pub placed_spelled : ℕ → List Spelled → List Placed
@@ -66,7 +64,7 @@ spelled-above (s ∷ more) pc at x e =
 -- an instruction at an address, in bytes that begin at another
 pub record Spot (pc : ℕ) (bytes : List ℕ) (at : ℕ) (x : Placed) : Type 0 where
   pub address : x.pc ≡ at
-  pub front : front_of (drop (at - pc) bytes) ≡ Some (x.inst, x.len)
+  pub front : decoded (drop (at - pc) bytes) ≡ One x.inst x.len
   pub some : 0 < x.len
   pub after_start : pc ≤ at
   pub before_end : at + x.len ≤ pc + length bytes
@@ -90,7 +88,7 @@ spot (s ∷ more) pc at x h e =
           let nothing : pc - pc ≡ 0 = omega arith in
           let first : Spot pc (s.text ++ rest) pc y = record {
             address = refl;
-            front = ap (λ (n : ℕ). front_of (drop n (s.text ++ rest))) nothing ∙ k.front rest;
+            front = ap (λ (n : ℕ). decoded (drop n (s.text ++ rest))) nothing ∙ k.front rest;
             some = some;
             after_start = omega arith;
             before_end = omega arith;
@@ -104,7 +102,7 @@ spot (s ∷ more) pc at x h e =
           let dropped : drop (length s.text) (s.text ++ rest) ≡ rest = drop_at s.text rest (length s.text) refl in
           record {
             address = t.address;
-            front = ap front_of (sym (dropped_on pc (length s.text) at (s.text ++ rest) after) ∙ ap (λ (b : List ℕ). drop (at - (pc + length s.text)) b) dropped) ∙ t.front;
+            front = ap decoded (sym (dropped_on pc (length s.text) at (s.text ++ rest) after) ∙ ap (λ (b : List ℕ). drop (at - (pc + length s.text)) b) dropped) ∙ t.front;
             some = t.some;
             after_start = omega arith;
             before_end = omega arith;

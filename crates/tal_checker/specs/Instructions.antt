@@ -1,7 +1,7 @@
 -- The instructions of code, one after another.
 use Rattle.std.specs.Prelude.{ℕ, zero, suc, ◌+◌, ◌-◌, List, [], ◌∷◌, Option, Some, None}
 use Rattle.ia32_code.specs.declared.instruction.Inst.{Inst}
-use Rattle.ia32_code.specs.Front.{front_of}
+use Rattle.ia32_code.specs.Decoding.{decoded, instruction_of}
 use Rattle.tal_flow.specs.Strongest.{Placed}
 use Rattle.object_layout.specs.Areas.{code_start}
 
@@ -15,7 +15,7 @@ placed_then pc more (Some i) = record { pc = pc; inst = i.0; len = i.1 } ∷ mor
 unfoldable pub placed_from : ℕ → ℕ → List ℕ → List Placed
 placed_from inside pc [] = []
 placed_from (suc inside) pc (b ∷ bytes) = placed_from inside (pc + 1) bytes
-placed_from zero pc (b ∷ bytes) = placed_then pc (λ inside. placed_from inside (pc + 1) bytes) (front_of (b ∷ bytes))
+placed_from zero pc (b ∷ bytes) = placed_then pc (λ inside. placed_from inside (pc + 1) bytes) (instruction_of (decoded (b ∷ bytes)))
 
 -- the instructions of an image's code
 unfoldable pub instructions : List ℕ → List Placed

@@ -1,7 +1,8 @@
 -- What a run of an accepted image rests on: its instructions, and where runs go from them.
 use Rattle.std.specs.Prelude.{◌≡◌, ℕ, ◌+◌, ◌-◌, ◌<◌, ◌≤◌, ◌^◌, true, length, drop, Option, Some, None, IsSome, slice_get}
 use Rattle.std.specs.Option.{option_and_then}
-use Rattle.ia32_code.specs.Front.{front_of}
+use Rattle.ia32_code.specs.declared.decoding.Decoded.TheVariants.{One}
+use Rattle.ia32_code.specs.Decoding.{decoded}
 use Rattle.tal_types.specs.declared.signatures.Sig.{Sig}
 use Rattle.tal_types.specs.declared.views.Span.{Span}
 use Rattle.tal_types.specs.Contexts.{LiveContext, ContextView, Live, ContextBelow, entry}
@@ -25,7 +26,7 @@ signature_at image pc = option_and_then (λ (span : Span). (shown image).sig spa
 -- an instruction at an address is what the code spells there, and lies within the code and within a function
 pub record IsSpelledAt (image : ImageParts) (pc : ℕ) (x : Placed) : Type 0 where
   pub address : x.pc ≡ pc
-  pub front : front_of (drop (pc - code_start) image.code) ≡ Some (x.inst, x.len)
+  pub front : decoded (drop (pc - code_start) image.code) ≡ One x.inst x.len
   pub some_bytes : 0 < x.len
   pub after_start : code_start ≤ pc
   pub before_end : pc + x.len ≤ code_start + length image.code

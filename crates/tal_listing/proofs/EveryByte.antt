@@ -4,7 +4,7 @@ use Rattle.std.proofs.lemmas.List.{length-append, take-append-le, drop-append-le
 use Rattle.std.proofs.lemmas.List.Concat.{flat_map-append}
 use Rattle.std.proofs.lemmas.List.Elements.{All-nil, All-cons, All-append}
 use Rattle.ia32_code.specs.declared.instruction.Inst.{Inst}
-use Rattle.ia32_code.specs.Front.{FrontLaw}
+use Rattle.ia32_code.specs.Decoding.{FrontLaw}
 use Rattle.ia32_code.specs.Spells.{Spells}
 use Rattle.object_layout.specs.Areas.{code_start}
 use Rattle.tal_image.specs.declared.parts.FunctionPart.{FunctionPart}
@@ -51,8 +51,7 @@ module _ (front : FrontLaw) (long : (text : List ℕ) (i : Inst) → Spells text
   first_line address text more i spells =
       let own = take-front text more (length text) refl in
       let fits : length text ≤ length (text ++ more) = omega (arith, length-append text more) in
-      let at_front = (front (text ++ more) i (length text)).0 (fits, subst (λ (t : List ℕ). Spells t i) (sym own) spells) in
-      lines_from-front address (text ++ more) i (length text) at_front (long text i spells).0 fits
+      lines_from-front address (text ++ more) i (length text) (front text more i spells) (long text i spells).0 fits
       ∙ rw (own, drop-front text more (length text) refl) refl
 
   -- The lines of a function have its bytes.

@@ -3,7 +3,7 @@ use Rattle.std.specs.Prelude.{ℕ, zero, suc, ◌+◌, ◌-◌, List, [], ◌∷
 use Rattle.std.specs.List.{flat_map}
 use Rattle.hex.specs.Hex.{encode_upper}
 use Rattle.ia32_code.specs.declared.instruction.Inst.{Inst}
-use Rattle.ia32_code.specs.Front.{front_of}
+use Rattle.ia32_code.specs.Decoding.{decoded, instruction_of}
 use Rattle.tal_listing.specs.Numbers.{word_text}
 use Rattle.tal_listing.specs.Words.{inst_text}
 
@@ -23,7 +23,7 @@ lines_then address bytes more (Some i) = record { address = address; bytes = tak
 unfoldable pub lines_from : ℕ → ℕ → List ℕ → List Line
 lines_from inside address [] = []
 lines_from (suc inside) address (b ∷ bytes) = lines_from inside (address + 1) bytes
-lines_from zero address (b ∷ bytes) = lines_then address (b ∷ bytes) (λ inside. lines_from inside (address + 1) bytes) (front_of (b ∷ bytes))
+lines_from zero address (b ∷ bytes) = lines_then address (b ∷ bytes) (λ inside. lines_from inside (address + 1) bytes) (instruction_of (decoded (b ∷ bytes)))
 
 -- a line: the address, the bytes, the instruction, apart by one space
 unfoldable pub line_text : Line → List ℕ

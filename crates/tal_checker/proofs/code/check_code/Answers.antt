@@ -1,10 +1,10 @@
 use Rattle.std.specs.List.{All}
-use Rattle.std.proofs.Common.{◌≡◌, ◌+◌, ◌<◌, ℕ, List, [], ◌∷◌, ◌++◌, drop, None, refl, sym, subst, ◌∙◌, arith}
+use Rattle.std.proofs.Common.{◌≡◌, ◌+◌, ◌<◌, ℕ, List, [], ◌∷◌, ◌++◌, drop, None, refl, sym, ap, subst, ◌∙◌, arith}
 use Rattle.std.proofs.lemmas.List.Elements.{All-nil}
 use Rattle.ia32_code.specs.declared.instruction.Inst.{Inst}
 use Rattle.ia32_code.specs.declared.decoding.Decoded.{Decoded}
 use Rattle.ia32_code.specs.declared.decoding.Decoded.TheVariants.{One, Short, Unknown}
-use Rattle.ia32_code.specs.Front.{answered}
+use Rattle.ia32_code.specs.Decoding.{instruction_of}
 use Rattle.tal_types.specs.Contexts.{ContextView, Dead}
 use Rattle.tal_types.specs.Kept.{context_of}
 use Rattle.object_layout.specs.Areas.{code_start}
@@ -29,7 +29,7 @@ pub returns-in-Err-clause-err : goal.returns-in-Err-clause-err
 returns-in-Err-clause-err g c =
     let v = g.V.ImageView.shown c.args.image.now in
     let a = c.in-One.ensures.answers in
-    left_refused v c.args.code.now c.loop-inst.pc c.loop-inst.rest.now (context_of c.loop-inst.context) c.loop-inst.frames c.in-One.inst c.in-One.len (context_of c.start_at.new.context) c.loop-inst.invariant.left c.in-One.ensures.front a.0 a.1 c.start_at.ensures c.in-Err.rule.0 c.in-Err.ensures.rule
+    left_refused v c.args.code.now c.loop-inst.pc c.loop-inst.rest.now (context_of c.loop-inst.context) c.loop-inst.frames c.in-One.inst c.in-One.len (context_of c.start_at.new.context) c.loop-inst.invariant.left (sym c.in-One.ensures.one) a.0 a.1 c.start_at.ensures c.in-Err.rule.0 c.in-Err.ensures.rule
 
 pub loop-inst-preserved : goal.loop-inst-preserved
 loop-inst-preserved g c =
@@ -40,7 +40,7 @@ loop-inst-preserved g c =
     let len = c.in-One.len in
     let a = c.in-One.ensures.answers in
     let p = flows-pass v (context_of c.start_at.new.context) pc c.in-One.inst len (context_of c.flow.new.context) c.in_default-flow.field-0 c.in_default-flow.ensures.ok in
-    let next = left_after v code pc rest (context_of c.loop-inst.context) c.loop-inst.frames c.in-One.inst len (context_of c.start_at.new.context) c.loop-inst.invariant.left c.in-One.ensures.front a.0 a.1 c.start_at.ensures (context_of c.flow.new.context) c.frame_row.result p.0 p.1 c.frame_row.ensures in
+    let next = left_after v code pc rest (context_of c.loop-inst.context) c.loop-inst.frames c.in-One.inst len (context_of c.start_at.new.context) c.loop-inst.invariant.left (sym c.in-One.ensures.one) a.0 a.1 c.start_at.ensures (context_of c.flow.new.context) c.frame_row.result p.0 p.1 c.frame_row.ensures in
     let rows : List RowAt = c.loop-inst.frames ++ record { pc = pc; row = c.frame_row.result } ∷ [] in
     let below = rows-below c.loop-inst.frames pc len c.frame_row.result a.0 c.loop-inst.invariant.below in
     record {
@@ -53,7 +53,7 @@ loop-inst-preserved g c =
     }
 
 -- an answer that is no instruction
-not_one : (d : Decoded) → ((i : Inst) (n : ℕ) → d ≡ One i n → ⊥) → answered d ≡ None
+not_one : (d : Decoded) → ((i : Inst) (n : ℕ) → d ≡ One i n → ⊥) → instruction_of d ≡ None
 not_one (One i n) h = absurd (h i n refl)
 not_one Short h = refl
 not_one Unknown h = refl
@@ -62,6 +62,6 @@ pub returns : goal.returns
 returns g c =
     let v = g.V.ImageView.shown c.args.image.now in
     record {
-      ok = none_left v c.args.code.now c.loop-inst.pc c.loop-inst.rest.now (context_of c.loop-inst.context) c.loop-inst.frames c.loop-inst.invariant.left (c.decode.ensures.front ∙ not_one c.decode.result c.in_default.not-One);
+      ok = none_left v c.args.code.now c.loop-inst.pc c.loop-inst.rest.now (context_of c.loop-inst.context) c.loop-inst.frames c.loop-inst.invariant.left (ap instruction_of (sym c.decode.ensures.one) ∙ not_one c.decode.result c.in_default.not-One);
       err = tt;
     }
