@@ -16,7 +16,7 @@ use Rattle.ia32_code.specs.Order.{IsFirst}
 use Rattle.ia32_code.proofs.OpcodeRows.{at_one}
 use Rattle.ia32_code.proofs.First.{at_digit, at_zero, at_bare, own}
 use Rattle.ia32_code.proofs.FirstArithmetic.{alu_store, alu_load, alu_eax, alu_word, alu_byte, test_store, test_word, imul2, imul_byte, imul_word, shift_one, shift_by, shift_cl}
-use Rattle.ia32_code.proofs.FirstMoves.{mov_load, mov_store, mov_word, lea, IsUnary, unary, inc, dec, push, push_byte, push_word}
+use Rattle.ia32_code.proofs.FirstMoves.{mov_load, mov_store, mov_word, lea, unary, inc, dec, push, push_byte, push_word}
 
 -- ---- branches
 
@@ -61,30 +61,6 @@ jcc_byte cc n lt = record {
 not_bare : (op : ℕ) → among priv_with_byte op ≡ true → among priv_bare op ≡ false
 not_bare op h = at_one (λ n. among priv_bare n ≡ false) priv_with_byte op (refl, (refl, (refl, (refl, (refl, tt))))) h
 
--- ---- one operand, by a digit
-
--- the rows with a digit and one operand, one by one
-not_unary : IsUnary row.Not 2 (λ o. inst.Not o)
-not_unary = record { means = λ r f n. refl; fit = λ f h. record { row = refl; modrm = (h, refl); trailing = refl }; len = λ f. simp length-append (omega arith) }
-
-neg_unary : IsUnary row.Neg 3 (λ o. inst.Neg o)
-neg_unary = record { means = λ r f n. refl; fit = λ f h. record { row = refl; modrm = (h, refl); trailing = refl }; len = λ f. simp length-append (omega arith) }
-
-mul_unary : IsUnary row.Mul 4 (λ o. inst.Mul o)
-mul_unary = record { means = λ r f n. refl; fit = λ f h. record { row = refl; modrm = (h, refl); trailing = refl }; len = λ f. simp length-append (omega arith) }
-
-imul1_unary : IsUnary row.Imul1 5 (λ o. inst.Imul1 o)
-imul1_unary = record { means = λ r f n. refl; fit = λ f h. record { row = refl; modrm = (h, refl); trailing = refl }; len = λ f. simp length-append (omega arith) }
-
-div_unary : IsUnary row.Div 6 (λ o. inst.Div o)
-div_unary = record { means = λ r f n. refl; fit = λ f h. record { row = refl; modrm = (h, refl); trailing = refl }; len = λ f. simp length-append (omega arith) }
-
-idiv_unary : IsUnary row.Idiv 7 (λ o. inst.Idiv o)
-idiv_unary = record { means = λ r f n. refl; fit = λ f h. record { row = refl; modrm = (h, refl); trailing = refl }; len = λ f. simp length-append (omega arith) }
-
-callat_unary : IsUnary row.CallAt 2 (λ o. inst.CallAt o)
-callat_unary = record { means = λ r f n. refl; fit = λ f h. record { row = refl; modrm = (h, refl); trailing = refl }; len = λ f. simp length-append (omega arith) }
-
 -- ---- every row
 
 -- every filled row is preceded by the canonical one of its instruction
@@ -108,12 +84,12 @@ is_first (row.IncReg d) r f n h = at_bare (row.IncReg d) r f n 0 h.modrm h.trail
 is_first row.Inc r f n h = inc r f n h.modrm h.trailing
 is_first (row.DecReg d) r f n h = at_bare (row.DecReg d) r f n 0 h.modrm h.trailing (own (row.DecReg d) 0 refl (record { row = refl; modrm = (refl, refl); trailing = refl }))
 is_first row.Dec r f n h = dec r f n h.modrm h.trailing
-is_first row.Not r f n h = unary row.Not 2 (λ o. inst.Not o) not_unary r f n refl h.modrm h.trailing
-is_first row.Neg r f n h = unary row.Neg 3 (λ o. inst.Neg o) neg_unary r f n refl h.modrm h.trailing
-is_first row.Mul r f n h = unary row.Mul 4 (λ o. inst.Mul o) mul_unary r f n refl h.modrm h.trailing
-is_first row.Imul1 r f n h = unary row.Imul1 5 (λ o. inst.Imul1 o) imul1_unary r f n refl h.modrm h.trailing
-is_first row.Div r f n h = unary row.Div 6 (λ o. inst.Div o) div_unary r f n refl h.modrm h.trailing
-is_first row.Idiv r f n h = unary row.Idiv 7 (λ o. inst.Idiv o) idiv_unary r f n refl h.modrm h.trailing
+is_first row.Not r f n h = unary row.Not 2 (λ o. inst.Not o) (λ y. refl) (λ y fits. record { row = refl; modrm = (fits, refl); trailing = refl }) (λ y. simp length-append (omega arith)) r f n refl h.modrm h.trailing
+is_first row.Neg r f n h = unary row.Neg 3 (λ o. inst.Neg o) (λ y. refl) (λ y fits. record { row = refl; modrm = (fits, refl); trailing = refl }) (λ y. simp length-append (omega arith)) r f n refl h.modrm h.trailing
+is_first row.Mul r f n h = unary row.Mul 4 (λ o. inst.Mul o) (λ y. refl) (λ y fits. record { row = refl; modrm = (fits, refl); trailing = refl }) (λ y. simp length-append (omega arith)) r f n refl h.modrm h.trailing
+is_first row.Imul1 r f n h = unary row.Imul1 5 (λ o. inst.Imul1 o) (λ y. refl) (λ y fits. record { row = refl; modrm = (fits, refl); trailing = refl }) (λ y. simp length-append (omega arith)) r f n refl h.modrm h.trailing
+is_first row.Div r f n h = unary row.Div 6 (λ o. inst.Div o) (λ y. refl) (λ y fits. record { row = refl; modrm = (fits, refl); trailing = refl }) (λ y. simp length-append (omega arith)) r f n refl h.modrm h.trailing
+is_first row.Idiv r f n h = unary row.Idiv 7 (λ o. inst.Idiv o) (λ y. refl) (λ y fits. record { row = refl; modrm = (fits, refl); trailing = refl }) (λ y. simp length-append (omega arith)) r f n refl h.modrm h.trailing
 is_first row.Imul2 r f n h = at_zero row.Imul2 r f n h.trailing (imul2 r f h.modrm)
 is_first row.Imul3Byte r f n h = imul_byte r f n h.modrm h.trailing
 is_first row.Imul3Word r f n h = imul_word r f n h.modrm h.trailing
@@ -128,7 +104,7 @@ is_first row.PushWord r f n h = at_bare row.PushWord r f n n h.modrm refl (push_
 is_first row.Push r f n h = push r f n h.modrm h.trailing
 is_first (row.PopReg d) r f n h = at_bare (row.PopReg d) r f n 0 h.modrm h.trailing (own (row.PopReg d) 0 refl (record { row = refl; modrm = (refl, refl); trailing = refl }))
 is_first row.CallRel r f n h = at_bare row.CallRel r f n n h.modrm refl (call_rel n h.trailing)
-is_first row.CallAt r f n h = unary row.CallAt 2 (λ o. inst.CallAt o) callat_unary r f n refl h.modrm h.trailing
+is_first row.CallAt r f n h = unary row.CallAt 2 (λ o. inst.CallAt o) (λ y. refl) (λ y fits. record { row = refl; modrm = (fits, refl); trailing = refl }) (λ y. simp length-append (omega arith)) r f n refl h.modrm h.trailing
 is_first row.Ret r f n h = at_bare row.Ret r f n 0 h.modrm h.trailing (own row.Ret 0 refl (record { row = refl; modrm = (refl, refl); trailing = refl }))
 is_first row.JmpWord r f n h = at_bare row.JmpWord r f n n h.modrm refl (jmp_word n h.trailing)
 is_first row.JmpByte r f n h = at_bare row.JmpByte r f n n h.modrm refl (jmp_byte n h.trailing)

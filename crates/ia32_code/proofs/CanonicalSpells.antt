@@ -33,9 +33,7 @@ use Rattle.ia32_code.proofs.FirstMoves.{memory_as}
 alone_parts : (base index : Option Reg) (s d : ℕ) → is_absolute (record { base = base; index = index; scale = s; disp = d }) ≡ true
     → M (record { base = base; index = index; scale = s; disp = d }) ≡ operand (Absolute d)
 alone_parts None None s d h = ap (λ (x : ℕ). M (record { base = None; index = None; scale = x; disp = d })) (eqb-true s 0 h)
-alone_parts None (Some i) s d h = absurd cc
-alone_parts (Some b) None s d h = absurd cc
-alone_parts (Some b) (Some i) s d h = absurd cc
+alone_parts _ _ s d h = absurd cc
 
 -- what makes an index usable
 usable_is : (i : Reg) (s : ℕ) → usable i s ≡ true → (s < 4) × (index_register i ≡ Some i) × (eqb (number i) 4 ≡ false)
@@ -177,22 +175,17 @@ chosen_fits (inst.Alu op dst (R r)) s h e =
 chosen_fits (inst.Alu op dst (I n)) s h e = via dst (alu_imm op n) (λ o. inst.Alu op o (I n)) s h.0 (λ f ff q. let k = imm_of op n f ff h.1 in (k.fits, k.same)) e
 chosen_fits (inst.Alu op (R r) (M m)) s h e =
     via (M m) (λ f. fill (row.AluLoad op) r f 0) (λ o. inst.Alu op (R r) o) s h.1 (λ f ff q. (record { row = refl; modrm = ff; trailing = refl }, refl)) e
-chosen_fits (inst.Alu op (M k) (M m)) s h e = absurd cc
-chosen_fits (inst.Alu op (I k) (M m)) s h e = absurd cc
+chosen_fits (inst.Alu op _ (M m)) s h e = absurd cc
 chosen_fits (inst.Mov (R d) (R r)) s h e = exact _ s _ (record { row = refl; modrm = tt; trailing = refl }, refl) e
 chosen_fits (inst.Mov (R d) (I n)) s h e = exact _ s _ (record { row = refl; modrm = (refl, refl); trailing = h.1 }, refl) e
 chosen_fits (inst.Mov (R d) (M m)) s h e = mov_load_fits d m s h.1 e
 chosen_fits (inst.Mov (M m) (R r)) s h e = mov_store_fits r m s h.0 e
 chosen_fits (inst.Mov (M m) (I n)) s h e =
     via (M m) (λ f. fill row.MovWord Eax f n) (λ o. inst.Mov o (I n)) s h.0 (λ f ff q. (record { row = refl; modrm = (ff, refl); trailing = h.1 }, refl)) e
-chosen_fits (inst.Mov (M m) (M k)) s h e = absurd cc
-chosen_fits (inst.Mov (I n) src) s h e = absurd cc
+chosen_fits (inst.Mov _ _) s h e = absurd cc
 chosen_fits (inst.Lea (R d) (M m)) s h e =
     via (M m) (λ f. fill row.Lea d f 0) (λ o. inst.Lea (R d) o) s h.1 (λ f ff q. (record { row = refl; modrm = (ff, memory_as f m q); trailing = refl }, refl)) e
-chosen_fits (inst.Lea (R d) (R r)) s h e = absurd cc
-chosen_fits (inst.Lea (R d) (I n)) s h e = absurd cc
-chosen_fits (inst.Lea (M m) src) s h e = absurd cc
-chosen_fits (inst.Lea (I n) src) s h e = absurd cc
+chosen_fits (inst.Lea _ _) s h e = absurd cc
 chosen_fits (inst.Test dst (R r)) s h e =
     via dst (λ f. fill row.TestStore r f 0) (λ o. inst.Test o (R r)) s h.0 (λ f ff q. (record { row = refl; modrm = ff; trailing = refl }, refl)) e
 chosen_fits (inst.Test dst (I n)) s h e = via dst (test_imm n) (λ o. inst.Test o (I n)) s h.0 (λ f ff q. let k = test_of_imm n f ff h.1 in (k.fits, k.same)) e
@@ -219,11 +212,9 @@ chosen_fits (inst.CallAt o) s h e =
     via o (λ f. fill row.CallAt (reg 2) f 0) (λ x. inst.CallAt x) s h (λ f ff q. (record { row = refl; modrm = (ff, refl); trailing = refl }, refl)) e
 chosen_fits (inst.Imul2 (R d) src) s h e =
     via src (λ f. fill row.Imul2 d f 0) (λ o. inst.Imul2 (R d) o) s h.1 (λ f ff q. (record { row = refl; modrm = ff; trailing = refl }, refl)) e
-chosen_fits (inst.Imul2 (M m) src) s h e = absurd cc
-chosen_fits (inst.Imul2 (I n) src) s h e = absurd cc
+chosen_fits (inst.Imul2 _ src) s h e = absurd cc
 chosen_fits (inst.Imul3 (R d) src n) s h e = via src (imul_imm n d) (λ o. inst.Imul3 (R d) o n) s h.1 (λ f ff q. let k = imul_of_imm n d f ff h.2 in (k.fits, k.same)) e
-chosen_fits (inst.Imul3 (M m) src n) s h e = absurd cc
-chosen_fits (inst.Imul3 (I k) src n) s h e = absurd cc
+chosen_fits (inst.Imul3 _ src n) s h e = absurd cc
 chosen_fits (inst.Shift op o Cl) s h e =
     via o (λ f. fill (row.ShiftCl op) (reg (shift_number op)) f 0) (λ x. inst.Shift op x Cl) s h.0
     (λ f ff q. (record { row = refl; modrm = (ff, shift_back op); trailing = refl }, refl)) e

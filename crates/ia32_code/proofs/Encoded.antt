@@ -8,10 +8,9 @@ use Rattle.ia32_code.specs.declared.row.Row.TheVariants.{JmpByte, JccByte}
 use Rattle.ia32_code.specs.declared.operand_form.OperandForm.{OperandForm}
 use Rattle.ia32_code.specs.declared.spelling.Spelling.{Spelling}
 use Rattle.ia32_code.specs.Spells.{Spells, text, meaning}
-use Rattle.ia32_code.specs.Canonical.{fill, canonical_row, Canonical, text_length, canonical_length}
+use Rattle.ia32_code.specs.Canonical.{fill, canonical_row, Canonical, text_length, canonical_length, HasNone}
 use Rattle.ia32_code.specs.Ranges.{InstInRange}
 use Rattle.ia32_code.specs.Order.{Precedes, IsShortBranch, IsBranch, IsFirst, IsNotShorter}
-use Rattle.ia32_code.specs.Encoding.{HasNone}
 use Rattle.ia32_code.proofs.CanonicalIsFirst.{is_first}
 use Rattle.ia32_code.proofs.CanonicalSpells.{chosen_fits}
 
@@ -48,10 +47,6 @@ some_spells i (Some s) h e = row_spells i s h e
 -- the canonical spelling is one of the instruction
 pub canonical_spells : (i : Inst) → InstInRange i → IfSome (Canonical i) (λ t. Spells t i)
 canonical_spells i h = some_spells i (canonical_row i) h refl
-
--- the same for given bytes
-pub canonical_text : (i : Inst) (t : List ℕ) → InstInRange i → Canonical i ≡ Some t → Spells t i
-canonical_text i t h e = subst (λ (o : Option (List ℕ)). IfSome o (λ x. Spells x i)) e (canonical_spells i h)
 
 -- no bytes come of no row alone
 row_none : (i : Inst) (o : Option Spelling) → canonical_row i ≡ o → option_map text o ≡ None → canonical_row i ≡ None

@@ -9,7 +9,7 @@ use Rattle.ia32_code.specs.declared.row.Row.{Row}
 use Rattle.ia32_code.specs.declared.row.Row.TheVariants.{JmpByte, JccByte}
 use Rattle.ia32_code.specs.declared.spelling.Spelling.{Spelling}
 use Rattle.ia32_code.specs.declared.operand_form.OperandForm.{OperandForm}
-use Rattle.ia32_code.specs.declared.operand_form.OperandForm.TheVariants.{Direct, Based, Absolute, Indexed, Unbased}
+use Rattle.ia32_code.specs.declared.operand_form.OperandForm.TheVariants.{Direct}
 use Rattle.ia32_code.specs.OperandForms.{number, reg, after_modrm, operand, FormFits}
 use Rattle.ia32_code.specs.Spells.{Filled, text, meaning}
 use Rattle.ia32_code.specs.Canonical.{shortest_form, fill, without_modrm, with_form, canonical_row}
@@ -39,8 +39,13 @@ no_short (JccByte cond) r f n e h = false≢true (ap is_short e)
 no_short _ r f n e h = absurd h
 
 -- and so is the canonical spelling of what any spelling means
-pub long_first : (first s : Spelling) → canonical_row (meaning s) ≡ Some first → meaning first ≡ meaning s → IsShortBranch first.row → ⊥
+long_first : (first s : Spelling) → canonical_row (meaning s) ≡ Some first → meaning first ≡ meaning s → IsShortBranch first.row → ⊥
 long_first first s e same h = no_short first.row first.reg first.form first.number (ap canonical_row same ∙ e) h
+
+-- the canonical spelling of what a spelling means is first, if it precedes
+pub by_other : (first s : Spelling) → canonical_row (meaning s) ≡ Some first → Filled first → meaning first ≡ meaning s → Precedes first s → IsFirst s
+by_other first s canonical filled same precedes =
+    record { first = first; canonical = canonical; filled = filled; same = same; long = long_first first s canonical same; precedes = inr precedes }
 
 -- ---- the same row with another form
 
@@ -51,10 +56,7 @@ LongAs w r n k = (f : OperandForm) → length (text (fill w r f n)) ≡ k + leng
 -- scale bits take no room
 scale_length : (f : OperandForm) → length (after_modrm (without_scale f)) ≡ length (after_modrm f)
 scale_length (Direct r) = refl
-scale_length (Based b d) = refl
-scale_length (Absolute n) = refl
-scale_length (Indexed s i b d) = refl
-scale_length (Unbased s i n) = refl
+scale_length _ = refl
 
 -- a better form is no longer
 pub no_longer : (g f : OperandForm) → Better g f → length (after_modrm g) ≤ length (after_modrm f)
@@ -82,16 +84,9 @@ pub by_form : (w : Row) (r : Reg) (n k : ℕ) (make : Operand → Inst) (f : Ope
     → LongAs w r n k → FormFits f → IsFirst (fill w r f n)
 by_form w r n k make f canon means fit len h =
     let b = best_form f h in
-    let canonical = ap canonical_row (means f) ∙ canon ∙ ap (λ (x : Option OperandForm). with_form x (λ y. fill w r y n)) b.chosen in
-    let same = means b.best ∙ ap make b.same ∙ sym (means f) in
-    record {
-      first = fill w r b.best n;
-      canonical = canonical;
-      filled = fit b.best b.fits b.same;
-      same = same;
-      long = long_first (fill w r b.best n) (fill w r f n) canonical same;
-      precedes = inr (by_better w r n k b.best f len b.better);
-    }
+    by_other (fill w r b.best n) (fill w r f n)
+    (ap canonical_row (means f) ∙ canon ∙ ap (λ (x : Option OperandForm). with_form x (λ y. fill w r y n)) b.chosen)
+    (fit b.best b.fits b.same) (means b.best ∙ ap make b.same ∙ sym (means f)) (by_better w r n k b.best f len b.better)
 
 -- ---- what a filled row leaves open
 
@@ -115,4 +110,4 @@ at_bare w r f n m h z k = rw (h.0, h.1, z) k
 
 -- a row that is the canonical one of its instruction
 pub own : (w : Row) (n : ℕ) → canonical_row (meaning (without_modrm w n)) ≡ Some (without_modrm w n) → Filled (without_modrm w n) → IsFirst (without_modrm w n)
-own w n e h = record { first = without_modrm w n; canonical = e; filled = h; same = refl; long = long_first (without_modrm w n) (without_modrm w n) e refl; precedes = inr (inr (refl, inr refl)) }
+own w n e h = by_other (without_modrm w n) (without_modrm w n) e h refl (inr (refl, inr refl))

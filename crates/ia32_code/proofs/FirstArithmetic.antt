@@ -7,14 +7,14 @@ use Rattle.ia32_code.specs.declared.instruction.Reg.TheVariants.{Eax}
 use Rattle.ia32_code.specs.declared.instruction.Alu.{Alu}
 use Rattle.ia32_code.specs.declared.instruction.Alu.TheVariants as alu
 use Rattle.ia32_code.specs.declared.instruction.Shift.{Shift}
-use Rattle.ia32_code.specs.declared.instruction.Shift.TheVariants.{Shl, Shr, Sar}
+use Rattle.ia32_code.specs.declared.instruction.Shift.TheVariants.{Shl}
 use Rattle.ia32_code.specs.declared.instruction.Count.TheVariants.{By, Cl}
 use Rattle.ia32_code.specs.declared.instruction.Operand.{Operand}
 use Rattle.ia32_code.specs.declared.instruction.Operand.TheVariants.{R, I}
 use Rattle.ia32_code.specs.declared.instruction.Inst.TheVariants as inst
 use Rattle.ia32_code.specs.declared.row.Row.TheVariants as row
 use Rattle.ia32_code.specs.declared.operand_form.OperandForm.{OperandForm}
-use Rattle.ia32_code.specs.declared.operand_form.OperandForm.TheVariants.{Direct, Based, Absolute, Indexed, Unbased}
+use Rattle.ia32_code.specs.declared.operand_form.OperandForm.TheVariants.{Direct}
 use Rattle.ia32_code.specs.declared.spelling.Spelling.{Spelling}
 use Rattle.ia32_code.specs.OperandForms.{number, reg, sign_extended, operand, FormFits}
 use Rattle.ia32_code.specs.Table.{alu_number, shift_number}
@@ -23,30 +23,22 @@ use Rattle.ia32_code.specs.Canonical.{fits_byte, is_eax, shortest_form, fill, wi
 use Rattle.ia32_code.specs.Order.{Precedes, IsFirst}
 use Rattle.ia32_code.proofs.OperandForms.{number-reg}
 use Rattle.ia32_code.proofs.ShortestForm.{extended_fits, Better, best_form}
-use Rattle.ia32_code.proofs.First.{number_zero, no_longer, long_first, by_better, by_form, at_digit, precedes_at}
+use Rattle.ia32_code.proofs.First.{number_zero, no_longer, by_other, by_better, by_form, at_digit, precedes_at, own}
 
 -- the number of an operation is a digit
 pub alu_below : (op : Alu) → alu_number op < 8
 alu_below alu.Add = lit< tt
-alu_below alu.Or = lit< tt
-alu_below alu.And = lit< tt
-alu_below alu.Sub = lit< tt
-alu_below alu.Xor = lit< tt
-alu_below alu.Cmp = lit< tt
+alu_below _ = lit< tt
 
 -- and so is that of a shift
 pub shift_back : (op : Shift) → number (reg (shift_number op)) ≡ shift_number op
 shift_back Shl = refl
-shift_back Shr = refl
-shift_back Sar = refl
+shift_back _ = refl
 
 -- the test for EAX finds EAX
 pub eax_form : (f : OperandForm) → is_eax f ≡ true → f ≡ Direct Eax
 eax_form (Direct r) h = ap (λ (x : Reg). Direct x) (number_zero r (eqb-true (number r) 0 h))
-eax_form (Based b d) h = absurd cc
-eax_form (Absolute n) h = absurd cc
-eax_form (Indexed s i b d) h = absurd cc
-eax_form (Unbased s i n) h = absurd cc
+eax_form _ h = absurd cc
 
 -- ---- an operation with an immediate
 
@@ -86,30 +78,21 @@ pub alu_word : (op : Alu) (r : Reg) (f : OperandForm) (n : ℕ) → FormFits f �
 alu_word op r f n h d lt =
     let b = best_form f h in
     let k = imm_of op n b.best b.fits lt in
-    let canonical = ap (λ (x : Option OperandForm). with_form x (alu_imm op n)) b.chosen in
-    let same = k.same ∙ ap (λ (x : Operand). inst.Alu op x (I n)) b.same in
-    record {
-      first = alu_imm op n b.best;
-      canonical = canonical;
-      filled = k.fits;
-      same = same;
-      long = long_first (alu_imm op n b.best) (fill (row.AluWord op) r f n) canonical same;
-      precedes = inr (k.first r f d b.better);
-    }
+    by_other (alu_imm op n b.best) (fill (row.AluWord op) r f n) (ap (λ (x : Option OperandForm). with_form x (alu_imm op n)) b.chosen)
+    k.fits (k.same ∙ ap (λ (x : Operand). inst.Alu op x (I n)) b.same) (k.first r f d b.better)
 
 -- `83`
 pub alu_byte : (op : Alu) (r : Reg) (f : OperandForm) (n : ℕ) → FormFits f → number r ≡ alu_number op → n < 256 → IsFirst (fill (row.AluByte op) r f n)
 alu_byte op r f n h d lt =
     let b = best_form f h in
     let e = extended_fits n lt in
-    at_digit (row.AluByte op) (alu_number op) r f n n d refl (record {
-      first = fill (row.AluByte op) (reg (alu_number op)) b.best n;
-      canonical = ap (λ (x : Option OperandForm). with_form x (alu_imm op (sign_extended n))) b.chosen ∙ rw (e.0, e.1) refl;
-      filled = record { row = refl; modrm = (b.fits, number-reg (alu_number op) (alu_below op)); trailing = lt };
-      same = ap (λ (x : Operand). inst.Alu op x (I (sign_extended n))) b.same;
-      long = λ h. h;
-      precedes = inr (by_better (row.AluByte op) (reg (alu_number op)) n 3 b.best f (λ y. simp length-append (omega arith)) b.better);
-    })
+    let digit = reg (alu_number op) in
+    at_digit (row.AluByte op) (alu_number op) r f n n d refl
+    (by_other (fill (row.AluByte op) digit b.best n) (fill (row.AluByte op) digit f n)
+    (ap (λ (x : Option OperandForm). with_form x (alu_imm op (sign_extended n))) b.chosen ∙ rw (e.0, e.1) refl)
+    (record { row = refl; modrm = (b.fits, number-reg (alu_number op) (alu_below op)); trailing = lt })
+    (ap (λ (x : Operand). inst.Alu op x (I (sign_extended n))) b.same)
+    (by_better (row.AluByte op) digit n 3 b.best f (λ y. simp length-append (omega arith)) b.better))
 
 -- `05` to `3D`
 pub alu_eax : (op : Alu) (n : ℕ) → n < 2 ^ 32 → IsFirst (without_modrm (row.AluEax op) n)
@@ -117,22 +100,8 @@ alu_eax op n lt =
     elim (cases_Bool (fits_byte n)) [
       | inl near ↦
           let k = imm_of op n (Direct Eax) tt lt in
-          record {
-            first = alu_imm op n (Direct Eax);
-            canonical = refl;
-            filled = k.fits;
-            same = k.same;
-            long = long_first (alu_imm op n (Direct Eax)) (without_modrm (row.AluEax op) n) refl k.same;
-            precedes = inr (rw near (inl (lit< tt)));
-          }
-      | inr far ↦ record {
-        first = without_modrm (row.AluEax op) n;
-        canonical = rw far refl;
-        filled = record { row = refl; modrm = (refl, refl); trailing = lt };
-        same = refl;
-        long = λ h. h;
-        precedes = inr (inr (refl, inr refl));
-      }
+          by_other (alu_imm op n (Direct Eax)) (without_modrm (row.AluEax op) n) refl k.fits k.same (rw near (inl (lit< tt)))
+      | inr far ↦ own (row.AluEax op) n (rw far refl) (record { row = refl; modrm = (refl, refl); trailing = lt })
     ]
 
 -- ---- an operation between a register and an operand
@@ -143,28 +112,14 @@ alu_store op r f h =
     by_form (row.AluStore op) r 0 2 (λ o. inst.Alu op o (R r)) f refl (λ y. refl) (λ y fits e. record { row = refl; modrm = fits; trailing = refl })
     (λ y. simp length-append (omega arith)) h
 
--- `03` to `3B` with an operand in memory
-alu_load_memory : (op : Alu) (r : Reg) (f : OperandForm)
-    → canonical_row (inst.Alu op (R r) (operand f)) ≡ with_form (shortest_form (operand f)) (λ y. fill (row.AluLoad op) r y 0) → FormFits f
-    → IsFirst (fill (row.AluLoad op) r f 0)
-alu_load_memory op r f canon h =
-    by_form (row.AluLoad op) r 0 2 (λ o. inst.Alu op (R r) o) f canon (λ y. refl) (λ y fits e. record { row = refl; modrm = fits; trailing = refl })
-    (λ y. simp length-append (omega arith)) h
-
 -- `03` to `3B`
 pub alu_load : (op : Alu) (r : Reg) (f : OperandForm) → FormFits f → IsFirst (fill (row.AluLoad op) r f 0)
-alu_load op r (Direct k) h = record {
-  first = fill (row.AluStore op) k (Direct r) 0;
-  canonical = refl;
-  filled = record { row = refl; modrm = tt; trailing = refl };
-  same = refl;
-  long = λ h. h;
-  precedes = inr (inr (refl, inl (lit< tt)));
-}
-alu_load op r (Based b d) h = alu_load_memory op r (Based b d) refl h
-alu_load op r (Absolute n) h = alu_load_memory op r (Absolute n) refl h
-alu_load op r (Indexed s i b d) h = alu_load_memory op r (Indexed s i b d) refl h
-alu_load op r (Unbased s i n) h = alu_load_memory op r (Unbased s i n) refl h
+alu_load op r (Direct k) h =
+    by_other (fill (row.AluStore op) k (Direct r) 0) (fill (row.AluLoad op) r (Direct k) 0) refl (record { row = refl; modrm = tt; trailing = refl }) refl
+    (inr (refl, inl (lit< tt)))
+alu_load op r f h =
+    by_form (row.AluLoad op) r 0 2 (λ o. inst.Alu op (R r) o) f refl (λ y. refl) (λ y fits e. record { row = refl; modrm = fits; trailing = refl })
+    (λ y. simp length-append (omega arith)) h
 
 -- ---- TEST
 
@@ -195,16 +150,9 @@ pub test_word : (r : Reg) (f : OperandForm) (n : ℕ) → FormFits f → number 
 test_word r f n h d lt =
     let b = best_form f h in
     let k = test_of_imm n b.best b.fits lt in
-    let canonical = ap (λ (x : Option OperandForm). with_form x (test_imm n)) b.chosen in
-    let same = k.same ∙ ap (λ (x : Operand). inst.Test x (I n)) b.same in
-    at_digit row.TestWord 0 r f n n d refl (record {
-      first = test_imm n b.best;
-      canonical = canonical;
-      filled = k.fits;
-      same = same;
-      long = long_first (test_imm n b.best) (fill row.TestWord (reg 0) f n) canonical same;
-      precedes = inr (k.first f b.better);
-    })
+    at_digit row.TestWord 0 r f n n d refl
+    (by_other (test_imm n b.best) (fill row.TestWord (reg 0) f n) (ap (λ (x : Option OperandForm). with_form x (test_imm n)) b.chosen)
+    k.fits (k.same ∙ ap (λ (x : Operand). inst.Test x (I n)) b.same) (k.first f b.better))
 
 -- `85`
 pub test_store : (r : Reg) (f : OperandForm) → FormFits f → IsFirst (fill row.TestStore r f 0)
@@ -247,30 +195,18 @@ pub imul_word : (d : Reg) (f : OperandForm) (n : ℕ) → FormFits f → n < 2 ^
 imul_word d f n h lt =
     let b = best_form f h in
     let k = imul_of_imm n d b.best b.fits lt in
-    let canonical = ap (λ (x : Option OperandForm). with_form x (imul_imm n d)) b.chosen in
-    let same = k.same ∙ ap (λ (x : Operand). inst.Imul3 (R d) x n) b.same in
-    record {
-      first = imul_imm n d b.best;
-      canonical = canonical;
-      filled = k.fits;
-      same = same;
-      long = long_first (imul_imm n d b.best) (fill row.Imul3Word d f n) canonical same;
-      precedes = inr (k.first f b.better);
-    }
+    by_other (imul_imm n d b.best) (fill row.Imul3Word d f n) (ap (λ (x : Option OperandForm). with_form x (imul_imm n d)) b.chosen)
+    k.fits (k.same ∙ ap (λ (x : Operand). inst.Imul3 (R d) x n) b.same) (k.first f b.better)
 
 -- `6B`
 pub imul_byte : (d : Reg) (f : OperandForm) (n : ℕ) → FormFits f → n < 256 → IsFirst (fill row.Imul3Byte d f n)
 imul_byte d f n h lt =
     let b = best_form f h in
     let e = extended_fits n lt in
-    record {
-      first = fill row.Imul3Byte d b.best n;
-      canonical = ap (λ (x : Option OperandForm). with_form x (imul_imm (sign_extended n) d)) b.chosen ∙ rw (e.0, e.1) refl;
-      filled = record { row = refl; modrm = b.fits; trailing = lt };
-      same = ap (λ (x : Operand). inst.Imul3 (R d) x (sign_extended n)) b.same;
-      long = λ h. h;
-      precedes = inr (by_better row.Imul3Byte d n 3 b.best f (λ y. simp length-append (omega arith)) b.better);
-    }
+    by_other (fill row.Imul3Byte d b.best n) (fill row.Imul3Byte d f n)
+    (ap (λ (x : Option OperandForm). with_form x (imul_imm (sign_extended n) d)) b.chosen ∙ rw (e.0, e.1) refl)
+    (record { row = refl; modrm = b.fits; trailing = lt }) (ap (λ (x : Operand). inst.Imul3 (R d) x (sign_extended n)) b.same)
+    (by_better row.Imul3Byte d n 3 b.best f (λ y. simp length-append (omega arith)) b.better)
 
 -- ---- shifts
 
@@ -290,21 +226,13 @@ shift_cl op f h =
 pub shift_by : (op : Shift) (f : OperandForm) (n : ℕ) → FormFits f → n < 256 → IsFirst (fill (row.ShiftBy op) (reg (shift_number op)) f n)
 shift_by op f n h lt =
     let b = best_form f h in
+    let digit = reg (shift_number op) in
     elim (cases_Bool (eqb n 1)) [
-      | inl one ↦ record {
-        first = fill (row.ShiftOne op) (reg (shift_number op)) b.best 0;
-        canonical = rw (one, b.chosen) refl;
-        filled = record { row = refl; modrm = (b.fits, shift_back op); trailing = refl };
-        same = ap (λ (x : Operand). inst.Shift op x (By 1)) b.same ∙ ap (λ (x : ℕ). inst.Shift op (operand f) (By x)) (sym (eqb-true n 1 one));
-        long = λ h. h;
-        precedes = inr (inl (let l = no_longer b.best f b.better in simp length-append (omega arith)));
-      }
-      | inr other ↦ record {
-        first = fill (row.ShiftBy op) (reg (shift_number op)) b.best n;
-        canonical = rw (other, b.chosen) refl;
-        filled = record { row = refl; modrm = (b.fits, shift_back op); trailing = lt };
-        same = ap (λ (x : Operand). inst.Shift op x (By n)) b.same;
-        long = λ h. h;
-        precedes = inr (by_better (row.ShiftBy op) (reg (shift_number op)) n 3 b.best f (λ y. simp length-append (omega arith)) b.better);
-      }
+      | inl one ↦ by_other (fill (row.ShiftOne op) digit b.best 0) (fill (row.ShiftBy op) digit f n) (rw (one, b.chosen) refl)
+          (record { row = refl; modrm = (b.fits, shift_back op); trailing = refl })
+          (ap (λ (x : Operand). inst.Shift op x (By 1)) b.same ∙ ap (λ (x : ℕ). inst.Shift op (operand f) (By x)) (sym (eqb-true n 1 one)))
+          (inl (let l = no_longer b.best f b.better in simp length-append (omega arith)))
+      | inr other ↦ by_other (fill (row.ShiftBy op) digit b.best n) (fill (row.ShiftBy op) digit f n) (rw (other, b.chosen) refl)
+          (record { row = refl; modrm = (b.fits, shift_back op); trailing = lt }) (ap (λ (x : Operand). inst.Shift op x (By n)) b.same)
+          (by_better (row.ShiftBy op) digit n 3 b.best f (λ y. simp length-append (omega arith)) b.better)
     ]

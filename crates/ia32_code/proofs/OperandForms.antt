@@ -4,7 +4,7 @@ use Rattle.std.specs.Int.{w32, to_le_bytes}
 use Rattle.std.proofs.lemmas.Nat.{le_bytes_4, from_le_bytes-to_le_bytes_4}
 use Rattle.std.proofs.lemmas.Bool.{eqb-true, eqb-false, eq-eqb, ne_eqb}
 use Rattle.ia32_code.specs.declared.instruction.Reg.{Reg}
-use Rattle.ia32_code.specs.declared.instruction.Reg.TheVariants.{Eax, Ecx, Edx, Ebx, Esp, Ebp, Esi, Edi}
+use Rattle.ia32_code.specs.declared.instruction.Reg.TheVariants.{Eax}
 use Rattle.ia32_code.specs.declared.reading.Stop.{Stop}
 use Rattle.ia32_code.specs.OperandForms.{reg, number, mode, disp_bytes, DispFits, modrm_byte, after_modrm, FormFits, IsMemory}
 use Rattle.ia32_code.specs.declared.operand_form.Displacement.{Displacement}
@@ -19,24 +19,12 @@ use Rattle.ia32_code.proofs.TakesFront.{IsBytes, ok_is}
 -- a register has its number
 pub reg-number : (r : Reg) → reg (number r) ≡ r
 reg-number Eax = refl
-reg-number Ecx = refl
-reg-number Edx = refl
-reg-number Ebx = refl
-reg-number Esp = refl
-reg-number Ebp = refl
-reg-number Esi = refl
-reg-number Edi = refl
+reg-number _ = refl
 
 -- a register has a number below 8
 pub number_below : (r : Reg) → number r < 8
 number_below Eax = lit< tt
-number_below Ecx = lit< tt
-number_below Edx = lit< tt
-number_below Ebx = lit< tt
-number_below Esp = lit< tt
-number_below Ebp = lit< tt
-number_below Esi = lit< tt
-number_below Edi = lit< tt
+number_below _ = lit< tt
 
 -- and each such number a register
 pub number-reg : (n : ℕ) → n < 8 → number (reg n) ≡ n
@@ -160,8 +148,7 @@ disp_takes (suc (suc (suc m))) t d lt fits e = absurd (omega arith)
 -- a displacement has a mode below 3
 pub mode_below : (d : Displacement) → mode d < 3
 mode_below NoDisp = lit< tt
-mode_below (Disp8 d) = lit< tt
-mode_below (Disp32 d) = lit< tt
+mode_below _ = lit< tt
 
 -- ---- forms are read
 

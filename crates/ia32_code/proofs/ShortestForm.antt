@@ -2,7 +2,7 @@
 use Rattle.std.proofs.Common.{◌≡◌, ◌≢◌, ℕ, ◌+◌, ◌%◌, ◌^◌, ◌<◌, true, false, not, eqb, ltb, ◌&&◌, length, Some, refl, sym, ap, ◌∙◌, arith, lit<, ◌⊎◌, inl, inr}
 use Rattle.std.proofs.lemmas.Bool.{eqb-true, eqb-false, eq-eqb, ne_eqb, cases_Bool, cases_lt, lt-ltb, le-ltb}
 use Rattle.ia32_code.specs.declared.instruction.Reg.{Reg}
-use Rattle.ia32_code.specs.declared.instruction.Reg.TheVariants.{Eax, Ecx, Edx, Ebx, Esp, Ebp, Esi, Edi}
+use Rattle.ia32_code.specs.declared.instruction.Reg.TheVariants.{Esp}
 use Rattle.ia32_code.specs.OperandForms.{number, sign_extended, mode, amount, DispFits, disp_bytes, after_modrm, operand, FormFits, index_register}
 use Rattle.ia32_code.specs.declared.operand_form.Displacement.{Displacement}
 use Rattle.ia32_code.specs.declared.operand_form.OperandForm.{OperandForm}
@@ -108,14 +108,8 @@ pub record Best (f : OperandForm) : Type 0 where
 
 -- an index is ESP and none, or itself
 pub index_cases : (i : Reg) → ((number i ≡ 4) × (i ≡ Esp)) ⊎ ((number i ≢ 4) × (index_register i ≡ Some i))
-index_cases Eax = inr (λ e. omega arith, refl)
-index_cases Ecx = inr (λ e. omega arith, refl)
-index_cases Edx = inr (λ e. omega arith, refl)
-index_cases Ebx = inr (λ e. omega arith, refl)
 index_cases Esp = inl (refl, refl)
-index_cases Ebp = inr (λ e. omega arith, refl)
-index_cases Esi = inr (λ e. omega arith, refl)
-index_cases Edi = inr (λ e. omega arith, refl)
+index_cases _ = inr (λ e. omega arith, refl)
 
 -- a base without an index, spelled with an index byte or not
 with_base : (b : Reg) (d : Displacement) (f : OperandForm) → operand f ≡ operand (Based b d) → DispFits d → (number b ≡ 5 → mode d ≢ 0)

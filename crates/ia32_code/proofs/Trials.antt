@@ -13,7 +13,7 @@ use Rattle.ia32_code.specs.OperandForms.{reg}
 use Rattle.ia32_code.specs.Table.{line, opcode_bytes, among}
 use Rattle.ia32_code.specs.Opcodes.{rows, row_with, has_digit, row_with_digit, operation_of, shift_of_number, condition_of}
 use Rattle.ia32_code.proofs.OperandForms.{both_true}
-use Rattle.ia32_code.proofs.OpcodeRows.{either, Each, at_one, found_as_all, row_of_digit}
+use Rattle.ia32_code.proofs.OpcodeRows.{either, Each, at_one, found_as_all, row_of_code, row_of_digit}
 
 -- ---- trying each number below a limit
 
@@ -120,26 +120,26 @@ opcodes =
     ∷ (0xA1, 0xA1) ∷ (0xA3, 0xA3) ∷ (0xA9, 0xA9) ∷ (0xB8, 0xBF) ∷ (0xC1, 0xC1) ∷ (0xC3, 0xC3) ∷ (0xC7, 0xC7) ∷ (0xCC, 0xCD) ∷ (0xCF, 0xCF) ∷ (0xD1, 0xD1) ∷ (0xD3, 0xD3)
     ∷ (0xE4, 0xE9) ∷ (0xEB, 0xEF) ∷ (0xF4, 0xF4) ∷ (0xF7, 0xF7) ∷ (0xFA, 0xFB) ∷ (0xFF, 0xFF) ∷ []
 
--- no row was found
-abbrev is_none : Option Row → Bool
-is_none None = true
-is_none (Some row) = false
+-- a code of one byte is one of them
+abbrev one_within : List ℕ → Bool
+one_within (b ∷ []) = within opcodes b
+one_within _ = true
 
--- each byte has no row or is one of them
-all_opcodes : tried (λ b. is_none (row_with (b ∷ [])) || within opcodes b) 256 ≡ tried (λ b. true) 256
-unfolding row_with
-all_opcodes = refl
+-- each row's is
+all_within : list_all (λ w. one_within (line w).code) rows ≡ true
+all_within = refl
 
--- one of the two, and not the second
-first_of_two : (o : Option Row) (b : Bool) → (is_none o || b) ≡ true → (b ≡ true → ⊥) → None ≡ o
-first_of_two None b e h = refl
-first_of_two (Some row) b e h = absurd (h e)
+-- nothing was found where nothing can be
+none_found : {A : Type 0} (o : Option A) → ((x : A) → o ≡ Some x → ⊥) → None ≡ o
+none_found None h = refl
+none_found (Some x) h = absurd (h x refl)
 
 -- another byte has no row
-pub no_row : (b : ℕ) → b < 256 → Outside opcodes b → None ≡ row_with (b ∷ [])
-no_row b lt h =
-    first_of_two (row_with (b ∷ [])) (within opcodes b) (by_trial (λ b. is_none (row_with (b ∷ [])) || within opcodes b) (λ b. true) 256 b all_opcodes lt)
-    (not_within opcodes b h)
+pub no_row : (b : ℕ) → Outside opcodes b → None ≡ row_with (b ∷ [])
+unfolding row_with
+no_row b out = none_found (row_with (b ∷ [])) (λ row e.
+    let fits = found_as_all (λ w. bytes_eq (line w).code (b ∷ [])) (λ w. one_within (line w).code) rows row e all_within in
+    not_within opcodes b out (rw (row_of_code (b ∷ []) row e).code_is at fits))
 
 -- ---- digits
 
@@ -199,15 +199,10 @@ found_by_digit code d row e =
     let fits = found_as_all test (λ w. digit_fits (line w).modrm (line w).code) rows row e all_digits in
     rw (l.modrm_is, l.code_is) at fits
 
--- nothing was found where nothing can be
-none_found : (code : List ℕ) (d : ℕ) (o : Option Row) → row_with_digit code d ≡ o → is_digit_code code ≢ true → None ≡ o
-none_found code d None e h = refl
-none_found code d (Some row) e h = absurd (h (found_by_digit code d row e))
-
 -- another opcode has no row with a digit
 pub no_digit_row : (b d : ℕ) → Each (λ n. b ≢ n) digit_opcodes → None ≡ row_with_digit (b ∷ []) d
-no_digit_row b d each = none_found (b ∷ []) d (row_with_digit (b ∷ []) d) refl (λ e. at_one (λ n. b ≢ n) digit_opcodes b each e refl)
+no_digit_row b d each = none_found (row_with_digit (b ∷ []) d) (λ row e. at_one (λ n. b ≢ n) digit_opcodes b each (found_by_digit (b ∷ []) d row e) refl)
 
 -- nor has one after 0F
 pub no_escaped_digit : (escaped : Bool) (opcode d : ℕ) → escaped ≡ true → None ≡ row_with_digit (opcode_bytes escaped opcode) d
-no_escaped_digit escaped opcode d e = rw e (none_found (0x0F ∷ opcode ∷ []) d (row_with_digit (0x0F ∷ opcode ∷ []) d) refl (λ e. absurd cc))
+no_escaped_digit escaped opcode d e = rw e (none_found (row_with_digit (0x0F ∷ opcode ∷ []) d) (λ row k. let code = found_by_digit (0x0F ∷ opcode ∷ []) d row k in absurd cc))

@@ -1,7 +1,7 @@
 -- The canonical spelling of an instruction, which is this project's choice: a branch has its 32-bit form, everything else its
 -- shortest spelling, among equals the first in the table, with scale bits 0 where there is no index. The laws show that this is
 -- what is chosen here.
-use Rattle.std.specs.Prelude.{ℕ, ◌%◌, List, Option, Some, None, Bool, false, not, ◌&&◌, nat_lt, ◌==◌, if◌then◌else◌, length, option_map}
+use Rattle.std.specs.Prelude.{◌≡◌, ℕ, ◌%◌, List, ◌++◌, Option, Some, None, Bool, false, not, ◌&&◌, nat_lt, ◌==◌, if◌then◌else◌, length, option_map}
 use Rattle.std.specs.Int.{w32, cast_unsigned}
 use Rattle.ia32_code.specs.declared.instruction.Reg.{Reg}
 use Rattle.ia32_code.specs.declared.instruction.Reg.TheVariants.{Eax, Esp}
@@ -23,7 +23,7 @@ use Rattle.ia32_code.specs.declared.operand_form.OperandForm.TheVariants.{Direct
 use Rattle.ia32_code.specs.declared.spelling.Spelling.{Spelling}
 use Rattle.ia32_code.specs.OperandForms.{number, reg, sign_extended}
 use Rattle.ia32_code.specs.Table.{alu_number, shift_number, among, priv_bare, priv_with_byte}
-use Rattle.ia32_code.specs.Spells.{text}
+use Rattle.ia32_code.specs.Spells.{text, Spells}
 
 -- ---- the shortest form of an operand
 
@@ -74,10 +74,7 @@ with_digit row g o = with_form (shortest_form o) (λ f. fill row (reg g) f 0)
 -- the operand is the register EAX
 abbrev pub is_eax : OperandForm → Bool
 is_eax (Direct r) = number r == 0
-is_eax (Based b d) = false
-is_eax (Absolute n) = false
-is_eax (Indexed s i b d) = false
-is_eax (Unbased s i n) = false
+is_eax _ = false
 
 -- the operand is the word at an address, without base and index
 abbrev pub is_absolute : Mem → Bool
@@ -95,8 +92,7 @@ abbrev pub alu_of : Alu → Operand → Operand → Option Spelling
 alu_of op dst (R r) = with_form (shortest_form dst) (λ f. fill (AluStore op) r f 0)
 alu_of op dst (I n) = with_form (shortest_form dst) (alu_imm op n)
 alu_of op (R r) (M m) = with_form (shortest_form (M m)) (λ f. fill (AluLoad op) r f 0)
-alu_of op (M k) (M m) = None
-alu_of op (I k) (M m) = None
+alu_of op _ (M m) = None
 
 -- the rows of EAX and an address serve where there is neither base nor index
 abbrev pub mov_of : Operand → Operand → Option Spelling
@@ -105,16 +101,12 @@ mov_of (R d) (I n) = Some (without_modrm (MovReg d) n)
 mov_of (R d) (M m) = if number d == 0 && is_absolute m then Some (without_modrm MovLoadEax m.disp) else with_form (shortest_form (M m)) (λ f. fill MovLoad d f 0)
 mov_of (M m) (R r) = if number r == 0 && is_absolute m then Some (without_modrm MovStoreEax m.disp) else with_form (shortest_form (M m)) (λ f. fill MovStore r f 0)
 mov_of (M m) (I n) = with_form (shortest_form (M m)) (λ f. fill MovWord Eax f n)
-mov_of (M m) (M k) = None
-mov_of (I n) src = None
+mov_of _ _ = None
 
 -- an operand in memory alone
 abbrev pub lea_of : Operand → Operand → Option Spelling
 lea_of (R d) (M m) = with_form (shortest_form (M m)) (λ f. fill Lea d f 0)
-lea_of (R d) (R r) = None
-lea_of (R d) (I n) = None
-lea_of (M m) src = None
-lea_of (I n) src = None
+lea_of _ _ = None
 
 -- the row of EAX where it serves
 abbrev pub test_imm : ℕ → OperandForm → Spelling
@@ -135,8 +127,7 @@ step_of short row g (I n) = None
 -- the destination is a register
 abbrev pub imul2_of : Operand → Operand → Option Spelling
 imul2_of (R d) src = with_form (shortest_form src) (λ f. fill Imul2 d f 0)
-imul2_of (M m) src = None
-imul2_of (I n) src = None
+imul2_of _ src = None
 
 -- a byte where it serves
 abbrev pub imul_imm : ℕ → Reg → OperandForm → Spelling
@@ -145,8 +136,7 @@ imul_imm n r f = if fits_byte n then fill Imul3Byte r f (n % 256) else fill Imul
 -- the destination is a register
 abbrev pub imul3_of : Operand → Operand → ℕ → Option Spelling
 imul3_of (R d) src n = with_form (shortest_form src) (imul_imm n d)
-imul3_of (M m) src n = None
-imul3_of (I k) src n = None
+imul3_of _ src n = None
 
 -- a shift by 1 needs no count
 abbrev pub shift_of : Shift → Operand → Count → Option Spelling
@@ -206,3 +196,11 @@ text_length (Some t) = length t
 -- its length, 0 where there is none
 abbrev pub canonical_length : Inst → ℕ
 canonical_length i = text_length (Canonical i)
+
+-- the canonical spelling is put at the end
+abbrev pub Appends : Inst → List ℕ → List ℕ → Type 0
+Appends i old new = (t : List ℕ) × (Canonical i ≡ Some t) × (new ≡ old ++ t)
+
+-- no bytes spell the instruction
+abbrev pub HasNone : Inst → Type 0
+HasNone i = (t : List ℕ) → Spells t i → ⊥

@@ -5,7 +5,6 @@ pub mod Canonical
 pub mod Order
 pub mod Ranges
 pub mod Decoding
-pub mod Encoding
 pub mod Opcodes
 pub mod Reading
 pub mod WholeWords

@@ -1,6 +1,6 @@
 -- The row of an opcode, looked up in the table of spellings.
-use Rattle.std.specs.Prelude.{ℕ, List, [], ◌∷◌, ◌++◌, map, Option, Bool, false, ◌==◌, ◌&&◌}
-use Rattle.std.specs.List.{find}
+use Rattle.std.specs.Prelude.{ℕ, List, [], ◌∷◌, map, Option, Bool, false, ◌==◌, ◌&&◌}
+use Rattle.std.specs.List.{find, flat_map}
 use Rattle.std.specs.Str.{bytes_eq}
 use Rattle.ia32_code.specs.declared.instruction.Reg.{Reg}
 use Rattle.ia32_code.specs.declared.instruction.Reg.TheVariants.{Eax, Ecx, Edx, Ebx, Esp, Ebp, Esi, Edi}
@@ -13,7 +13,7 @@ use Rattle.ia32_code.specs.declared.instruction.Cond.TheVariants as cond
 use Rattle.ia32_code.specs.declared.row.Row.{Row}
 use Rattle.ia32_code.specs.declared.row.Row.TheVariants.{AluStore, AluLoad, AluEax, AluWord, AluByte, MovStore, MovLoad, MovLoadEax, MovStoreEax, MovReg, MovWord, Lea, TestStore, TestEax, TestWord, IncReg, Inc, DecReg, Dec, Not, Neg, Mul, Imul1, Div, Idiv, Imul2, Imul3Byte, Imul3Word, ShiftOne, ShiftBy, ShiftCl, Cdq, Nop, PushReg, PushByte, PushWord, Push, PopReg, CallRel, CallAt, Ret, JmpWord, JmpByte, JccWord, JccByte, PrivBare, PrivByte}
 use Rattle.ia32_code.specs.declared.row.ModRm.{ModRm}
-use Rattle.ia32_code.specs.declared.row.ModRm.TheVariants.{Absent, Register, Memory, Digit}
+use Rattle.ia32_code.specs.declared.row.ModRm.TheVariants.{Digit}
 use Rattle.ia32_code.specs.Table.{line, alu_number, shift_number, cond_number, priv_bare, priv_with_byte}
 
 -- the registers
@@ -32,14 +32,9 @@ shifts = Shl ∷ Shr ∷ Sar ∷ []
 abbrev pub conditions : List Cond
 conditions = cond.O ∷ cond.No ∷ cond.B ∷ cond.Ae ∷ cond.E ∷ cond.Ne ∷ cond.Be ∷ cond.A ∷ cond.S ∷ cond.Ns ∷ cond.L ∷ cond.Ge ∷ cond.Le ∷ cond.G ∷ []
 
--- the lists one after the other
-abbrev pub joined : List (List Row) → List Row
-joined [] = []
-joined (some ∷ more) = some ++ joined more
-
 -- the rows in the order of the table, each with all that its opcode may hold
 abbrev pub rows : List Row
-rows = joined (
+rows = flat_map (λ some. some) (
     map (λ op. AluStore op) operations
     ∷ map (λ op. AluLoad op) operations
     ∷ map (λ op. AluEax op) operations
@@ -72,10 +67,8 @@ row_with code = find (λ row. bytes_eq (line row).code code) rows
 
 -- the ModRM byte has the digit d
 abbrev pub has_digit : ℕ → ModRm → Bool
-has_digit d Absent = false
-has_digit d Register = false
-has_digit d Memory = false
 has_digit d (Digit g) = g == d
+has_digit d _ = false
 
 -- the row with an opcode and a digit
 unfoldable pub row_with_digit : List ℕ → ℕ → Option Row

@@ -114,7 +114,4 @@ FormFits (Unbased s i n) = (s < 4) × (n < 2 ^ 32)
 -- every form but that of a register
 abbrev pub IsMemory : OperandForm → Type 0
 IsMemory (Direct r) = ⊥
-IsMemory (Based b d) = Unit {0}
-IsMemory (Absolute n) = Unit {0}
-IsMemory (Indexed s i b d) = Unit {0}
-IsMemory (Unbased s i n) = Unit {0}
+IsMemory _ = Unit {0}

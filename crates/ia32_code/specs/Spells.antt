@@ -17,9 +17,7 @@ use Rattle.ia32_code.specs.Table.{line, is_row}
 -- the ModRM byte with what belongs to it
 abbrev pub modrm_bytes : ModRm → Reg → OperandForm → List ℕ
 modrm_bytes Absent r f = []
-modrm_bytes Register r f = modrm_byte (number r) f ∷ after_modrm f
-modrm_bytes Memory r f = modrm_byte (number r) f ∷ after_modrm f
-modrm_bytes (Digit g) r f = modrm_byte (number r) f ∷ after_modrm f
+modrm_bytes _ r f = modrm_byte (number r) f ∷ after_modrm f
 
 -- the number at the end
 abbrev pub trailing_bytes : Trailing → ℕ → List ℕ

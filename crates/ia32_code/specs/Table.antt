@@ -55,16 +55,18 @@ cond_number cond.Ge = 13
 cond_number cond.Le = 14
 cond_number cond.G = 15
 
--- the opcode, the ModRM byte, the number at the end, and the instruction by the register, the operand and that number
+-- the place in the table, the opcode, the ModRM byte, the number at the end, and the instruction by the register, the operand
+-- and that number
 pub record Line : Type 0 where
+  pub place : ℕ
   pub code : List ℕ
   pub modrm : ModRm
   pub trailing : Trailing
   pub gives : Reg → Operand → ℕ → Inst
 
 -- a line by its parts
-abbrev pub at : List ℕ → ModRm → Trailing → (Reg → Operand → ℕ → Inst) → Line
-at code modrm trailing gives = record { code = code; modrm = modrm; trailing = trailing; gives = gives }
+abbrev pub at : ℕ → List ℕ → ModRm → Trailing → (Reg → Operand → ℕ → Inst) → Line
+at place code modrm trailing gives = record { place = place; code = code; modrm = modrm; trailing = trailing; gives = gives }
 
 -- an opcode, with the byte 0F before it or not
 abbrev pub opcode_bytes : Bool → ℕ → List ℕ
@@ -83,53 +85,53 @@ memory n = M (record { base = None; index = None; scale = 0; disp = n })
 
 -- the rows; r is the register, m the operand and n the number
 abbrev pub line : Row → Line
-line (AluStore op) = at ((8 * alu_number op + 1) ∷ []) Register Nothing (λ r m n. inst.Alu op m (R r))
-line (AluLoad op) = at ((8 * alu_number op + 3) ∷ []) Register Nothing (λ r m n. inst.Alu op (R r) m)
-line (AluEax op) = at ((8 * alu_number op + 5) ∷ []) Absent Word (λ r m n. inst.Alu op (R Eax) (I n))
-line (AluWord op) = at (0x81 ∷ []) (Digit (alu_number op)) Word (λ r m n. inst.Alu op m (I n))
-line (AluByte op) = at (0x83 ∷ []) (Digit (alu_number op)) Byte (λ r m n. inst.Alu op m (I (sign_extended n)))
-line MovStore = at (0x89 ∷ []) Register Nothing (λ r m n. inst.Mov m (R r))
-line MovLoad = at (0x8B ∷ []) Register Nothing (λ r m n. inst.Mov (R r) m)
-line MovLoadEax = at (0xA1 ∷ []) Absent Word (λ r m n. inst.Mov (R Eax) (memory n))
-line MovStoreEax = at (0xA3 ∷ []) Absent Word (λ r m n. inst.Mov (memory n) (R Eax))
-line (MovReg d) = at ((0xB8 + number d) ∷ []) Absent Word (λ r m n. inst.Mov (R d) (I n))
-line MovWord = at (0xC7 ∷ []) (Digit 0) Word (λ r m n. inst.Mov m (I n))
-line Lea = at (0x8D ∷ []) Memory Nothing (λ r m n. inst.Lea (R r) m)
-line TestStore = at (0x85 ∷ []) Register Nothing (λ r m n. inst.Test m (R r))
-line TestEax = at (0xA9 ∷ []) Absent Word (λ r m n. inst.Test (R Eax) (I n))
-line TestWord = at (0xF7 ∷ []) (Digit 0) Word (λ r m n. inst.Test m (I n))
-line (IncReg d) = at ((0x40 + number d) ∷ []) Absent Nothing (λ r m n. inst.Inc (R d))
-line Inc = at (0xFF ∷ []) (Digit 0) Nothing (λ r m n. inst.Inc m)
-line (DecReg d) = at ((0x48 + number d) ∷ []) Absent Nothing (λ r m n. inst.Dec (R d))
-line Dec = at (0xFF ∷ []) (Digit 1) Nothing (λ r m n. inst.Dec m)
-line Not = at (0xF7 ∷ []) (Digit 2) Nothing (λ r m n. inst.Not m)
-line Neg = at (0xF7 ∷ []) (Digit 3) Nothing (λ r m n. inst.Neg m)
-line Mul = at (0xF7 ∷ []) (Digit 4) Nothing (λ r m n. inst.Mul m)
-line Imul1 = at (0xF7 ∷ []) (Digit 5) Nothing (λ r m n. inst.Imul1 m)
-line Div = at (0xF7 ∷ []) (Digit 6) Nothing (λ r m n. inst.Div m)
-line Idiv = at (0xF7 ∷ []) (Digit 7) Nothing (λ r m n. inst.Idiv m)
-line Imul2 = at (0x0F ∷ 0xAF ∷ []) Register Nothing (λ r m n. inst.Imul2 (R r) m)
-line Imul3Byte = at (0x6B ∷ []) Register Byte (λ r m n. inst.Imul3 (R r) m (sign_extended n))
-line Imul3Word = at (0x69 ∷ []) Register Word (λ r m n. inst.Imul3 (R r) m n)
-line (ShiftOne op) = at (0xD1 ∷ []) (Digit (shift_number op)) Nothing (λ r m n. inst.Shift op m (By 1))
-line (ShiftBy op) = at (0xC1 ∷ []) (Digit (shift_number op)) Byte (λ r m n. inst.Shift op m (By n))
-line (ShiftCl op) = at (0xD3 ∷ []) (Digit (shift_number op)) Nothing (λ r m n. inst.Shift op m Cl)
-line Cdq = at (0x99 ∷ []) Absent Nothing (λ r m n. inst.Cdq)
-line Nop = at (0x90 ∷ []) Absent Nothing (λ r m n. inst.Nop)
-line (PushReg d) = at ((0x50 + number d) ∷ []) Absent Nothing (λ r m n. inst.Push (R d))
-line PushByte = at (0x6A ∷ []) Absent Byte (λ r m n. inst.Push (I (sign_extended n)))
-line PushWord = at (0x68 ∷ []) Absent Word (λ r m n. inst.Push (I n))
-line Push = at (0xFF ∷ []) (Digit 6) Nothing (λ r m n. inst.Push m)
-line (PopReg d) = at ((0x58 + number d) ∷ []) Absent Nothing (λ r m n. inst.Pop d)
-line CallRel = at (0xE8 ∷ []) Absent Word (λ r m n. inst.CallRel (cast_signed w32 n))
-line CallAt = at (0xFF ∷ []) (Digit 2) Nothing (λ r m n. inst.CallAt m)
-line Ret = at (0xC3 ∷ []) Absent Nothing (λ r m n. inst.Ret)
-line JmpWord = at (0xE9 ∷ []) Absent Word (λ r m n. inst.Jmp (cast_signed w32 n))
-line JmpByte = at (0xEB ∷ []) Absent Byte (λ r m n. inst.Jmp (cast_signed w8 n))
-line (JccWord cc) = at (0x0F ∷ (0x80 + cond_number cc) ∷ []) Absent Word (λ r m n. inst.Jcc cc (cast_signed w32 n))
-line (JccByte cc) = at ((0x70 + cond_number cc) ∷ []) Absent Byte (λ r m n. inst.Jcc cc (cast_signed w8 n))
-line (PrivBare op) = at (op ∷ []) Absent Nothing (λ r m n. inst.Priv op 0)
-line (PrivByte op) = at (op ∷ []) Absent Byte (λ r m n. inst.Priv op n)
+line (AluStore op) = at 0 ((8 * alu_number op + 1) ∷ []) Register Nothing (λ r m n. inst.Alu op m (R r))
+line (AluLoad op) = at 1 ((8 * alu_number op + 3) ∷ []) Register Nothing (λ r m n. inst.Alu op (R r) m)
+line (AluEax op) = at 2 ((8 * alu_number op + 5) ∷ []) Absent Word (λ r m n. inst.Alu op (R Eax) (I n))
+line (AluWord op) = at 3 (0x81 ∷ []) (Digit (alu_number op)) Word (λ r m n. inst.Alu op m (I n))
+line (AluByte op) = at 4 (0x83 ∷ []) (Digit (alu_number op)) Byte (λ r m n. inst.Alu op m (I (sign_extended n)))
+line MovStore = at 5 (0x89 ∷ []) Register Nothing (λ r m n. inst.Mov m (R r))
+line MovLoad = at 6 (0x8B ∷ []) Register Nothing (λ r m n. inst.Mov (R r) m)
+line MovLoadEax = at 7 (0xA1 ∷ []) Absent Word (λ r m n. inst.Mov (R Eax) (memory n))
+line MovStoreEax = at 8 (0xA3 ∷ []) Absent Word (λ r m n. inst.Mov (memory n) (R Eax))
+line (MovReg d) = at 9 ((0xB8 + number d) ∷ []) Absent Word (λ r m n. inst.Mov (R d) (I n))
+line MovWord = at 10 (0xC7 ∷ []) (Digit 0) Word (λ r m n. inst.Mov m (I n))
+line Lea = at 11 (0x8D ∷ []) Memory Nothing (λ r m n. inst.Lea (R r) m)
+line TestStore = at 12 (0x85 ∷ []) Register Nothing (λ r m n. inst.Test m (R r))
+line TestEax = at 13 (0xA9 ∷ []) Absent Word (λ r m n. inst.Test (R Eax) (I n))
+line TestWord = at 14 (0xF7 ∷ []) (Digit 0) Word (λ r m n. inst.Test m (I n))
+line (IncReg d) = at 15 ((0x40 + number d) ∷ []) Absent Nothing (λ r m n. inst.Inc (R d))
+line Inc = at 16 (0xFF ∷ []) (Digit 0) Nothing (λ r m n. inst.Inc m)
+line (DecReg d) = at 17 ((0x48 + number d) ∷ []) Absent Nothing (λ r m n. inst.Dec (R d))
+line Dec = at 18 (0xFF ∷ []) (Digit 1) Nothing (λ r m n. inst.Dec m)
+line Not = at 19 (0xF7 ∷ []) (Digit 2) Nothing (λ r m n. inst.Not m)
+line Neg = at 20 (0xF7 ∷ []) (Digit 3) Nothing (λ r m n. inst.Neg m)
+line Mul = at 21 (0xF7 ∷ []) (Digit 4) Nothing (λ r m n. inst.Mul m)
+line Imul1 = at 22 (0xF7 ∷ []) (Digit 5) Nothing (λ r m n. inst.Imul1 m)
+line Div = at 23 (0xF7 ∷ []) (Digit 6) Nothing (λ r m n. inst.Div m)
+line Idiv = at 24 (0xF7 ∷ []) (Digit 7) Nothing (λ r m n. inst.Idiv m)
+line Imul2 = at 25 (0x0F ∷ 0xAF ∷ []) Register Nothing (λ r m n. inst.Imul2 (R r) m)
+line Imul3Byte = at 26 (0x6B ∷ []) Register Byte (λ r m n. inst.Imul3 (R r) m (sign_extended n))
+line Imul3Word = at 27 (0x69 ∷ []) Register Word (λ r m n. inst.Imul3 (R r) m n)
+line (ShiftOne op) = at 28 (0xD1 ∷ []) (Digit (shift_number op)) Nothing (λ r m n. inst.Shift op m (By 1))
+line (ShiftBy op) = at 29 (0xC1 ∷ []) (Digit (shift_number op)) Byte (λ r m n. inst.Shift op m (By n))
+line (ShiftCl op) = at 30 (0xD3 ∷ []) (Digit (shift_number op)) Nothing (λ r m n. inst.Shift op m Cl)
+line Cdq = at 31 (0x99 ∷ []) Absent Nothing (λ r m n. inst.Cdq)
+line Nop = at 32 (0x90 ∷ []) Absent Nothing (λ r m n. inst.Nop)
+line (PushReg d) = at 33 ((0x50 + number d) ∷ []) Absent Nothing (λ r m n. inst.Push (R d))
+line PushByte = at 34 (0x6A ∷ []) Absent Byte (λ r m n. inst.Push (I (sign_extended n)))
+line PushWord = at 35 (0x68 ∷ []) Absent Word (λ r m n. inst.Push (I n))
+line Push = at 36 (0xFF ∷ []) (Digit 6) Nothing (λ r m n. inst.Push m)
+line (PopReg d) = at 37 ((0x58 + number d) ∷ []) Absent Nothing (λ r m n. inst.Pop d)
+line CallRel = at 38 (0xE8 ∷ []) Absent Word (λ r m n. inst.CallRel (cast_signed w32 n))
+line CallAt = at 39 (0xFF ∷ []) (Digit 2) Nothing (λ r m n. inst.CallAt m)
+line Ret = at 40 (0xC3 ∷ []) Absent Nothing (λ r m n. inst.Ret)
+line JmpWord = at 41 (0xE9 ∷ []) Absent Word (λ r m n. inst.Jmp (cast_signed w32 n))
+line JmpByte = at 42 (0xEB ∷ []) Absent Byte (λ r m n. inst.Jmp (cast_signed w8 n))
+line (JccWord cc) = at 43 (0x0F ∷ (0x80 + cond_number cc) ∷ []) Absent Word (λ r m n. inst.Jcc cc (cast_signed w32 n))
+line (JccByte cc) = at 44 ((0x70 + cond_number cc) ∷ []) Absent Byte (λ r m n. inst.Jcc cc (cast_signed w8 n))
+line (PrivBare op) = at 45 (op ∷ []) Absent Nothing (λ r m n. inst.Priv op 0)
+line (PrivByte op) = at 46 (op ∷ []) Absent Byte (λ r m n. inst.Priv op n)
 
 -- one of these numbers
 abbrev pub among : List ℕ → ℕ → Bool

@@ -1,8 +1,7 @@
 ghost use Rattle.std.specs.Prelude.{◌≡◌, ◌+◌, ◌<◌, ◌↔◌, None, length, IfSome, OnOk, OnErr, IsErrOf};
 ghost use Rattle.ia32_code.specs.declared.encoding.CodeFault.{CodeFault};
 ghost use Rattle.ia32_code.specs.Spells.{Spells};
-ghost use Rattle.ia32_code.specs.Canonical.{Canonical, canonical_length};
-ghost use Rattle.ia32_code.specs.Encoding.{Appends};
+ghost use Rattle.ia32_code.specs.Canonical.{Canonical, canonical_length, Appends};
 
 use crate::canonical::canonical_row;
 use crate::code_buf::CodeBuf;

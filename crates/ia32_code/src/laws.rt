@@ -4,10 +4,9 @@ ghost use Rattle.ia32_code.specs.declared.instruction.Inst.{Inst};
 ghost use Rattle.ia32_code.specs.declared.spelling.Spelling.{Spelling};
 ghost use Rattle.ia32_code.specs.Spells.{Spells, Filled};
 ghost use Rattle.ia32_code.specs.Decoding.{PrefixLaw, DecodedLaw, FrontLaw};
-ghost use Rattle.ia32_code.specs.Canonical.{Canonical};
+ghost use Rattle.ia32_code.specs.Canonical.{Canonical, HasNone};
 ghost use Rattle.ia32_code.specs.Ranges.{InstInRange};
 ghost use Rattle.ia32_code.specs.Order.{IsNotShorter, IsFirst};
-ghost use Rattle.ia32_code.specs.Encoding.{HasNone};
 ghost use Rattle.ia32_code.specs.WholeWords.{WordPlace, Within, AtEnd, Filling, whole_word, Fillable, EndStays};
 
 /// The prefix law: no spelling is a proper prefix of another, and no bytes spell two instructions.

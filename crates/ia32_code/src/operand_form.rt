@@ -6,7 +6,7 @@ ghost use Rattle.ia32_code.specs.Canonical.{fits_byte, shortest_disp, memory_for
 use crate::instruction::{Mem, Operand, Reg};
 
 /// A displacement: none, a byte that is sign extended, or a word.
-#[derive(Clone, Copy, Debug, PartialEq, Eq, Drop)]
+#[derive(Clone, Copy, Drop)]
 pub enum Displacement {
     NoDisp,
     Disp8(u8),
@@ -14,7 +14,7 @@ pub enum Displacement {
 }
 
 /// How an operand is spelled by a ModRM byte.
-#[derive(Clone, Copy, Debug, PartialEq, Eq, Drop)]
+#[derive(Clone, Copy, Drop)]
 pub enum OperandForm {
     /// A register.
     Direct(Reg),

@@ -12,7 +12,7 @@ use crate::spelling::{Spelling, fill};
 use crate::table::encoding_of;
 
 /// Why bytes do not begin with an instruction.
-#[derive(Clone, Copy, Debug, PartialEq, Eq, Drop)]
+#[derive(Clone, Copy, Drop)]
 pub enum Stop {
     /// They end too early.
     Short,

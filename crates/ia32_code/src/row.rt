@@ -1,7 +1,7 @@
 use crate::instruction::{Alu, Cond, Reg, Shift};
 
 /// A line of the table of spellings, with the register, operation or condition that its opcode holds.
-#[derive(Clone, Copy, Debug, PartialEq, Eq, Drop)]
+#[derive(Clone, Copy, Drop)]
 pub enum Row {
     AluStore(Alu),
     AluLoad(Alu),
@@ -53,7 +53,7 @@ pub enum Row {
 }
 
 /// What stands where the ModRM byte may be.
-#[derive(Clone, Copy, Debug, PartialEq, Eq, Drop)]
+#[derive(Clone, Copy, Drop)]
 pub enum ModRm {
     /// No ModRM byte.
     Absent,
@@ -66,7 +66,7 @@ pub enum ModRm {
 }
 
 /// The number at the end of a spelling.
-#[derive(Clone, Copy, Debug, PartialEq, Eq, Drop)]
+#[derive(Clone, Copy, Drop)]
 pub enum Trailing {
     Nothing,
     Byte,
@@ -74,7 +74,7 @@ pub enum Trailing {
 }
 
 /// How a row is spelled, from left to right.
-#[derive(Clone, Copy, Debug, PartialEq, Eq, Drop)]
+#[derive(Clone, Copy, Drop)]
 pub struct Encoding {
     /// Whether the byte 0F comes first.
     pub escaped: bool,

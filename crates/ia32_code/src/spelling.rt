@@ -10,7 +10,7 @@ use crate::row::{ModRm, Row, Trailing};
 use crate::table::{build, encoding_of};
 
 /// A row with its register or digit, operand form and number.
-#[derive(Clone, Copy, Debug, PartialEq, Eq, Drop)]
+#[derive(Clone, Copy, Drop)]
 pub struct Spelling {
     pub row: Row,
     pub reg: Reg,

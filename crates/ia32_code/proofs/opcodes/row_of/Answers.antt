@@ -28,19 +28,19 @@ pub returns-in-250-to-251 : goal.returns-in-250-to-251
 returns-in-250-to-251 c = flag_row c.args.opcode (omega arith) (omega arith)
 
 pub returns-in_default : goal.returns-in_default
-returns-in_default c = no_row c.args.opcode (omega (arith, c.ranges.opcode.fits)) (omega arith)
+returns-in_default c = no_row c.args.opcode (omega arith)
 
 pub returns-in_default-2 : goal.returns-in_default-2
-returns-in_default-2 c = no_row c.args.opcode (omega (arith, c.ranges.opcode.fits)) (omega arith)
+returns-in_default-2 c = no_row c.args.opcode (omega arith)
 
 pub returns-in_default-3 : goal.returns-in_default-3
-returns-in_default-3 c = no_row c.args.opcode (omega (arith, c.ranges.opcode.fits)) (omega arith)
+returns-in_default-3 c = no_row c.args.opcode (omega arith)
 
 pub returns-in_default-4 : goal.returns-in_default-4
-returns-in_default-4 c = no_row c.args.opcode (omega (arith, c.ranges.opcode.fits)) (omega arith)
+returns-in_default-4 c = no_row c.args.opcode (omega arith)
 
 pub returns-in_default-5 : goal.returns-in_default-5
-returns-in_default-5 c = no_row c.args.opcode (omega (arith, c.ranges.opcode.fits)) (omega arith)
+returns-in_default-5 c = no_row c.args.opcode (omega arith)
 
 pub returns-in_default-6 : goal.returns-in_default-6
-returns-in_default-6 c = no_row c.args.opcode (omega (arith, c.ranges.opcode.fits)) (omega arith)
+returns-in_default-6 c = no_row c.args.opcode (omega arith)
