@@ -1,11 +1,13 @@
 -- Reading operands and instructions.
 use Rattle.std.specs.Prelude.{ℕ, ℤ, pos, List, [], ◌∷◌, Option, Some, None, Bool, true, false, ◌==◌, if◌then◌else◌}
 use Rattle.std.specs.Int.{int_wrapping_neg, w64}
+use Rattle.std.specs.Option.{option_to_list}
 use Rattle.std.specs.Ordering.{int_eq}
 use Rattle.ia32_code.specs.declared.instruction.Reg.{Reg}
 use Rattle.code_words.specs.declared.words.Mnemonic.{Mnemonic}
 use Rattle.code_words.specs.declared.words.Mnemonic.TheVariants as m
 use Rattle.text_tokens.specs.Token.{Lexeme, Key, Register, Name, Number, Mark, EndOfLine}
+use Rattle.text_tokens.specs.declared.token.Keyword.{Keyword}
 use Rattle.text_tokens.specs.declared.token.Keyword.TheVariants as key
 use Rattle.tal_syntax.specs.declared.form.Term.{Term}
 use Rattle.tal_syntax.specs.declared.form.Term.TheVariants as term
@@ -15,7 +17,9 @@ use Rattle.tal_syntax.specs.declared.form.Form.{Form}
 use Rattle.tal_syntax.specs.declared.form.Form.TheVariants as form
 use Rattle.tal_syntax.specs.declared.instructions.Operands.{Operands}
 use Rattle.tal_syntax.specs.declared.instructions.Operands.TheVariants as operands
-use Rattle.tal_syntax.specs.Reading.{Read, done, both, reads, choose, one_of, if_mark, mark_at, name_at, number_at, end_at, some_rows}
+use Rattle.tal_syntax.specs.declared.instructions.Role.{Role}
+use Rattle.tal_syntax.specs.declared.instructions.Role.TheVariants as role
+use Rattle.tal_syntax.specs.Reading.{Read, done, both, reads, choose, one_of, if_mark, name_at, number_at, end_at, cons, some_rows, comma_at}
 use Rattle.tal_syntax.specs.Rows.{type_at}
 
 -- ---- terms of memory operands
@@ -44,14 +48,19 @@ register_at r = if_mark 42 (reads (λ k. term.Scaled r k) factor_at) (done (term
 abbrev pub two_names : Read (List ℕ × List ℕ)
 two_names = both name_at name_at
 
--- a term, by its first word
+-- a term that a word begins
+abbrev pub term_key : Keyword → Option (Read Term)
+term_key key.Field = Some (reads (λ x. term.FieldByte x.0 x.1) two_names)
+term_key key.Method = Some (reads (λ x. term.MethodByte x.0 x.1) two_names)
+term_key key.Display = Some (reads (λ n. term.DisplayByte n) name_at)
+term_key key.Static = Some (reads (λ n. term.StaticAt n) name_at)
+term_key _ = None
+
+-- a term, by its first token
 abbrev pub term_of : Lexeme → Option (Read Term)
 term_of (Register r) = Some (register_at r)
 term_of (Number n) = Some (done (term.Number n))
-term_of (Key key.Field) = Some (reads (λ x. term.FieldByte x.0 x.1) two_names)
-term_of (Key key.Method) = Some (reads (λ x. term.MethodByte x.0 x.1) two_names)
-term_of (Key key.Display) = Some (reads (λ n. term.DisplayByte n) name_at)
-term_of (Key key.Static) = Some (reads (λ n. term.StaticAt n) name_at)
+term_of (Key k) = term_key k
 term_of _ = None
 
 unfoldable pub term_at : Read Term
@@ -79,15 +88,20 @@ terms_at = some_rows 93 term_at signed_at
 abbrev pub memory_at : Read Arg
 memory_at = reads (λ ts. arg.Memory ts) terms_at
 
--- an operand, by its first word
+-- an operand that a word begins
+abbrev pub arg_key : Keyword → Option (Read Arg)
+arg_key key.Null = Some (reads (λ t. arg.Null t) type_at)
+arg_key key.Tab = Some (reads (λ n. arg.Tab n) name_at)
+arg_key key.Desc = Some (reads (λ n. arg.Desc n) name_at)
+arg_key key.Code = Some (reads (λ n. arg.Code n) name_at)
+arg_key key.Data = Some (reads (λ n. arg.DataOf n) name_at)
+arg_key _ = None
+
+-- an operand, by its first token
 abbrev pub arg_of : Lexeme → Option (Read Arg)
 arg_of (Register r) = Some (done (arg.Register r))
 arg_of (Number n) = Some (done (arg.Number n))
-arg_of (Key key.Null) = Some (reads (λ t. arg.Null t) type_at)
-arg_of (Key key.Tab) = Some (reads (λ n. arg.Tab n) name_at)
-arg_of (Key key.Desc) = Some (reads (λ n. arg.Desc n) name_at)
-arg_of (Key key.Code) = Some (reads (λ n. arg.Code n) name_at)
-arg_of (Key key.Data) = Some (reads (λ n. arg.DataOf n) name_at)
+arg_of (Key k) = arg_key k
 arg_of (Mark b) = if b == 91 then Some memory_at else None
 arg_of _ = None
 
@@ -143,45 +157,56 @@ operands_of m.Ret = operands.Zero
 operands_of m.Jmp = operands.Target
 operands_of (m.Jcc cond) = operands.Target
 
--- one operand alone, and the line's end
-abbrev pub alone : Read Arg → Read (List Arg)
-alone p = reads (λ x. x.0 ∷ []) (both p end_at)
+-- an operand by what it is for
+abbrev pub operand_at : Role → Read Arg
+operand_at role.Any = arg_at
+operand_at role.Count = count_at
+operand_at role.Called = called_at
+operand_at role.Target = target_at
 
--- two operands, and the line's end
+-- an operand, and the line's end
+abbrev pub last_at : Read Arg → Read Arg
+last_at p = reads (λ x. x.0) (both p end_at)
+
+-- one operand alone
+abbrev pub alone : Read Arg → Read (List Arg)
+alone p = reads (λ x. x ∷ []) (last_at p)
+
+-- two operands
 abbrev pub pair_at : Read Arg → Read (List Arg)
-pair_at second = reads (λ x. x.0 ∷ x.1.1.0 ∷ []) (both arg_at (both (mark_at 44) (both second end_at)))
+pair_at second = reads (λ x. x.0 ∷ x.1 ∷ []) (both arg_at (comma_at (last_at second)))
 
 -- the third operand, or the line's end
 abbrev pub third_of : Lexeme → Option (Read (Option Arg))
 third_of EndOfLine = Some (done None)
-third_of (Mark b) = if b == 44 then Some (reads (λ x. Some x.0) (both arg_at end_at)) else None
+third_of (Mark b) = if b == 44 then Some (reads (λ x. Some x) (last_at arg_at)) else None
 third_of _ = None
 
 unfoldable pub third_at : Read (Option Arg)
 third_at = choose third_of
 
 -- the second operand and perhaps a third, or the line's end
-abbrev pub second_of : Lexeme → Option (Read (Option (Arg × Option Arg)))
-second_of EndOfLine = Some (done None)
-second_of (Mark b) = if b == 44 then Some (reads (λ x. Some x) (both arg_at third_at)) else None
+abbrev pub second_of : Lexeme → Option (Read (List Arg))
+second_of EndOfLine = Some (done [])
+second_of (Mark b) = if b == 44 then Some (reads (λ x. x.0 ∷ option_to_list x.1) (both arg_at third_at)) else None
 second_of _ = None
 
-unfoldable pub second_at : Read (Option (Arg × Option Arg))
+unfoldable pub second_at : Read (List Arg)
 second_at = choose second_of
 
--- a list of one to three operands
-abbrev pub listed : Arg × Option (Arg × Option Arg) → List Arg
-listed x = x.0 ∷ elim x.1 [ None ↦ [] | Some y ↦ y.0 ∷ elim y.1 [ None ↦ [] | Some z ↦ z ∷ [] ] ]
+-- one to three operands
+abbrev pub up_to_three_at : Read (List Arg)
+up_to_three_at = reads cons (both arg_at second_at)
 
 -- the operands, and the line's end
 unfoldable pub args_at : Operands → Read (List Arg)
 args_at operands.Zero = reads (λ u. []) end_at
-args_at operands.One = alone arg_at
-args_at operands.Two = pair_at arg_at
-args_at operands.UpToThree = reads listed (both arg_at second_at)
-args_at operands.Shifted = pair_at count_at
-args_at operands.Called = alone called_at
-args_at operands.Target = alone target_at
+args_at operands.One = alone (operand_at role.Any)
+args_at operands.Two = pair_at (operand_at role.Any)
+args_at operands.UpToThree = up_to_three_at
+args_at operands.Shifted = pair_at (operand_at role.Count)
+args_at operands.Called = alone (operand_at role.Called)
+args_at operands.Target = alone (operand_at role.Target)
 
 -- an instruction behind its mnemonic
 unfoldable pub inst_at : Mnemonic → Read Form

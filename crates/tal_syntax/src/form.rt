@@ -5,7 +5,7 @@ use code_words::Mnemonic;
 use ia32_code::Reg;
 
 /// A type: a number, a value that is not used, or what a class, a kind, a signature or a function names.
-#[derive(Debug, Drop)]
+#[derive(Drop)]
 pub enum TypeText {
     Num,
     Junk,
@@ -20,14 +20,14 @@ pub enum TypeText {
 }
 
 /// A register with its type. ESP has none.
-#[derive(Debug, Drop)]
+#[derive(Drop)]
 pub struct RegType {
     pub reg: Reg,
     pub ty: TypeText,
 }
 
 /// A term of a memory operand.
-#[derive(Debug, Drop)]
+#[derive(Drop)]
 pub enum Term {
     Register(Reg),
     /// A register times 1, 2, 4 or 8.
@@ -45,7 +45,7 @@ pub enum Term {
 }
 
 /// An operand.
-#[derive(Debug, Drop)]
+#[derive(Drop)]
 pub enum Arg {
     Register(Reg),
     /// CL as the count of a shift.
@@ -64,7 +64,7 @@ pub enum Arg {
 }
 
 /// A line that is not empty. `ext` is true behind `extern`.
-#[derive(Debug, Drop)]
+#[derive(Drop)]
 pub enum Form {
     Heap(i64),
     Stacks(i64),
@@ -127,7 +127,7 @@ pub enum Form {
 }
 
 /// What the lines so far have begun and not ended.
-#[derive(Clone, Copy, Debug, PartialEq, Eq, Drop)]
+#[derive(Clone, Copy, PartialEq, Eq, Drop)]
 pub enum Scope {
     Outside,
     InClass,

@@ -1,19 +1,18 @@
 // Reading instructions.
-ghost use Rattle.std.specs.Prelude.{◌≡◌, [], ◌∷◌, IfOk};
-ghost use Rattle.tal_syntax.specs.Reading.{Gives, end_at};
-ghost use Rattle.tal_syntax.specs.Operands.{arg_at, count_at, called_at, target_at, alone, pair_at, third_at, second_at, operands_of, args_at, inst_at};
+ghost use Rattle.std.specs.Prelude.{◌≡◌};
+ghost use Rattle.tal_syntax.specs.Reading.{Gives, comma_at};
+ghost use Rattle.tal_syntax.specs.Operands.{operand_at, last_at, alone, pair_at, third_at, up_to_three_at, operands_of, args_at, inst_at};
 
 use crate::form::{Arg, Form};
 use crate::lists::ArgList;
 use crate::operands::{arg, called, count};
 use crate::tokens_read::{Stop, line_end, mark, name};
 use code_words::Mnemonic;
-use no_memory::NoMemory;
 use std::alloc::Global;
 use text_tokens::{Token, Tokens};
 
 /// Which operands stand behind a mnemonic.
-#[derive(Clone, Copy, Debug, PartialEq, Eq, Drop)]
+#[derive(Clone, Copy, Drop)]
 pub enum Operands {
     Zero,
     One,
@@ -56,76 +55,70 @@ fn operands_of(mnemonic: Mnemonic) -> Operands
     }
 }
 
-// A list of one operand.
-fn list_of_one(alloc: Global, only: Arg) -> Result<ArgList, NoMemory>
-    ensures { IfOk result (λ args. args ≡ only ∷ []) }
+// What an operand is for.
+#[derive(Clone, Copy, Drop)]
+enum Role {
+    Any,
+    /// The count of a shift.
+    Count,
+    /// What a call goes to.
+    Called,
+    /// A label that a jump goes to.
+    Target,
+}
+
+// An operand.
+fn operand(alloc: Global, tokens: &mut Tokens<'_>, role: Role) -> Result<Arg, Stop>
+    ensures gives { Gives result (operand_at role tokens.old.left) tokens.new.left }
+    ensures line { tokens.new.line ≡ tokens.old.line }
+{
+    match role {
+        Role::Any => arg(alloc, tokens),
+        Role::Count => count(alloc, tokens),
+        Role::Called => called(alloc, tokens),
+        Role::Target => Ok(Arg::Target(name(alloc, tokens)?)),
+    }
+}
+
+// An operand, and the line's end.
+fn last(alloc: Global, tokens: &mut Tokens<'_>, role: Role) -> Result<Arg, Stop>
+    ensures gives { Gives result (last_at (operand_at role) tokens.old.left) tokens.new.left }
+    ensures line { tokens.new.line ≡ tokens.old.line }
+{
+    let last = operand(alloc, tokens, role)?;
+    line_end(tokens)?;
+    Ok(last)
+}
+
+// One operand alone.
+fn alone(alloc: Global, tokens: &mut Tokens<'_>, role: Role) -> Result<ArgList, Stop>
+    ensures gives { Gives result (alone (operand_at role) tokens.old.left) tokens.new.left }
+    ensures line { tokens.new.line ≡ tokens.old.line }
 {
     let mut args = ArgList::new(alloc);
-    args.push(only)?;
+    args.push(last(alloc, tokens, role)?)?;
     Ok(args)
 }
 
-// A list of two operands.
-fn list_of_two(alloc: Global, first: Arg, second: Arg) -> Result<ArgList, NoMemory>
-    ensures { IfOk result (λ args. args ≡ first ∷ second ∷ []) }
+// The last operand behind a comma.
+#[tactic(auto, unfolding(crate::specs::Reading::comma_at))]
+fn last_behind_comma(alloc: Global, tokens: &mut Tokens<'_>, role: Role) -> Result<Arg, Stop>
+    ensures gives { Gives result (comma_at (last_at (operand_at role)) tokens.old.left) tokens.new.left }
+    ensures line { tokens.new.line ≡ tokens.old.line }
 {
-    let mut args = list_of_one(alloc, first)?;
-    args.push(second)?;
+    mark(tokens, b',')?;
+    last(alloc, tokens, role)
+}
+
+// Two operands.
+fn pair(alloc: Global, tokens: &mut Tokens<'_>, second: Role) -> Result<ArgList, Stop>
+    ensures gives { Gives result (pair_at (operand_at second) tokens.old.left) tokens.new.left }
+    ensures line { tokens.new.line ≡ tokens.old.line }
+{
+    let mut args = ArgList::new(alloc);
+    args.push(arg(alloc, tokens)?)?;
+    args.push(last_behind_comma(alloc, tokens, second)?)?;
     Ok(args)
-}
-
-// One operand, and the line's end.
-fn one(alloc: Global, tokens: &mut Tokens<'_>) -> Result<ArgList, Stop>
-    ensures gives { Gives result (alone arg_at tokens.old.left) tokens.new.left }
-    ensures line { tokens.new.line ≡ tokens.old.line }
-{
-    let only = arg(alloc, tokens)?;
-    line_end(tokens)?;
-    Ok(list_of_one(alloc, only)?)
-}
-
-// What a call goes to, and the line's end.
-fn call(alloc: Global, tokens: &mut Tokens<'_>) -> Result<ArgList, Stop>
-    ensures gives { Gives result (alone called_at tokens.old.left) tokens.new.left }
-    ensures line { tokens.new.line ≡ tokens.old.line }
-{
-    let only = called(alloc, tokens)?;
-    line_end(tokens)?;
-    Ok(list_of_one(alloc, only)?)
-}
-
-// A label, and the line's end.
-fn jump(alloc: Global, tokens: &mut Tokens<'_>) -> Result<ArgList, Stop>
-    ensures gives { Gives result (alone target_at tokens.old.left) tokens.new.left }
-    ensures line { tokens.new.line ≡ tokens.old.line }
-{
-    let label = name(alloc, tokens)?;
-    line_end(tokens)?;
-    Ok(list_of_one(alloc, Arg::Target(label))?)
-}
-
-// Two operands, and the line's end.
-fn two(alloc: Global, tokens: &mut Tokens<'_>) -> Result<ArgList, Stop>
-    ensures gives { Gives result (pair_at arg_at tokens.old.left) tokens.new.left }
-    ensures line { tokens.new.line ≡ tokens.old.line }
-{
-    let first = arg(alloc, tokens)?;
-    mark(tokens, b',')?;
-    let second = arg(alloc, tokens)?;
-    line_end(tokens)?;
-    Ok(list_of_two(alloc, first, second)?)
-}
-
-// An operand and a count, and the line's end.
-fn shifted(alloc: Global, tokens: &mut Tokens<'_>) -> Result<ArgList, Stop>
-    ensures gives { Gives result (pair_at count_at tokens.old.left) tokens.new.left }
-    ensures line { tokens.new.line ≡ tokens.old.line }
-{
-    let first = arg(alloc, tokens)?;
-    mark(tokens, b',')?;
-    let second = count(alloc, tokens)?;
-    line_end(tokens)?;
-    Ok(list_of_two(alloc, first, second)?)
 }
 
 // The third operand, or the line's end.
@@ -141,50 +134,38 @@ fn third(alloc: Global, tokens: &mut Tokens<'_>) -> Result<Option<Arg>, Stop>
         }
         Some(Token::Mark(b',')) => {
             tokens.advance();
-            let third = arg(alloc, tokens)?;
-            line_end(tokens)?;
-            Ok(Some(third))
+            Ok(Some(last(alloc, tokens, Role::Any)?))
         }
         _ => Err(Stop::Refused),
     }
 }
 
-// The second operand and perhaps a third, or the line's end.
+// One to three operands.
 #[tactic(auto, unfolding(crate::specs::Operands::second_at))]
-fn second(alloc: Global, tokens: &mut Tokens<'_>) -> Result<Option<(Arg, Option<Arg>)>, Stop>
-    ensures gives { Gives result (second_at tokens.old.left) tokens.new.left }
+fn up_to_three(alloc: Global, tokens: &mut Tokens<'_>) -> Result<ArgList, Stop>
+    ensures gives { Gives result (up_to_three_at tokens.old.left) tokens.new.left }
     ensures line { tokens.new.line ≡ tokens.old.line }
 {
+    let mut args = ArgList::new(alloc);
+    args.push(arg(alloc, tokens)?)?;
     match tokens.peek() {
         Some(Token::EndOfLine) => {
             tokens.advance();
-            Ok(None)
+            Ok(args)
         }
         Some(Token::Mark(b',')) => {
             tokens.advance();
-            let second = arg(alloc, tokens)?;
-            let third = third(alloc, tokens)?;
-            Ok(Some((second, third)))
+            args.push(arg(alloc, tokens)?)?;
+            match third(alloc, tokens)? {
+                None => Ok(args),
+                Some(third) => {
+                    args.push(third)?;
+                    Ok(args)
+                }
+            }
         }
         _ => Err(Stop::Refused),
     }
-}
-
-// One to three operands, and the line's end.
-#[tactic(auto, unfolding(crate::specs::Operands::args_at))]
-fn up_to_three(alloc: Global, tokens: &mut Tokens<'_>) -> Result<ArgList, Stop>
-    ensures gives { Gives result (args_at Operands.UpToThree tokens.old.left) tokens.new.left }
-    ensures line { tokens.new.line ≡ tokens.old.line }
-{
-    let first = arg(alloc, tokens)?;
-    let Some((second, more)) = second(alloc, tokens)? else {
-        return Ok(list_of_one(alloc, first)?);
-    };
-    let mut args = list_of_two(alloc, first, second)?;
-    if let Some(third) = more {
-        args.push(third)?;
-    }
-    Ok(args)
 }
 
 // The operands of a mnemonic, and the line's end.
@@ -198,12 +179,12 @@ fn args(alloc: Global, tokens: &mut Tokens<'_>, operands: Operands) -> Result<Ar
             line_end(tokens)?;
             Ok(ArgList::new(alloc))
         }
-        Operands::One => one(alloc, tokens),
-        Operands::Two => two(alloc, tokens),
+        Operands::One => alone(alloc, tokens, Role::Any),
+        Operands::Two => pair(alloc, tokens, Role::Any),
         Operands::UpToThree => up_to_three(alloc, tokens),
-        Operands::Shifted => shifted(alloc, tokens),
-        Operands::Called => call(alloc, tokens),
-        Operands::Target => jump(alloc, tokens),
+        Operands::Shifted => pair(alloc, tokens, Role::Count),
+        Operands::Called => alone(alloc, tokens, Role::Called),
+        Operands::Target => alone(alloc, tokens, Role::Target),
     }
 }
 

@@ -11,7 +11,7 @@ use std::alloc::Global;
 use text_tokens::{Token, Tokens};
 
 /// Why a line has no form.
-#[derive(Clone, Copy, Debug, Drop)]
+#[derive(Clone, Copy, Drop)]
 pub enum LineStop {
     At { column: usize, code: u8 },
     /// The line is the front of a form.

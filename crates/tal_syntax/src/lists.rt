@@ -7,7 +7,7 @@ use std::alloc::Global;
 use std::marker::Model;
 
 /// Registers with their types, in order.
-#[derive(Debug, Drop)]
+#[derive(Drop)]
 pub struct RegTypeList {
     rows: Vec<RegType>,
 }
@@ -56,7 +56,7 @@ impl RegTypeList {
 }
 
 /// Types, in order.
-#[derive(Debug, Drop)]
+#[derive(Drop)]
 pub struct TypeTextList {
     rows: Vec<TypeText>,
 }
@@ -105,7 +105,7 @@ impl TypeTextList {
 }
 
 /// Numbers, in order.
-#[derive(Debug, Drop)]
+#[derive(Drop)]
 pub struct NumberList {
     rows: Vec<i64>,
 }
@@ -153,7 +153,7 @@ impl NumberList {
 }
 
 /// Terms of a memory operand, in order.
-#[derive(Debug, Drop)]
+#[derive(Drop)]
 pub struct TermList {
     rows: Vec<Term>,
 }
@@ -202,7 +202,7 @@ impl TermList {
 }
 
 /// Operands, in order.
-#[derive(Debug, Drop)]
+#[derive(Drop)]
 pub struct ArgList {
     rows: Vec<Arg>,
 }

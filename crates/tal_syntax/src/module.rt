@@ -12,7 +12,7 @@ use std::alloc::Global;
 use std::marker::Model;
 
 /// A line that is not empty.
-#[derive(Debug, Drop)]
+#[derive(Drop)]
 pub struct TextLine {
     /// Counted from 1, empty lines too.
     pub number: u32,
@@ -20,7 +20,7 @@ pub struct TextLine {
 }
 
 /// The lines of a text that are not empty. Contracts see it as their list.
-#[derive(Debug, Drop)]
+#[derive(Drop)]
 pub struct Module {
     lines: Vec<TextLine>,
 }

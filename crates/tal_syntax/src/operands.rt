@@ -1,7 +1,7 @@
 // Reading operands.
 ghost use Rattle.std.specs.Prelude.{◌≡◌};
-ghost use Rattle.tal_syntax.specs.Reading.{Gives};
-ghost use Rattle.tal_syntax.specs.Operands.{factor, factor_at, register_at, term_at, signed_at, terms_at, arg_at, count_at, called_at};
+ghost use Rattle.tal_syntax.specs.Reading.{Gives, choose, by_key};
+ghost use Rattle.tal_syntax.specs.Operands.{factor, factor_at, register_at, two_names, term_key, term_at, signed_at, terms_at, arg_key, arg_at, count_at, called_at};
 
 use crate::form::{Arg, Term};
 use crate::lists::TermList;
@@ -60,6 +60,47 @@ fn register(tokens: &mut Tokens<'_>, reg: Reg) -> Result<Term, Stop>
     Ok(Term::Register(reg))
 }
 
+// Two names.
+fn two_names(alloc: Global, tokens: &mut Tokens<'_>) -> Result<(Name, Name), Stop>
+    ensures gives { Gives result (two_names tokens.old.left) tokens.new.left }
+    ensures line { tokens.new.line ≡ tokens.old.line }
+{
+    let first = name(alloc, tokens)?;
+    let second = name(alloc, tokens)?;
+    Ok((first, second))
+}
+
+// A term that a word begins.
+fn keyed_term(alloc: Global, tokens: &mut Tokens<'_>) -> Result<Term, Stop>
+    ensures gives { Gives result (choose (by_key term_key) tokens.old.left) tokens.new.left }
+    ensures line { tokens.new.line ≡ tokens.old.line }
+{
+    let Some(Token::Key(keyword)) = tokens.peek() else {
+        return Err(Stop::Refused);
+    };
+    match keyword {
+        Keyword::Field => {
+            tokens.advance();
+            let (class, field) = two_names(alloc, tokens)?;
+            Ok(Term::FieldByte(class, field))
+        }
+        Keyword::Method => {
+            tokens.advance();
+            let (class, method) = two_names(alloc, tokens)?;
+            Ok(Term::MethodByte(class, method))
+        }
+        Keyword::Display => {
+            tokens.advance();
+            Ok(Term::DisplayByte(name(alloc, tokens)?))
+        }
+        Keyword::Static => {
+            tokens.advance();
+            Ok(Term::StaticAt(name(alloc, tokens)?))
+        }
+        _ => Err(Stop::Refused),
+    }
+}
+
 // A term of a memory operand.
 #[tactic(auto, unfolding(crate::specs::Operands::term_at))]
 fn term(alloc: Global, tokens: &mut Tokens<'_>) -> Result<Term, Stop>
@@ -75,26 +116,7 @@ fn term(alloc: Global, tokens: &mut Tokens<'_>) -> Result<Term, Stop>
             tokens.advance();
             Ok(Term::Number(number))
         }
-        Some(Token::Key(Keyword::Field)) => {
-            tokens.advance();
-            let class = name(alloc, tokens)?;
-            let field = name(alloc, tokens)?;
-            Ok(Term::FieldByte(class, field))
-        }
-        Some(Token::Key(Keyword::Method)) => {
-            tokens.advance();
-            let class = name(alloc, tokens)?;
-            let method = name(alloc, tokens)?;
-            Ok(Term::MethodByte(class, method))
-        }
-        Some(Token::Key(Keyword::Display)) => {
-            tokens.advance();
-            Ok(Term::DisplayByte(name(alloc, tokens)?))
-        }
-        Some(Token::Key(Keyword::Static)) => {
-            tokens.advance();
-            Ok(Term::StaticAt(name(alloc, tokens)?))
-        }
+        Some(Token::Key(_)) => keyed_term(alloc, tokens),
         _ => Err(Stop::Refused),
     }
 }
@@ -143,6 +165,39 @@ fn terms(alloc: Global, tokens: &mut Tokens<'_>) -> Result<TermList, Stop>
     Ok(TermList::of(terms))
 }
 
+// An operand that a word begins.
+fn keyed_arg(alloc: Global, tokens: &mut Tokens<'_>) -> Result<Arg, Stop>
+    ensures gives { Gives result (choose (by_key arg_key) tokens.old.left) tokens.new.left }
+    ensures line { tokens.new.line ≡ tokens.old.line }
+{
+    let Some(Token::Key(keyword)) = tokens.peek() else {
+        return Err(Stop::Refused);
+    };
+    match keyword {
+        Keyword::Null => {
+            tokens.advance();
+            Ok(Arg::Null(type_text(alloc, tokens)?))
+        }
+        Keyword::Tab => {
+            tokens.advance();
+            Ok(Arg::Tab(name(alloc, tokens)?))
+        }
+        Keyword::Desc => {
+            tokens.advance();
+            Ok(Arg::Desc(name(alloc, tokens)?))
+        }
+        Keyword::Code => {
+            tokens.advance();
+            Ok(Arg::Code(name(alloc, tokens)?))
+        }
+        Keyword::Data => {
+            tokens.advance();
+            Ok(Arg::DataOf(name(alloc, tokens)?))
+        }
+        _ => Err(Stop::Refused),
+    }
+}
+
 /// An operand.
 #[tactic(auto, unfolding(crate::specs::Operands::arg_at))]
 pub fn arg(alloc: Global, tokens: &mut Tokens<'_>) -> Result<Arg, Stop>
@@ -158,26 +213,7 @@ pub fn arg(alloc: Global, tokens: &mut Tokens<'_>) -> Result<Arg, Stop>
             tokens.advance();
             Ok(Arg::Number(number))
         }
-        Some(Token::Key(Keyword::Null)) => {
-            tokens.advance();
-            Ok(Arg::Null(type_text(alloc, tokens)?))
-        }
-        Some(Token::Key(Keyword::Tab)) => {
-            tokens.advance();
-            Ok(Arg::Tab(name(alloc, tokens)?))
-        }
-        Some(Token::Key(Keyword::Desc)) => {
-            tokens.advance();
-            Ok(Arg::Desc(name(alloc, tokens)?))
-        }
-        Some(Token::Key(Keyword::Code)) => {
-            tokens.advance();
-            Ok(Arg::Code(name(alloc, tokens)?))
-        }
-        Some(Token::Key(Keyword::Data)) => {
-            tokens.advance();
-            Ok(Arg::DataOf(name(alloc, tokens)?))
-        }
+        Some(Token::Key(_)) => keyed_arg(alloc, tokens),
         Some(Token::Mark(b'[')) => {
             tokens.advance();
             Ok(Arg::Memory(terms(alloc, tokens)?))

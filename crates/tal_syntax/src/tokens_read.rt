@@ -11,7 +11,7 @@ use std::alloc::{AllocError, AllocFailed, Global};
 use text_tokens::{Token, Tokens};
 
 /// Why a reader stopped.
-#[derive(Clone, Copy, Debug, Drop)]
+#[derive(Clone, Copy, Drop)]
 pub enum Stop {
     /// No sentence has the next token there.
     Refused,
