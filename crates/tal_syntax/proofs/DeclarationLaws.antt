@@ -1,6 +1,5 @@
 -- The lines outside classes and functions are read exactly.
 use Rattle.std.proofs.Common.{◌≡◌, ◌≢◌, ℕ, ℤ, pos, Bool, true, false, cond, List, [], ◌∷◌, ◌++◌, Option, Some, None, refl, sym, ap, subst, ◌∙◌}
-use Rattle.std.proofs.lemmas.Bool.{eqb-true}
 use lib.Dec.{eqb}
 use Rattle.ia32_code.specs.declared.instruction.Reg.{Reg}
 use Rattle.ia32_code.specs.declared.instruction.Reg.TheVariants.{Eax, Esp}
@@ -18,7 +17,7 @@ use Rattle.tal_syntax.specs.Reading.{Read, both, reads, choose, by_key, is_mark,
 use Rattle.tal_syntax.specs.Rows.{type_at, reg_type, reg_type_at}
 use Rattle.tal_syntax.specs.Forms.{numbers_of, numbers_at, parent_of, parent_at, extern_key, extern_at, outside_key, outside_at, heap_at, stacks_at, entry_at, sig_at, kind_at, static_at, data_at, outer_data_at, class_at, func_at}
 use Rattle.tal_syntax.proofs.Lawful.{Lawful, Made, Both, Nothing, nothing, Lawful-done, Lawful-both, Lawful-reads, Lawful-same}
-use Rattle.tal_syntax.proofs.LawfulChoices.{Chosen, Lawful-choose, Lawful-one, behind_key, each_key, key_there, law_of, led, lead}
+use Rattle.tal_syntax.proofs.LawfulChoices.{Chosen, Lawful-choose, Lawful-one, Opened, opened_law, behind_key, each_key, key_there, law_of, led, led_by_mark, lead}
 use Rattle.tal_syntax.proofs.TokenLaws.{Lawful-name, Lawful-number, Lawful-mark, Lawful-end, marked, ended, some_is}
 use Rattle.tal_syntax.proofs.TypeLaws.{Lawful-type, type_starts}
 use Rattle.tal_syntax.proofs.ListLaws.{Lawful-rows, Starts}
@@ -63,27 +62,19 @@ Lawful-list = Lawful-rows 125 number_at number Lawful-number refl (λ x ts s. re
 abbrev listed : Option (List ℤ) → List Lexeme → Type 0
 listed = Made (λ x. Some x.0) (Both (list_says 125 number) ended)
 
-record Opened (b : ℕ) (x : Option (List ℤ)) (ts : List Lexeme) : Type 0 where
-  is : b ≡ 123
-  two : listed x ts
-
 abbrev numbers_rest : Lexeme → Option (List ℤ) → List Lexeme → Type 0
 numbers_rest EndOfLine = Nothing None
-numbers_rest (Mark b) = Opened b
+numbers_rest (Mark b) = Opened 123 listed b
 numbers_rest _ = λ x ts. ⊥
-
-opened_law : (b : ℕ) (r : Bool) (p : Read (Option (List ℤ))) → eqb b 123 ≡ r → cond r (Some (reads (λ x. Some x.0) (both (rows_at 125 number_at) end_at))) None ≡ Some p → Lawful p (Opened b)
-opened_law b true p e h = law_of (Lawful-same (reads (λ x. Some x.0) (both (rows_at 125 number_at) end_at)) listed (Opened b) (Lawful-reads (λ x. Some x.0) (Lawful-both Lawful-list Lawful-end)) (λ x ts s. record { is = eqb-true b 123 e; two = s }) (λ x ts s. s.two)) h
-opened_law b false p e h = absurd cc
 
 numbers_laws : (t : Lexeme) (p : Read (Option (List ℤ))) → numbers_of t ≡ Some p → Lawful p (numbers_rest t)
 numbers_laws EndOfLine p e = law_of (Lawful-done None) e
-numbers_laws (Mark b) p e = opened_law b (eqb b 123) p refl e
+numbers_laws (Mark b) p e = opened_law 123 b (eqb b 123) (Lawful-reads (λ x. Some x.0) (Lawful-both Lawful-list Lawful-end)) refl e
 numbers_laws _ p e = absurd cc
 
 numbers_there : (t : Lexeme) (x : Option (List ℤ)) (ts : List Lexeme) → numbers_rest t x ts → numbers_says x (t ∷ ts)
 numbers_there EndOfLine x ts s = rw (s.none, s.value) refl
-numbers_there (Mark b) x ts s = led numbers_says (Mark b) x ts s.two (λ y us j. record { front = j.front; back = j.back; parts = j.parts; one = j.one ∙ ap (λ (n : ℕ). Mark n ∷ []) s.is; two = j.two })
+numbers_there (Mark b) x ts s = led_by_mark numbers_says 123 b x ts s (λ y us j. j)
 numbers_there _ x ts s = absurd s
 
 numbers_back : (x : Option (List ℤ)) (ts : List Lexeme) → numbers_says x ts → Chosen numbers_of numbers_rest x ts

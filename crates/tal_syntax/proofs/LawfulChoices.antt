@@ -1,10 +1,12 @@
 -- Readers that the first token decides.
-use Rattle.std.proofs.Common.{◌≡◌, List, [], ◌∷◌, ◌++◌, Option, Some, None, Result, Ok, Err, refl, sym, ap, subst, ◌∙◌}
-use Rattle.text_tokens.specs.Token.{Lexeme, Key}
+use Rattle.std.proofs.Common.{◌≡◌, ℕ, Bool, true, false, cond, List, [], ◌∷◌, ◌++◌, Option, Some, None, Result, Ok, Err, refl, sym, ap, subst, ◌∙◌}
+use Rattle.std.proofs.lemmas.Bool.{eqb-true}
+use lib.Dec.{eqb}
+use Rattle.text_tokens.specs.Token.{Lexeme, Key, Mark}
 use Rattle.text_tokens.specs.declared.token.Keyword.{Keyword}
 use Rattle.tal_syntax.specs.Reading.{Read, choose, one_of, by_key}
 use Rattle.tal_syntax.specs.Sentences.{Joined, token, ◌⊕◌}
-use Rattle.tal_syntax.proofs.Lawful.{Lawful, Lives, Refusal, Took, Stuck, Made, ok_is, err_is}
+use Rattle.tal_syntax.proofs.Lawful.{Lawful, Lives, Refusal, Took, Stuck, Made, Lawful-same, ok_is, err_is}
 
 -- a token that is picked, and a sentence behind it
 pub record Chosen {A : Type 0} (pick : Lexeme → Option (Read A)) (T : Lexeme → A → List Lexeme → Type 0) (x : A) (ts : List Lexeme) : Type 0 where
@@ -15,17 +17,19 @@ pub record Chosen {A : Type 0} (pick : Lexeme → Option (Read A)) (T : Lexeme �
   pub picks : pick token ≡ Some way
   pub two : T token x back
 
+-- the way that the first token picks is gone
+pub goes : {A : Type 0} (pick : Lexeme → Option (Read A)) (t : Lexeme) (p : Read A) (ts : List Lexeme) → pick t ≡ Some p → choose pick (t ∷ ts) ≡ p ts
+goes pick t p ts e = rw (e, choose) refl
+
+-- a token that picks none is refused
+pub stays : {A : Type 0} (pick : Lexeme → Option (Read A)) (t : Lexeme) (ts : List Lexeme) → pick t ≡ None → choose pick (t ∷ ts) ≡ Err (t ∷ ts)
+stays pick t ts e = rw (e, choose) refl
+
 module _ {A : Type 0} (pick : Lexeme → Option (Read A)) (T : Lexeme → A → List Lexeme → Type 0) (S : A → List Lexeme → Type 0) (laws : (t : Lexeme) (p : Read A) → pick t ≡ Some p → Lawful p (T t)) (there : (t : Lexeme) (x : A) (ts : List Lexeme) → T t x ts → S x (t ∷ ts)) (back : (x : A) (ts : List Lexeme) → S x ts → Chosen pick T x ts) (live : Lives S) where
-  goes : (t : Lexeme) (p : Read A) (ts : List Lexeme) → pick t ≡ Some p → choose pick (t ∷ ts) ≡ p ts
-  goes t p ts e = rw (e, choose) refl
-
-  stays : (t : Lexeme) (ts : List Lexeme) → pick t ≡ None → choose pick (t ∷ ts) ≡ Err (t ∷ ts)
-  stays t ts e = rw (e, choose) refl
-
   took_one : (t : Lexeme) (ts : List Lexeme) (x : A) (rest : List Lexeme) (o : Option (Read A)) → pick t ≡ o → choose pick (t ∷ ts) ≡ Ok (x, rest) → Took S (t ∷ ts) x rest
-  took_one t ts x rest None e h = absurd (let k = sym (stays t ts e) ∙ h in cc)
+  took_one t ts x rest None e h = absurd (let k = sym (stays pick t ts e) ∙ h in cc)
   took_one t ts x rest (Some p) e h =
-      let two = (laws t p e).took ts x rest (sym (goes t p ts e) ∙ h) in
+      let two = (laws t p e).took ts x rest (sym (goes pick t p ts e) ∙ h) in
       record { front = t ∷ two.front; parts = ap (λ (l : List Lexeme). t ∷ l) two.parts; says = there t x two.front two.says }
 
   choose_took : (ts : List Lexeme) (x : A) (rest : List Lexeme) → choose pick ts ≡ Ok (x, rest) → Took S ts x rest
@@ -35,18 +39,18 @@ module _ {A : Type 0} (pick : Lexeme → Option (Read A)) (T : Lexeme → A → 
   choose_again : (x : A) (front rest : List Lexeme) → S x front → choose pick (front ++ rest) ≡ Ok (x, rest)
   choose_again x front rest says =
       let s = back x front says in
-      ap (λ (l : List Lexeme). choose pick (l ++ rest)) s.parts ∙ goes s.token s.way (s.back ++ rest) s.picks ∙ (laws s.token s.way s.picks).again x s.back rest s.two
+      ap (λ (l : List Lexeme). choose pick (l ++ rest)) s.parts ∙ goes pick s.token s.way (s.back ++ rest) s.picks ∙ (laws s.token s.way s.picks).again x s.back rest s.two
 
   stuck_in : (t : Lexeme) (p : Read A) (front left : List Lexeme) → pick t ≡ Some p → Stuck p front left → Stuck (choose pick) (t ∷ front) left
   stuck_in t p front [] e h = tt
-  stuck_in t p front (u ∷ us) e h = λ more. goes t p (front ++ u ∷ more) e ∙ h more
+  stuck_in t p front (u ∷ us) e h = λ more. goes pick t p (front ++ u ∷ more) e ∙ h more
 
   refused_one : (t : Lexeme) (ts left : List Lexeme) (o : Option (Read A)) → pick t ≡ o → choose pick (t ∷ ts) ≡ Err left → Refusal (choose pick) S (t ∷ ts) left
   refused_one t ts left None e h =
-      subst (λ (l : List Lexeme). Refusal (choose pick) S (t ∷ ts) l) (err_is {A = A} (t ∷ ts) left (sym (stays t ts e) ∙ h))
-      (record { front = []; parts = refl; value = live.value; rest = live.text; begun = live.says; stuck = λ more. stays t more e })
+      subst (λ (l : List Lexeme). Refusal (choose pick) S (t ∷ ts) l) (err_is {A = A} (t ∷ ts) left (sym (stays pick t ts e) ∙ h))
+      (record { front = []; parts = refl; value = live.value; rest = live.text; begun = live.says; stuck = λ more. stays pick t more e })
   refused_one t ts left (Some p) e h =
-      let two = (laws t p e).refused ts left (sym (goes t p ts e) ∙ h) in
+      let two = (laws t p e).refused ts left (sym (goes pick t p ts e) ∙ h) in
       record {
         front = t ∷ two.front;
         parts = ap (λ (l : List Lexeme). t ∷ l) two.parts;
@@ -91,6 +95,21 @@ led says t x ts s ok = subst (λ (z : _). says z (t ∷ ts)) (sym s.value) (ok s
 -- the tokens of a sentence behind one
 pub lead : {M : List Lexeme → Type 0} (t : Lexeme) (ts : List Lexeme) (s : (token t ⊕ M) ts) → ts ≡ t ∷ s.back
 lead t ts s = s.parts ∙ ap (λ (l : List Lexeme). l ++ s.back) s.one
+
+-- ---- by mark
+
+-- a sentence behind a mark
+pub record Opened {A : Type 0} (m : ℕ) (S : A → List Lexeme → Type 0) (b : ℕ) (x : A) (ts : List Lexeme) : Type 0 where
+  pub is : b ≡ m
+  pub two : S x ts
+
+pub opened_law : {A : Type 0} (m : ℕ) {p q : Read A} {S : A → List Lexeme → Type 0} (b : ℕ) (r : Bool) → Lawful p S → eqb b m ≡ r → (let o : Option (Read A) = cond r (Some p) None in o) ≡ Some q → Lawful q (Opened m S b)
+opened_law m {p} {q} {S} b true l e h = law_of (Lawful-same p S (Opened m S b) l (λ x ts s. record { is = eqb-true b m e; two = s }) (λ x ts s. s.two)) h
+opened_law m b false l e h = absurd cc
+
+-- a mark before a sentence
+pub led_by_mark : {A B : Type 0} {make : B → A} {S : B → List Lexeme → Type 0} (says : A → List Lexeme → Type 0) (m b : ℕ) (x : A) (ts : List Lexeme) → Opened m (Made make S) b x ts → ((y : B) (us : List Lexeme) → (token (Mark m) ⊕ S y) us → says (make y) us) → says x (Mark b ∷ ts)
+led_by_mark says m b x ts s ok = led says (Mark b) x ts s.two (λ y us j. ok y us (record { front = j.front; back = j.back; parts = j.parts; one = j.one ∙ ap (λ (n : ℕ). Mark n ∷ []) s.is; two = j.two }))
 
 -- ---- one token
 

@@ -5,10 +5,14 @@ pub mod LinePlaces
 pub mod TextSteps
 pub mod Lawful
 pub mod LawfulChoices
+pub mod LawfulFollowed
 pub mod TokenLaws
 pub mod ListLaws
 pub mod TypeLaws
 pub mod MemberLaws
 pub mod DeclarationLaws
+pub mod TermLaws
+pub mod ArgLaws
+pub mod CodeLaws
 pub mod FaultLaws
 pub mod LineFaults

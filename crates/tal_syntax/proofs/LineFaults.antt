@@ -1,15 +1,16 @@
 -- The first fault of a line.
 use Rattle.std.proofs.Common.{◌≡◌, ℕ, Bool, true, false, cond, List, Option, None, Result, Ok, Err}
 use Rattle.text_tokens.specs.Token.{Placed, lexemes_of}
-use Rattle.tal_syntax.specs.Grammar.{member_says, outside_says}
+use Rattle.tal_syntax.specs.Grammar.{code_says, member_says, outside_says}
 use Rattle.tal_syntax.specs.Faults.{FirstTokenFault}
-use Rattle.tal_syntax.specs.Forms.{form_at, member_at, outside_at}
+use Rattle.tal_syntax.specs.Forms.{form_at, code_at, member_at, outside_at}
 use Rattle.tal_syntax.specs.Text.{LineFault, At, line_at, whole, no_token}
 use Rattle.tal_syntax.specs.declared.form.Form.{Form}
-use Rattle.tal_syntax.specs.declared.form.Scope.TheVariants.{InClass, Outside}
+use Rattle.tal_syntax.specs.declared.form.Scope.TheVariants.{InClass, InFunc, Outside}
 use Rattle.tal_syntax.proofs.FaultLaws.{first_fault}
 use Rattle.tal_syntax.proofs.MemberLaws.{Lawful-member}
 use Rattle.tal_syntax.proofs.DeclarationLaws.{Lawful-outside}
+use Rattle.tal_syntax.proofs.CodeLaws.{Lawful-code}
 
 -- a line with a fault has a token
 not_empty : (r : Bool) (read : Result (Option Form) LineFault) (column code : ℕ) → cond r (Ok None) read ≡ Err (At column code) → read ≡ Err (At column code)
@@ -25,3 +26,8 @@ class_fault items column code e = first_fault member_at member_says Lawful-membe
 pub outside_fault : (items : List Placed) (column code : ℕ) → line_at Outside items ≡ Err (At column code) → FirstTokenFault outside_says items column code
 unfolding line_at form_at
 outside_fault items column code e = first_fault outside_at outside_says Lawful-outside items column code (not_empty (no_token (lexemes_of items)) (whole items (outside_at (lexemes_of items))) column code e)
+
+-- the fault of a line of a function
+pub code_fault : (items : List Placed) (column code : ℕ) → line_at InFunc items ≡ Err (At column code) → FirstTokenFault code_says items column code
+unfolding line_at form_at
+code_fault items column code e = first_fault code_at code_says Lawful-code items column code (not_empty (no_token (lexemes_of items)) (whole items (code_at (lexemes_of items))) column code e)

@@ -1,16 +1,25 @@
 -- The forms of lines, as sentences. The line's end is their last token.
-use Rattle.std.specs.Prelude.{◌≡◌, ◌≢◌, ℕ, ℤ, ◌≤◌, List, [], ◌∷◌, length, Bool, true, false, Option, Some, None}
+use Rattle.std.specs.Prelude.{◌≡◌, ◌≢◌, ◌⊎◌, ℕ, ℤ, pos, ◌≤◌, List, [], ◌∷◌, length, Bool, true, false, Option, Some, None}
 use Rattle.ia32_code.specs.declared.instruction.Reg.{Reg}
 use Rattle.ia32_code.specs.declared.instruction.Reg.TheVariants.{Esp}
-use Rattle.text_tokens.specs.Token.{Lexeme, Key, Register, Name, Number, Mark, EndOfLine}
+use Rattle.text_tokens.specs.Token.{Lexeme, Key, Register, Mnemonic as Operation, Name, Number, Mark, EndOfLine}
 use Rattle.text_tokens.specs.declared.token.Keyword.{Keyword}
 use Rattle.text_tokens.specs.declared.token.Keyword.TheVariants as key
 use Rattle.tal_syntax.specs.declared.form.TypeText.{TypeText}
 use Rattle.tal_syntax.specs.declared.form.TypeText.TheVariants as ty
 use Rattle.tal_syntax.specs.declared.form.RegType.{RegType}
+use Rattle.tal_syntax.specs.declared.form.Term.{Term}
+use Rattle.tal_syntax.specs.declared.form.Term.TheVariants as term
+use Rattle.tal_syntax.specs.declared.form.Arg.{Arg}
+use Rattle.tal_syntax.specs.declared.form.Arg.TheVariants as arg
+use Rattle.tal_syntax.specs.declared.instructions.Operands.{Operands}
+use Rattle.tal_syntax.specs.declared.instructions.Operands.TheVariants as operands
 use Rattle.tal_syntax.specs.declared.form.Form.{Form}
 use Rattle.tal_syntax.specs.declared.form.Form.TheVariants as form
+use Rattle.tal_syntax.specs.declared.form.Scope.{Scope}
+use Rattle.tal_syntax.specs.declared.form.Scope.TheVariants.{Outside, InClass, InFunc}
 use Rattle.tal_syntax.specs.Reading.{most}
+use Rattle.tal_syntax.specs.Operands.{factor, negated, operands_of}
 use Rattle.tal_syntax.specs.Sentences.{token, ◌⊕◌}
 
 -- ---- single tokens
@@ -106,3 +115,114 @@ member_says (form.Field n t) = keyword key.Field ⊕ name n ⊕ type_says t ⊕ 
 member_says (form.Method n s f) = keyword key.Method ⊕ name n ⊕ name s ⊕ name f ⊕ line_end
 member_says form.End = keyword key.End ⊕ line_end
 member_says _ = λ ts. ⊥
+
+-- ---- operands
+
+-- a factor of an index
+abbrev pub factor_says : ℕ → List Lexeme → Type 0
+factor_says k ts = token (Number (pos k)) ts × (factor (pos k) ≡ Some k)
+
+abbrev pub term_says : Term → List Lexeme → Type 0
+term_says (term.Register r) = token (Register r)
+term_says (term.Scaled r k) = token (Register r) ⊕ mark 42 ⊕ factor_says k
+term_says (term.Number n) = number n
+term_says (term.FieldByte c f) = keyword key.Field ⊕ name c ⊕ name f
+term_says (term.MethodByte c m) = keyword key.Method ⊕ name c ⊕ name m
+term_says (term.DisplayByte c) = keyword key.Display ⊕ name c
+term_says (term.StaticAt n) = keyword key.Static ⊕ name n
+
+-- a number whose negative is meant
+pub record Negative (x : Term) (ts : List Lexeme) : Type 0 where
+  pub written : ℤ
+  pub value : x ≡ negated written
+  pub says : number written ts
+
+-- a further term, with the sign before it
+abbrev pub signed_says : Term → List Lexeme → Type 0
+signed_says x ts = (mark 43 ⊕ term_says x) ts ⊎ (mark 45 ⊕ Negative x) ts
+
+-- the terms of a memory operand, and its closing bracket
+abbrev pub terms_says : List Term → List Lexeme → Type 0
+terms_says [] ts = ⊥
+terms_says (x ∷ xs) ts = (term_says x ⊕ more_says 93 signed_says xs) ts × (length xs ≤ most)
+
+abbrev pub arg_says : Arg → List Lexeme → Type 0
+arg_says (arg.Register r) = token (Register r)
+arg_says (arg.Number n) = number n
+arg_says (arg.Null t) = keyword key.Null ⊕ type_says t
+arg_says (arg.Tab c) = keyword key.Tab ⊕ name c
+arg_says (arg.Desc k) = keyword key.Desc ⊕ name k
+arg_says (arg.Code f) = keyword key.Code ⊕ name f
+arg_says (arg.DataOf d) = keyword key.Data ⊕ name d
+arg_says (arg.Memory xs) = mark 91 ⊕ terms_says xs
+arg_says _ = λ ts. ⊥
+
+-- the count of a shift
+abbrev pub count_says : Arg → List Lexeme → Type 0
+count_says arg.Cl = keyword key.Cl
+count_says x = arg_says x
+
+-- what a call goes to
+abbrev pub called_says : Arg → List Lexeme → Type 0
+called_says (arg.Register r) = token (Register r)
+called_says (arg.Target f) = name f
+called_says (arg.Nucleus n) = keyword key.Nucleus ⊕ number n
+called_says (arg.Memory xs) = mark 91 ⊕ terms_says xs
+called_says _ = λ ts. ⊥
+
+-- a label
+abbrev pub target_says : Arg → List Lexeme → Type 0
+target_says (arg.Target l) = name l
+target_says _ = λ ts. ⊥
+
+-- one operand alone
+abbrev pub alone_says : (Arg → List Lexeme → Type 0) → List Arg → List Lexeme → Type 0
+alone_says says (x ∷ []) = says x ⊕ line_end
+alone_says says _ = λ ts. ⊥
+
+-- two operands
+abbrev pub pair_says : (Arg → List Lexeme → Type 0) → List Arg → List Lexeme → Type 0
+pair_says says (x ∷ y ∷ []) = arg_says x ⊕ mark 44 ⊕ says y ⊕ line_end
+pair_says says _ = λ ts. ⊥
+
+-- one to three operands
+abbrev pub up_to_three_say : List Arg → List Lexeme → Type 0
+up_to_three_say (x ∷ []) = arg_says x ⊕ line_end
+up_to_three_say (x ∷ y ∷ []) = arg_says x ⊕ mark 44 ⊕ arg_says y ⊕ line_end
+up_to_three_say (x ∷ y ∷ z ∷ []) = arg_says x ⊕ mark 44 ⊕ arg_says y ⊕ mark 44 ⊕ arg_says z ⊕ line_end
+up_to_three_say _ = λ ts. ⊥
+
+-- no operand
+abbrev pub none_says : List Arg → List Lexeme → Type 0
+none_says [] = line_end
+none_says _ = λ ts. ⊥
+
+-- the operands that stand behind a mnemonic
+abbrev pub args_say : Operands → List Arg → List Lexeme → Type 0
+args_say operands.Zero = none_says
+args_say operands.One = alone_says arg_says
+args_say operands.Two = pair_says arg_says
+args_say operands.UpToThree = up_to_three_say
+args_say operands.Shifted = pair_says count_says
+args_say operands.Called = alone_says called_says
+args_say operands.Target = alone_says target_says
+
+-- ---- lines of a function
+
+-- the slots of a label, where they are given
+abbrev pub slots_says : Option (List TypeText) → List Lexeme → Type 0
+slots_says None = line_end
+slots_says (Some ts) = mark 91 ⊕ list_says 93 type_says ts ⊕ line_end
+
+abbrev pub code_says : Form → List Lexeme → Type 0
+code_says form.End = keyword key.End ⊕ line_end
+code_says (form.Label n rs slots) = name n ⊕ mark 58 ⊕ mark 40 ⊕ list_says 41 reg_type_says rs ⊕ slots_says slots
+code_says (form.Inst m xs) = token (Operation m) ⊕ args_say (operands_of m) xs
+code_says _ = λ ts. ⊥
+
+-- ---- any line
+
+abbrev pub form_says : Scope → Form → List Lexeme → Type 0
+form_says Outside = outside_says
+form_says InClass = member_says
+form_says InFunc = code_says

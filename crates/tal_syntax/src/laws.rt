@@ -2,9 +2,9 @@
 ghost use Rattle.std.specs.Prelude.{◌≡◌, ℕ, List, Err};
 ghost use Rattle.text_tokens.specs.Token.{Placed};
 ghost use Rattle.tal_syntax.specs.Faults.{FirstTokenFault};
-ghost use Rattle.tal_syntax.specs.Grammar.{member_says, outside_says};
+ghost use Rattle.tal_syntax.specs.Grammar.{code_says, member_says, outside_says};
 ghost use Rattle.tal_syntax.specs.Text.{At, line_at};
-ghost use Rattle.tal_syntax.specs.declared.form.Scope.TheVariants.{InClass, Outside};
+ghost use Rattle.tal_syntax.specs.declared.form.Scope.TheVariants.{InClass, InFunc, Outside};
 
 /// A line of a class that is refused has its first fault, by the sentences of such lines, there.
 pub fn first_fault_in_class()
@@ -14,4 +14,9 @@ pub fn first_fault_in_class()
 /// A line outside classes and functions that is refused has its first fault, by the sentences of such lines, there.
 pub fn first_fault_outside()
     ensures { (line : List Placed) (column code : ℕ) → line_at Outside line ≡ Err (At column code) → FirstTokenFault outside_says line column code }
+{}
+
+/// A line of a function that is refused has its first fault, by the sentences of such lines, there.
+pub fn first_fault_in_function()
+    ensures { (line : List Placed) (column code : ℕ) → line_at InFunc line ≡ Err (At column code) → FirstTokenFault code_says line column code }
 {}
