@@ -63,7 +63,6 @@ dead-row c e = rw e refl
 -- eight types are those of the eight registers
 eight : (ts : List Ty) → length ts ≡ 8
     → type_at ts Eax ∷ type_at ts Ecx ∷ type_at ts Edx ∷ type_at ts Ebx ∷ type_at ts Esp ∷ type_at ts Ebp ∷ type_at ts Esi ∷ type_at ts Edi ∷ [] ≡ ts
-unfolding type_at
 eight [] l = absurd (omega arith)
 eight (a ∷ []) l = absurd (omega arith)
 eight (a ∷ b ∷ []) l = absurd (omega arith)
@@ -78,5 +77,5 @@ eight (a ∷ b ∷ c ∷ d ∷ e ∷ f ∷ g ∷ h ∷ i ∷ more) l = absurd (o
 -- the row of a context that is not dead
 pub live-row : (c : Context) (regs slots refs : ℕ) → c.dead ≡ false → length c.regs ≡ 8 → regs ≡ reference_bits c.regs → slots ≡ length (live_of c).slots
     → refs ≡ reference_bits (live_of c).slots → record { regs = regs; slots = slots; refs = refs } ≡ row_in (context_of c)
-unfolding row_in context_of live_of
+unfolding row_in context_of
 live-row c regs slots refs e long r s f = rw (e, r, s, f, eight c.regs long) refl

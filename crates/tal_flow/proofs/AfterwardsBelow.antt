@@ -42,7 +42,6 @@ kind_without-below r k m e = grind (arith, same-refl, same-cases)
 
 -- a register is written: the pairs stay, where both have them
 without-below : (r : Reg) (p q : Reg → Reg → Bool) → ((i a : Reg) → q i a ≡ true → p i a ≡ true) → (i a : Reg) → without r q i a ≡ true → without r p i a ≡ true
-unfolding without
 without-below r p q h i a e = grind (arith, h i a)
 
 -- one register is written in both
@@ -99,7 +98,6 @@ with_slots-below s a b ts us h e = record { regs = h.regs; slots = e; kind = h.k
 -- a value is stored at a place that both have
 store_slot-below : (s : ShapesView) (a b : LiveContext) (p q : Place) (t u : Ty) → LiveBelow s a b → PlaceBelow s p q → is_writable q ≡ true → sub s t u ≡ true
     → LiveBelow s (store_place (Some p) t a) (store_place (Some q) u b)
-unfolding is_writable store_place
 store_slot-below s a b (Whole x) (Whole y) t u h e w f = h
 store_slot-below s a b (Slot i) (Slot j) t u h e w f = rw e (with_slots-below s a b _ _ h (all_sub-set s a.slots b.slots j t u h.slots f))
 store_slot-below s a b p q t u h e w f = absurd (grind arith)
@@ -253,7 +251,6 @@ either-below s false c d b g h = h
 -- a class test leaves the lower context below
 meet_class-less : (s : ShapesView) → ClassLaws s → (a b : LiveContext) (r : Reg) (k d : ℕ) → LiveBelow s a b → sub s (Obj k) (b.regs r) ≡ true
     → ContextBelow s (meet_class s a r k d) (Live b)
-unfolding meet_class
 meet_class-less s l a b r k d h e =
     either-below s (within s k d) _ _ (Live b)
     (λ t. refine_reg-less s a b r (Obj k) h e)
@@ -262,7 +259,6 @@ meet_class-less s l a b r k d h e =
 -- a class test of both, of objects of two classes
 meet_class-below : (s : ShapesView) → ClassLaws s → (a b : LiveContext) (r : Reg) (j k d : ℕ) → LiveBelow s a b → within s j k ≡ true
     → ContextBelow s (meet_class s a r j d) (meet_class s b r k d)
-unfolding meet_class
 meet_class-below s l a b r j k d h e = cases (within s j d) (within s d j) (within s k d) (within s d k) refl refl refl refl
   where
     cases : (p q x y : Bool) → within s j d ≡ p → within s d j ≡ q → within s k d ≡ x → within s d k ≡ y

@@ -52,7 +52,7 @@ call_of_signature-below v l a b g h = called_with-below v.shapes l a b (option_a
 
 -- an entry gives less for lower arguments
 entry_gives-below : (s : ShapesView) (k : Arguments) (t u x y : Ty) → sub s t u ≡ true → sub s x y ≡ true → CalledBelow s (entry_gives k t x) (entry_gives k u y)
-unfolding entry_gives sub
+unfolding sub
 entry_gives-below s k t u x y h g = grind arith
 
 -- a call of the same entry, or else of the same signature

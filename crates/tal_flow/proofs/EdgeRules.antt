@@ -1,51 +1,29 @@
-use Rattle.std.proofs.Common.{◌≡◌, ℕ, Bool, true, false, not, ◌&&◌, ◌||◌, if◌then◌else◌, Option, Some, None, refl, sym, ◌∙◌, ap, subst, arith}
-use Rattle.std.specs.Prelude.{MatchOption, Result, IfOk, IfErr}
-use Rattle.ia32_code.specs.declared.instruction.Cond.{Cond}
+use Rattle.std.proofs.Common.{◌≡◌, ◌⊎◌, inl, inr, ℕ, Bool, true, false, ◌&&◌, ◌||◌, [], ◌∷◌, if◌then◌else◌, Option, Some, None, refl, sym, ◌∙◌, ap, subst, arith}
+use Rattle.std.specs.Prelude.{MatchOption}
 use Rattle.std.specs.Option.{option_map, option_and_then}
+use Rattle.ia32_code.specs.declared.instruction.Cond.{Cond}
 use Rattle.ia32_code.specs.declared.instruction.Inst.{Inst}
 use Rattle.object_layout.specs.Classes.{ShapesView}
+use Rattle.tal_types.specs.declared.types.FlagKind.{FlagKind}
 use Rattle.tal_types.specs.declared.contexts.Context.{Context}
 use Rattle.tal_types.specs.Contexts.{LiveContext, ContextView, Dead, Live, context_below}
 use Rattle.tal_types.specs.Kept.{context_of, live_of}
 use Rattle.tal_types.specs.Shown.{ShownImage}
-use Rattle.tal_flow.specs.declared.edges.Edges.{Edges}
 use Rattle.tal_flow.specs.declared.edges.Told.{Told}
-use Rattle.tal_types.specs.declared.types.FlagKind.{FlagKind}
 use Rattle.tal_flow.specs.declared.forms.Form.{Form}
 use Rattle.tal_flow.specs.declared.forms.Form.TheVariants.{Refused, Return, Jump, Branch}
-use Rattle.tal_flow.specs.Forms.{form_of}
-use Rattle.tal_flow.specs.Afterwards.{after_form}
-use Rattle.tal_flow.specs.Edges.{told_by_branch, told_by_fall, refine, falling, branching, target_of, falls_to, branches_to, goes_on, is_refused}
-use Rattle.tal_flow.specs.Flows.{Flows, FormFlows}
+use Rattle.tal_flow.specs.declared.seen.Seen.{Seen}
 use Rattle.tal_flow.specs.declared.trials.RuleName.{RuleName}
 use Rattle.tal_flow.specs.declared.trials.RuleName.TheVariants as rule
-use Rattle.tal_flow.specs.Trials.{rule_number, demand}
+use Rattle.tal_flow.specs.Forms.{form_of}
+use Rattle.tal_flow.specs.Seen.{see}
+use Rattle.tal_flow.specs.Afterwards.{left_by, after_form}
+use Rattle.tal_flow.specs.Edges.{told_by_branch, told_by_fall, refine, falling, branching, target_of, falls_to, branches_to, is_refused}
 use Rattle.tal_flow.specs.Functions.{in_function}
-use Rattle.tal_flow.specs.Rules.{operand_rule, edge_fits, is_dead, edge_rule, rule_of_form, rule_of, next_address, LeastRule}
-use Rattle.tal_flow.proofs.LeastRules.{rule-least, form-none}
+use Rattle.tal_flow.specs.Trials.{rule_number, ask, first_failing}
+use Rattle.tal_flow.specs.Rules.{operand_rule, edge_fits, is_dead, edge_rule, rule_of_form, rule_of, next_address, Falls, Branches, Target}
 
 -- The edges of instructions, by their forms.
-
--- the dead context fits every block
-pub edge_fits-dead : (s : ShapesView) (o : Option ContextView) → edge_fits s Dead o ≡ true
-unfolding edge_fits context_below
-edge_fits-dead s None = refl
-edge_fits-dead s (Some c) = refl
-
--- what falls through an instruction that goes on is what it leaves
-pub goes_on-falls : (v : ShownImage) (c : LiveContext) (pc : ℕ) (f : Form) → goes_on f ≡ true → falling v c pc f ≡ Live (after_form v c pc f)
-unfolding goes_on falling
-goes_on-falls v c pc Return e = absurd (grind arith)
-goes_on-falls v c pc (Jump t) e = absurd (grind arith)
-goes_on-falls v c pc (Branch k t) e = absurd (grind arith)
-goes_on-falls v c pc f e = refl
-
--- an instruction that goes on branches nowhere
-pub goes_on-branches : (v : ShownImage) (c : LiveContext) (f : Form) → goes_on f ≡ true → branching v c f ≡ Dead
-unfolding goes_on branching
-goes_on-branches v c (Jump t) e = absurd (grind arith)
-goes_on-branches v c (Branch k t) e = absurd (grind arith)
-goes_on-branches v c f e = refl
 
 -- a live context is what it is known to be
 pub live-context : (d : Context) → d.dead ≡ false → context_of d ≡ Live (live_of d)
@@ -66,7 +44,41 @@ dead-of d = go d.dead
     go true = refl
     go false = refl
 
--- a rule of the operands, or one of the edges
+-- the refinement by what calls gave
+pub refined : (s t : ShapesView) (c : LiveContext) (k : FlagKind) (e f : Told) → s ≡ t → e ≡ f → refine s c k e ≡ refine t c k f
+refined s t c k e f p q = rw (p, q) refl
+
+-- an instruction that is no jump or branch fits whatever stands anywhere
+pub elsewhere-fits : (v : ShownImage) (c : LiveContext) (f : Form) → ((t : ℕ) → f ≡ Jump t → ⊥) → ((k : Cond) (t : ℕ) → f ≡ Branch k t → ⊥)
+    → true ≡ edge_fits v.shapes (branching v c f) (option_and_then v.block_at (target_of f))
+unfolding edge_fits branching target_of
+elsewhere-fits v c (Jump t) j b = absurd (j t refl)
+elsewhere-fits v c (Branch k t) j b = absurd (b k t refl)
+elsewhere-fits v c f j b = refl
+
+-- it falls through with what it leaves
+pub left-falls : (v : ShownImage) (c : LiveContext) (pc : ℕ) (f : Form) (seen : Seen) (d : Context) → d.dead ≡ false → live_of d ≡ left_by seen c → seen ≡ see v c pc f
+    → (f ≡ Return → ⊥) → ((t : ℕ) → f ≡ Jump t → ⊥) → ((k : Cond) (t : ℕ) → f ≡ Branch k t → ⊥) → context_of d ≡ falling v c pc f
+unfolding falling after_form
+left-falls v c pc f seen d e k is r j b = live-context d e ∙ ap Live (k ∙ ap (λ (s : Seen). left_by s c) is) ∙ sym (go f r j b)
+  where
+    go : (f : Form) → (f ≡ Return → ⊥) → ((t : ℕ) → f ≡ Jump t → ⊥) → ((k : Cond) (t : ℕ) → f ≡ Branch k t → ⊥) → falling v c pc f ≡ Live (left_by (see v c pc f) c)
+    go Return r j b = absurd (r refl)
+    go (Jump t) r j b = absurd (j t refl)
+    go (Branch k t) r j b = absurd (b k t refl)
+    go f r j b = refl
+
+-- a branch falls through with what is refined
+pub branch-falls : (v : ShownImage) (c : LiveContext) (pc : ℕ) (f : Form) (k : Cond) (t : ℕ) (d : ContextView) → f ≡ Branch k t → d ≡ refine v.shapes c c.kind (told_by_fall k)
+    → d ≡ falling v c pc f
+unfolding falling
+branch-falls v c pc f k t d is h = rw is h
+
+-- nothing falls through a RET or a JMP
+pub nothing-falls : (v : ShownImage) (c : LiveContext) (pc : ℕ) (f : Form) → (f ≡ Return) ⊎ ((t : ℕ) × (f ≡ Jump t)) → Dead ≡ falling v c pc f
+unfolding falling
+nothing-falls v c pc f (inl is) = rw is refl
+nothing-falls v c pc f (inr (t, is)) = rw is refl
 
 -- a rule of the operands that fails is the least
 pub operand-fails : (v : ShownImage) (c : LiveContext) (pc next : ℕ) (r : RuleName) (f : Form) → operand_rule v c pc f ≡ Some r → rule_of_form v (Live c) pc next f ≡ Some r
@@ -74,227 +86,108 @@ unfolding rule_of_form
 operand-fails v c pc next r f e = rw e refl
 
 -- where no rule of the operands fails, the edges decide
-edge-fails : (v : ShownImage) (c : LiveContext) (pc next : ℕ) (f : Form) (o : Option RuleName) → operand_rule v c pc f ≡ None → edge_rule v c pc next f ≡ o
-    → rule_of_form v (Live c) pc next f ≡ o
-unfolding rule_of_form
-edge-fails v c pc next f o e g = rw (e, g) refl
-
--- the rules 16 and 17 by their two tests
-abbrev by_edges : Bool → Bool → Option RuleName
-by_edges fits stays = if fits then (if stays then None else Some rule.FunctionEnd) else Some rule.Annotation
-
-demands : (x y : Bool) → demand rule.Annotation x (demand rule.FunctionEnd y None) ≡ by_edges x y
-demands true true = refl
-demands true false = refl
-demands false y = refl
-
--- the rules 16 and 17 of an instruction that falls through
-fall-rules : (v : ShownImage) (c : LiveContext) (pc next : ℕ) (f : Form) → goes_on f ≡ true
-    → edge_rule v c pc next f ≡ by_edges (edge_fits v.shapes (Live (after_form v c pc f)) (v.block_at next)) (in_function v pc next)
-unfolding edge_rule is_dead
-fall-rules v c pc next f e =
-    let a = goes_on-falls v c pc f e in
-    let b = goes_on-branches v c f e in
-    rw (a, b, edge_fits-dead v.shapes (option_and_then v.block_at (target_of f))) (demands (edge_fits v.shapes (Live (after_form v c pc f)) (v.block_at next)) (in_function v pc next))
-
--- what the code keeps is what the instruction leaves
-left : (v : ShownImage) (c : LiveContext) (pc : ℕ) (f : Form) (d : Context) → d.dead ≡ false → live_of d ≡ after_form v c pc f → context_of d ≡ Live (after_form v c pc f)
-left v c pc f d e k = live-context d e ∙ ap Live k
-
--- what falls through is not below the annotation
-pub fall-sixteen : (v : ShownImage) (c : LiveContext) (pc next : ℕ) (f : Form) (d : Context) → goes_on f ≡ true → operand_rule v c pc f ≡ None → d.dead ≡ false
-    → live_of d ≡ after_form v c pc f → edge_fits v.shapes (context_of d) (v.block_at next) ≡ false → rule_of_form v (Live c) pc next f ≡ Some rule.Annotation
-fall-sixteen v c pc next f d g op e k h =
-    let i = rw (left v c pc f d e k) at h in
-    edge-fails v c pc next f (Some rule.Annotation) op (rw (fall-rules v c pc next f g, i) refl)
-
--- the next instruction, a block, is not of the function
-pub fall-seventeen : (v : ShownImage) (c : LiveContext) (pc next : ℕ) (f : Form) (d : Context) → goes_on f ≡ true → operand_rule v c pc f ≡ None → d.dead ≡ false
-    → live_of d ≡ after_form v c pc f → edge_fits v.shapes (context_of d) (v.block_at next) ≡ true → in_function v pc next ≡ false
-    → rule_of_form v (Live c) pc next f ≡ Some rule.FunctionEnd
-fall-seventeen v c pc next f d g op e k h j =
-    let i = rw (left v c pc f d e k) at h in
-    edge-fails v c pc next f (Some rule.FunctionEnd) op (rw (fall-rules v c pc next f g, i, j) refl)
-
--- where no block is
-pub fits-nothing : (v : ShownImage) (c : ContextView) (next : ℕ) (o : Option Context) → option_map context_of o ≡ v.block_at next → o ≡ None
-    → edge_fits v.shapes c (v.block_at next) ≡ true
-unfolding edge_fits
-fits-nothing v c next None h e = rw (sym h) refl
-fits-nothing v c next (Some d) h e = absurd (grind arith)
-
--- the same where no context was made for it
-pub fall-outside : (v : ShownImage) (c : LiveContext) (pc next : ℕ) (f : Form) → goes_on f ≡ true → operand_rule v c pc f ≡ None
-    → edge_fits v.shapes (Live (after_form v c pc f)) (v.block_at next) ≡ true → in_function v pc next ≡ false → rule_of_form v (Live c) pc next f ≡ Some rule.FunctionEnd
-fall-outside v c pc next f g op h j = edge-fails v c pc next f (Some rule.FunctionEnd) op (rw (fall-rules v c pc next f g, h, j) refl)
-
--- no rule fails, and what falls through is kept
-pub fall-flows : (v : ShownImage) (c : LiveContext) (pc next : ℕ) (f : Form) (d : Context) → goes_on f ≡ true → operand_rule v c pc f ≡ None → d.dead ≡ false
-    → live_of d ≡ after_form v c pc f → edge_fits v.shapes (context_of d) (v.block_at next) ≡ true → in_function v pc next ≡ true
-    → FormFlows v (Live c) pc next f (context_of d) (record { branch = None; falls = true })
-unfolding falls_to branches_to is_dead
-fall-flows v c pc next f d g op e k h j =
-    let i = rw (left v c pc f d e k) at h in
-    record {
-      none_fails = form-none v (Live c) pc next f (edge-fails v c pc next f None op (rw (fall-rules v c pc next f g, i, j) refl));
-      falls = left v c pc f d e k ∙ sym (goes_on-falls v c pc f g);
-      falls_on = rw (goes_on-falls v c pc f g) refl;
-      branch = goes_on-branches v c f g;
-    }
-
--- RET
-
--- no rule of RET fails
-pub return-flows : (v : ShownImage) (c : LiveContext) (pc next : ℕ) (f : Form) (d : Context) → f ≡ Return → operand_rule v c pc f ≡ None → d.dead ≡ true
-    → FormFlows v (Live c) pc next f (context_of d) (record { branch = None; falls = false })
-unfolding falls_to branches_to is_dead falling branching edge_rule target_of
-return-flows v c pc next Return d g op e = record {
-  none_fails = form-none v (Live c) pc next Return (edge-fails v c pc next Return None op (rw (edge_fits-dead v.shapes None, edge_fits-dead v.shapes (v.block_at next)) refl));
-  falls = dead-context d e;
-  falls_on = refl;
-  branch = refl;
-}
-return-flows v c pc next f d g op e = absurd (grind arith)
-
--- JMP
-
--- the rules 16 and 17 of a jump
-jump-rules : (v : ShownImage) (c : LiveContext) (pc next t : ℕ) → edge_rule v c pc next (Jump t) ≡ (if edge_fits v.shapes (Live c) (v.block_at t) then None else Some rule.Annotation)
-unfolding edge_rule is_dead branching falling target_of
-jump-rules v c pc next t = rw (edge_fits-dead v.shapes (v.block_at next)) (go (edge_fits v.shapes (Live c) (v.block_at t)))
-  where
-    go : (x : Bool) → demand rule.Annotation (x && true) (demand rule.FunctionEnd true None) ≡ (if x then None else Some rule.Annotation)
-    go true = refl
-    go false = refl
-
--- what a jump takes along is not below the annotation
-pub jump-sixteen : (v : ShownImage) (d : Context) (pc next t : ℕ) → operand_rule v (live_of d) pc (Jump t) ≡ None → d.dead ≡ false
-    → edge_fits v.shapes (context_of d) (v.block_at t) ≡ false → rule_of_form v (Live (live_of d)) pc next (Jump t) ≡ Some rule.Annotation
-jump-sixteen v d pc next t op e h =
-    let i = rw (live-context d e) at h in
-    edge-fails v (live_of d) pc next (Jump t) (Some rule.Annotation) op (rw (jump-rules v (live_of d) pc next t, i) refl)
-
--- no rule of a jump fails
-pub jump-flows : (v : ShownImage) (d after : Context) (pc next t : ℕ) → operand_rule v (live_of d) pc (Jump t) ≡ None → d.dead ≡ false
-    → edge_fits v.shapes (context_of d) (v.block_at t) ≡ true → after.dead ≡ true
-    → FormFlows v (Live (live_of d)) pc next (Jump t) (context_of after) (record { branch = Some (t, d); falls = false })
-unfolding falls_to branches_to is_dead falling branching target_of
-jump-flows v d after pc next t op e h g =
-    let i = rw (live-context d e) at h in
-    record {
-      none_fails = form-none v (Live (live_of d)) pc next (Jump t) (edge-fails v (live_of d) pc next (Jump t) None op (rw (jump-rules v (live_of d) pc next t, i) refl));
-      falls = dead-context after g;
-      falls_on = refl;
-      branch = (refl, live-context d e, e);
-    }
-
--- Jcc
-
--- the rules 16 and 17 of a branch
-branch-rules : (v : ShownImage) (c : LiveContext) (pc next t : ℕ) (k : Cond)
-    → edge_rule v c pc next (Branch k t) ≡ by_edges
-    (edge_fits v.shapes (refine v.shapes c c.kind (told_by_branch k)) (v.block_at t) && edge_fits v.shapes (refine v.shapes c c.kind (told_by_fall k)) (v.block_at next))
-    (is_dead (refine v.shapes c c.kind (told_by_fall k)) || in_function v pc next)
-unfolding edge_rule branching falling target_of
-branch-rules v c pc next t k = demands _ _
-
--- what the code keeps on both edges
-pub record Refined (v : ShownImage) (d : Context) (k : Cond) (p q : Context) : Type 0 where
-  pub taken : context_of p ≡ refine v.shapes (live_of d) d.kind (told_by_branch k)
-  pub fallen : context_of q ≡ refine v.shapes (live_of d) d.kind (told_by_fall k)
-
--- the same by what the code keeps on both edges
-kept-rules : (v : ShownImage) (d : Context) (pc next t : ℕ) (k : Cond) (p q : Context) → Refined v d k p q
-    → edge_rule v (live_of d) pc next (Branch k t) ≡ by_edges
-    (edge_fits v.shapes (context_of p) (v.block_at t) && edge_fits v.shapes (context_of q) (v.block_at next))
-    (is_dead (context_of q) || in_function v pc next)
-unfolding live_of
-kept-rules v d pc next t k p q h = rw (h.taken, h.fallen) (branch-rules v (live_of d) pc next t k)
-
--- what one of the ways takes along is not below the annotation there
-pub branch-sixteen : (v : ShownImage) (d : Context) (pc next t : ℕ) (k : Cond) (p q : Context) → operand_rule v (live_of d) pc (Branch k t) ≡ None → Refined v d k p q
-    → (edge_fits v.shapes (context_of p) (v.block_at t) && edge_fits v.shapes (context_of q) (v.block_at next)) ≡ false
-    → rule_of_form v (Live (live_of d)) pc next (Branch k t) ≡ Some rule.Annotation
-branch-sixteen v d pc next t k p q op h e = edge-fails v (live_of d) pc next (Branch k t) (Some rule.Annotation) op (rw (kept-rules v d pc next t k p q h, e) refl)
-
--- a run may fall out of the function
-pub branch-seventeen : (v : ShownImage) (d : Context) (pc next t : ℕ) (k : Cond) (p q : Context) → operand_rule v (live_of d) pc (Branch k t) ≡ None → Refined v d k p q
-    → (edge_fits v.shapes (context_of p) (v.block_at t) && edge_fits v.shapes (context_of q) (v.block_at next)) ≡ true
-    → (is_dead (context_of q) || in_function v pc next) ≡ false → rule_of_form v (Live (live_of d)) pc next (Branch k t) ≡ Some rule.FunctionEnd
-branch-seventeen v d pc next t k p q op h e f = edge-fails v (live_of d) pc next (Branch k t) (Some rule.FunctionEnd) op (rw (kept-rules v d pc next t k p q h, e, f) refl)
-
--- the edge that is answered
-taken-edge : (v : ShownImage) (d : Context) (t : ℕ) (k : Cond) (p : Context) (o : Option (ℕ × Context)) → context_of p ≡ branches_to v (Live (live_of d)) (Branch k t)
-    → MatchOption o (p.dead ≡ true) (λ b. (b.0 ≡ t) × (b.1 ≡ p) × (p.dead ≡ false))
-    → MatchOption o (branches_to v (Live (live_of d)) (Branch k t) ≡ Dead) (λ b. (target_of (Branch k t) ≡ Some b.0) × (context_of b.1 ≡ branches_to v (Live (live_of d)) (Branch k t)) × (b.1.dead ≡ false))
-unfolding target_of
-taken-edge v d t k p None h m = sym h ∙ dead-context p m
-taken-edge v d t k p (Some b) h m = (ap Some (sym m.0), ap context_of m.1 ∙ h, ap (λ (x : Context). x.dead) m.1 ∙ m.2)
-
--- no rule of a branch fails
-pub branch-flows : (v : ShownImage) (d : Context) (pc next t : ℕ) (k : Cond) (p q : Context) (edges : Edges) → operand_rule v (live_of d) pc (Branch k t) ≡ None
-    → Refined v d k p q → (edge_fits v.shapes (context_of p) (v.block_at t) && edge_fits v.shapes (context_of q) (v.block_at next)) ≡ true
-    → (is_dead (context_of q) || in_function v pc next) ≡ true → edges.falls ≡ not q.dead
-    → MatchOption edges.branch (p.dead ≡ true) (λ b. (b.0 ≡ t) × (b.1 ≡ p) × (p.dead ≡ false)) → FormFlows v (Live (live_of d)) pc next (Branch k t) (context_of q) edges
-unfolding falls_to branches_to falling branching live_of
-branch-flows v d pc next t k p q edges op h e f g m = record {
-  none_fails = form-none v (Live (live_of d)) pc next (Branch k t) (edge-fails v (live_of d) pc next (Branch k t) None op (rw (kept-rules v d pc next t k p q h, e, f) refl));
-  falls = h.fallen;
-  falls_on = g ∙ ap not (sym (dead-of q) ∙ ap is_dead h.fallen);
-  branch = taken-edge v d t k p edges.branch h.taken m;
-}
-
--- the refinement by what calls gave
-pub refined : (s t : ShapesView) (c : LiveContext) (k : FlagKind) (e f : Told) → s ≡ t → e ≡ f → refine s c k e ≡ refine t c k f
-refined s t c k e f p q = rw (p, q) refl
+pub edges-decide : (v : ShownImage) (c : LiveContext) (pc next : ℕ) (f : Form) (b : Bool) (d : ContextView) → operand_rule v c pc f ≡ None
+    → b ≡ edge_fits v.shapes (branching v c f) (option_and_then v.block_at (target_of f)) → d ≡ falling v c pc f
+    → first_failing (ask rule.Annotation (b && edge_fits v.shapes d (v.block_at next)) ∷ ask rule.FunctionEnd (is_dead d || in_function v pc next) ∷ []) ≡ rule_of_form v (Live c) pc next f
+unfolding rule_of_form edge_rule
+edges-decide v c pc next f b d op e g = rw (op, e, g) refl
 
 -- the dead context
 
--- rule 1 fails at a refused form in the dead context
-pub dead-fails : (v : ShownImage) (d : Context) (pc next : ℕ) (form : Form) → d.dead ≡ true → is_refused form ≡ true
-    → rule_of_form v (context_of d) pc next form ≡ Some rule.Instruction
+-- rule 1 fails at a refused form, and no rule at another
+pub dead-rule : (v : ShownImage) (d : Context) (pc next : ℕ) (f : Form) (b : Bool) → d.dead ≡ true → is_refused f ≡ b
+    → (if b then Some rule.Instruction else None) ≡ rule_of_form v (context_of d) pc next f
 unfolding rule_of_form
-dead-fails v d pc next Refused e r = rw (dead-context d e) refl
-dead-fails v d pc next form e r = absurd (grind arith)
+dead-rule v d pc next f b e r = ap (λ x. if x then Some rule.Instruction else None) (sym r) ∙ go f ∙ ap (λ x. rule_of_form v x pc next f) (sym (dead-context d e))
+  where
+    go : (f : Form) → (if is_refused f then Some rule.Instruction else None) ≡ rule_of_form v Dead pc next f
+    go Refused = refl
+    go f = refl
 
--- none fails there at another form
-no-dead-rule : (v : ShownImage) (pc next : ℕ) (form : Form) → is_refused form ≡ false → rule_of_form v Dead pc next form ≡ None
-unfolding rule_of_form
-no-dead-rule v pc next Refused r = absurd (grind arith)
-no-dead-rule v pc next form r = refl
-
--- and nothing goes on from there
-pub dead-flows : (v : ShownImage) (d : Context) (pc next : ℕ) (form : Form) → d.dead ≡ true → is_refused form ≡ false
-    → FormFlows v (context_of d) pc next form (context_of d) (record { branch = None; falls = false })
-unfolding falls_to branches_to is_dead
-dead-flows v d pc next form e r =
-    rw (dead-context d e)
-    (record { none_fails = form-none v Dead pc next form (no-dead-rule v pc next form r); falls = refl; falls_on = refl; branch = refl })
+-- and nothing falls from there
+pub dead-falls : (v : ShownImage) (d : Context) (pc : ℕ) (f : Form) → d.dead ≡ true → context_of d ≡ falls_to v (context_of d) pc f
+unfolding falls_to
+dead-falls v d pc f e = rw (dead-context d e) refl
 
 -- a context that is not dead
 
--- no rule fails in it
-pub live-flows : (v : ShownImage) (d : Context) (pc next : ℕ) (form : Form) (after : ContextView) → d.dead ≡ false → (r : Result Edges RuleName)
-    → IfOk r (λ edges. FormFlows v (Live (live_of d)) pc next form after edges) → IfOk r (λ edges. FormFlows v (context_of d) pc next form after edges)
-live-flows v d pc next form after e r h = rw (live-context d e) h
+-- its rule is that of what is known in it
+pub live-rule : (v : ShownImage) (d : Context) (pc next : ℕ) (f : Form) (o : Option RuleName) → d.dead ≡ false → o ≡ rule_of_form v (Live (live_of d)) pc next f
+    → o ≡ rule_of_form v (context_of d) pc next f
+live-rule v d pc next f o e h = h ∙ ap (λ x. rule_of_form v x pc next f) (sym (live-context d e))
 
--- a rule fails in it
-pub live-fails : (v : ShownImage) (d : Context) (pc next : ℕ) (form : Form) → d.dead ≡ false → (r : Result Edges RuleName)
-    → IfErr r (λ q. rule_of_form v (Live (live_of d)) pc next form ≡ Some q) → IfErr r (λ q. rule_of_form v (context_of d) pc next form ≡ Some q)
-live-fails v d pc next form e r h = rw (live-context d e) h
+-- and so is what falls through
+pub live-falls : (v : ShownImage) (d : Context) (pc : ℕ) (f : Form) (after : ContextView) → d.dead ≡ false → after ≡ falling v (live_of d) pc f
+    → after ≡ falls_to v (context_of d) pc f
+unfolding falls_to
+live-falls v d pc f after e h = rw (live-context d e) h
+
+-- where runs go
+
+-- what a live context takes along
+live-branches : (v : ShownImage) (d : Context) (f : Form) → d.dead ≡ false → branches_to v (context_of d) f ≡ branching v (live_of d) f
+unfolding branches_to
+live-branches v d f e = rw (live-context d e) refl
+
+-- a jump takes along what is known before it
+pub jump-branches : (v : ShownImage) (d : Context) (f : Form) (t : ℕ) → d.dead ≡ false → f ≡ Jump t → context_of d ≡ branches_to v (context_of d) f
+unfolding branching
+jump-branches v d f t e is = live-context d e ∙ sym (live-branches v d f e ∙ ap (branching v (live_of d)) is)
+
+-- a branch takes along what is refined
+pub taken-branches : (v : ShownImage) (d : Context) (f : Form) (k : Cond) (t : ℕ) (c : ContextView) → d.dead ≡ false → f ≡ Branch k t
+    → c ≡ refine v.shapes (live_of d) d.kind (told_by_branch k) → c ≡ branches_to v (context_of d) f
+unfolding branching
+taken-branches v d f k t c e is h = h ∙ sym (live-branches v d f e ∙ ap (branching v (live_of d)) is)
+
+-- nothing branches from a dead context
+pub dead-branches : (v : ShownImage) (d : Context) (f : Form) → d.dead ≡ true → branches_to v (context_of d) f ≡ Dead
+unfolding branches_to
+dead-branches v d f e = rw (dead-context d e) refl
+
+-- nor from an instruction that is no jump or branch
+pub nowhere-branches : (v : ShownImage) (d : Context) (f : Form) → d.dead ≡ false → ((t : ℕ) → f ≡ Jump t → ⊥) → ((k : Cond) (t : ℕ) → f ≡ Branch k t → ⊥)
+    → branches_to v (context_of d) f ≡ Dead
+unfolding branching
+nowhere-branches v d f e j b = live-branches v d f e ∙ go f j b
+  where
+    go : (f : Form) → ((t : ℕ) → f ≡ Jump t → ⊥) → ((k : Cond) (t : ℕ) → f ≡ Branch k t → ⊥) → branching v (live_of d) f ≡ Dead
+    go (Jump t) j b = absurd (j t refl)
+    go (Branch k t) j b = absurd (b k t refl)
+    go f j b = refl
 
 -- from forms to instructions
 
--- no rule of the instruction fails where none of its form does
-pub whole-flows : (v : ShownImage) (c : ContextView) (pc next : ℕ) (form : Form) (inst : Inst) (len : ℕ) (after : ContextView) (edges : Edges) → next ≡ next_address pc len
-    → form ≡ form_of next inst → FormFlows v c pc next form after edges → Flows v c pc inst len after edges
-whole-flows v c pc next form inst len after edges n f h =
-    subst (λ x. FormFlows v c pc x (form_of x inst) after edges) n (subst (λ x. FormFlows v c pc next x after edges) f h)
-
--- the least rule of the instruction is that of its form
-pub whole-fails : (v : ShownImage) (c : ContextView) (pc next : ℕ) (form : Form) (inst : Inst) (len : ℕ) (r : RuleName) → next ≡ next_address pc len → form ≡ form_of next inst
-    → rule_of_form v c pc next form ≡ Some r → LeastRule v c pc inst len (rule_number r)
+-- the rule of an instruction is that of its form
+pub whole-rule : (v : ShownImage) (c : ContextView) (pc next : ℕ) (f : Form) (inst : Inst) (len : ℕ) (o : Option RuleName) → next ≡ next_address pc len → f ≡ form_of next inst
+    → o ≡ rule_of_form v c pc next f → rule_of v c pc inst len ≡ option_map rule_number o
 unfolding rule_of
-whole-fails v c pc next form inst len r n f h =
-    let i = subst (λ x. rule_of_form v c pc x (form_of x inst) ≡ Some r) n (subst (λ x. rule_of_form v c pc next x ≡ Some r) f h) in
-    rule-least v c pc inst len (rule_number r) (ap (option_map rule_number) i)
+whole-rule v c pc next f inst len o n is h =
+    ap (option_map rule_number) (sym (h ∙ ap (rule_of_form v c pc next) is ∙ ap (λ x. rule_of_form v c pc x (form_of x inst)) n))
+
+-- and what falls through it is what falls through its form
+pub whole-falls : (v : ShownImage) (c : ContextView) (pc next : ℕ) (f : Form) (inst : Inst) (len : ℕ) (after : ContextView) → next ≡ next_address pc len → f ≡ form_of next inst
+    → after ≡ falls_to v c pc f → after ≡ Falls v c pc inst len
+unfolding Falls
+whole-falls v c pc next f inst len after n is h = h ∙ ap (falls_to v c pc) is ∙ ap (λ x. falls_to v c pc (form_of x inst)) n
+
+-- what an edge of a form takes along, its instruction takes along
+pub whole-branch : (v : ShownImage) (c : ContextView) (pc : ℕ) (f : Form) (inst : Inst) (len : ℕ) (o : Option (ℕ × Context)) → f ≡ form_of (next_address pc len) inst
+    → MatchOption o (branches_to v c f ≡ Dead) (λ b. (target_of f ≡ Some b.0) × (context_of b.1 ≡ branches_to v c f) × (b.1.dead ≡ false))
+    → MatchOption o (Branches v c pc inst len ≡ Dead) (λ b. (Target pc inst len ≡ Some b.0) × (context_of b.1 ≡ Branches v c pc inst len) × (b.1.dead ≡ false))
+unfolding Branches Target
+whole-branch v c pc f inst len o is h =
+    subst (λ x. MatchOption o (branches_to v c x ≡ Dead) (λ b. (target_of x ≡ Some b.0) × (context_of b.1 ≡ branches_to v c x) × (b.1.dead ≡ false))) is h
+
+-- the annotation at a jump's target
+pub jump-fits : (v : ShownImage) (d : Context) (f : Form) (t : ℕ) (b : Bool) → d.dead ≡ false → f ≡ Jump t → b ≡ edge_fits v.shapes (context_of d) (v.block_at t)
+    → b ≡ edge_fits v.shapes (branching v (live_of d) f) (option_and_then v.block_at (target_of f))
+unfolding branching target_of
+jump-fits v d f t b e is h = rw is (h ∙ ap (λ x. edge_fits v.shapes x (v.block_at t)) (live-context d e))
+
+-- the annotation at a branch's target
+pub taken-fits : (v : ShownImage) (d : Context) (f : Form) (k : Cond) (t : ℕ) (taken : ContextView) (b : Bool) → f ≡ Branch k t
+    → taken ≡ refine v.shapes (live_of d) d.kind (told_by_branch k) → b ≡ edge_fits v.shapes taken (v.block_at t)
+    → b ≡ edge_fits v.shapes (branching v (live_of d) f) (option_and_then v.block_at (target_of f))
+unfolding branching target_of
+taken-fits v d f k t taken b is made h = rw is (h ∙ ap (λ x. edge_fits v.shapes x (v.block_at t)) made)

@@ -20,7 +20,7 @@ use Rattle.tal_flow.specs.Afterwards.{without}
 
 -- the type of each register when one is written
 pub type_at-set : (xs : List Ty) (r q : Reg) (t : Ty) → length xs ≡ 8 → type_at (set xs (number r) t) q ≡ (if same q r then t else type_at xs q)
-unfolding type_at same
+unfolding same
 type_at-set xs r q t h = grind (arith, common_steps)
 
 -- ESP's type, when another register is written
@@ -66,7 +66,6 @@ both-in-order p x y = grind arith
 
 -- the pairs that do not name a register
 pub pairs-without : (bits : ℕ) (r i a : Reg) → pair_in (bit_and bits (get_or KEPT (number r) 0)) i a ≡ without r (pair_in bits) i a
-unfolding without
 pairs-without bits r i a =
     pair_in-and bits (get_or KEPT (number r) 0) i a
     ∙ ap (λ b. pair_in bits i a && b) (kept-mask r i a)
@@ -189,7 +188,7 @@ take-dropped ys xs d n l m h e f =
 
 -- a call leaves EAX alone
 pub type_at-first : (t : Ty) (r : Reg) → type_at (t ∷ Junk ∷ Junk ∷ Junk ∷ Junk ∷ Junk ∷ Junk ∷ Junk ∷ []) r ≡ (if same r Eax then t else Junk)
-unfolding type_at same
+unfolding same
 type_at-first t Eax = refl
 type_at-first t Ecx = refl
 type_at-first t Edx = refl
@@ -206,7 +205,6 @@ esp-other xs r t h f e = grind (arith, common_steps)
 
 -- the depth of a context is the number of its slots
 pub depth-of : (c : Context) → length c.slots ≡ 64 → length (live_of c).slots ≡ c.depth
-unfolding live_of
 depth-of c l = length-within c.depth c.slots (let s = c.shallow in omega arith)
 
 -- a slot of the frame is below the depth
@@ -230,7 +228,6 @@ length-most (suc d) (x ∷ xs) = let l = length-most d xs in omega arith
 
 -- there are at most as many slots as the depth says
 pub depth-most : (c : Context) → length (live_of c).slots ≤ c.depth
-unfolding live_of
 depth-most c = length-most c.depth c.slots
 
 -- what stands in slot 0

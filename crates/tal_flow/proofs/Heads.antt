@@ -37,7 +37,7 @@ head-above s a (Live b) h one = λ t r q e f. one t r q (h.heads t r e) (h.heads
 
 -- a write adds no head
 write-head : (c : LiveContext) (r : Reg) (t : Ty) → OneHead c → OneHead (write r t c)
-unfolding write without
+unfolding write
 write-head c r t h = λ i a b e f. h i a b (grind arith) (grind arith)
 
 -- nor does the upper half of a wide result
@@ -53,7 +53,6 @@ give_kind-head c k h = h
 
 -- nor a value at a place
 store_place-head : (c : LiveContext) (p : Option Place) (t : Ty) → OneHead c → OneHead (store_place p t c)
-unfolding store_place
 store_place-head c (Some (Slot i)) t h = h
 store_place-head c p t h = h
 
@@ -69,7 +68,7 @@ store-head c d t h = go d.operand
 
 -- a register that was just written has no head yet
 add-head-one : (c : LiveContext) (r b : Reg) (t : Ty) → OneHead c → OneHead (add_head r b (write r t c))
-unfolding add_head write without
+unfolding add_head write
 add-head-one c r b t h = λ i x y e f. one_of c r b t h i x y e f
   where
     one_of : (c : LiveContext) (r b : Reg) (t : Ty) → OneHead c → (i x y : Reg) → (same i r && same x b || not (same i r) && (not (same x r) && c.heads i x)) ≡ true
@@ -124,7 +123,6 @@ refine_reg-head c r t h = h
 
 -- nor does a class test
 meet_class-head : (s : ShapesView) (c : LiveContext) (r : Reg) (k d : ℕ) → OneHead c → HasOneHead (meet_class s c r k d)
-unfolding meet_class
 meet_class-head s c r k d h =
     either-head (within s k d) _ _ (refine_reg-head c r (Obj k) h)
     (either-head (within s d k) (Live (refine_reg r (Obj d) c)) Dead (refine_reg-head c r (Obj d) h) tt)

@@ -48,7 +48,6 @@ write_high-esp c true h = write-esp c Edx Num refl h
 
 -- a value at a place leaves all registers
 store_place-esp : (c : LiveContext) (p : Option Place) (t : Ty) → c.regs Esp ≡ Junk → (store_place p t c).regs Esp ≡ Junk
-unfolding store_place
 store_place-esp c (Some (Slot i)) t h = h
 store_place-esp c p t h = h
 
@@ -71,7 +70,7 @@ note_head-esp c d p h = h
 
 -- what an instruction leaves, where no rule of its operands fails
 after_form-esp : (v : ShownImage) (c : LiveContext) (pc : ℕ) (f : Form) → operand_rule v c pc f ≡ None → c.regs Esp ≡ Junk → (after_form v c pc f).regs Esp ≡ Junk
-unfolding after_form operand_rule address_spares_esp give_kind pop_to after_call same
+unfolding after_form operand_rule give_kind pop_to after_call same
 after_form-esp v c pc (Compute xs d wide k) e h = write_high-esp _ wide (store-esp v c pc d Num (grind arith) h)
 after_form-esp v c pc (Move d x) e h = note_head-esp _ d (operand_place v c x) (store-esp v c pc d _ (grind arith) h)
 after_form-esp v c pc (Address r m) e h = write-esp c r Num (grind arith) h
@@ -97,7 +96,6 @@ not_null-junk t e = grind arith
 
 -- a class test of a register that is not ESP
 meet_class-esp : (s : ShapesView) (c : LiveContext) (r : Reg) (k d : ℕ) → (r ≡ Esp → ⊥) → c.regs Esp ≡ Junk → HasJunkEsp (meet_class s c r k d)
-unfolding meet_class
 meet_class-esp s c r k d e h =
     either-esp (within s k d) _ _ (refine_reg-esp c r (Obj k) (λ g. absurd (e g)) h)
     (either-esp (within s d k) (Live (refine_reg r (Obj d) c)) Dead (refine_reg-esp c r (Obj d) (λ g. absurd (e g)) h) tt)

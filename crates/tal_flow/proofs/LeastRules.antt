@@ -171,7 +171,3 @@ module _ (v : ShownImage) (c : ContextView) (pc : ℕ) (inst : Inst) (len : ℕ)
       go : (o : Option ℕ) → rule_of v c pc inst len ≡ o → o ≡ None
       go None e = refl
       go (Some m) e = absurd (none m (rule-least m e).fails)
-
--- no rule of a form fails where none is the first
-pub form-none : (v : ShownImage) (c : ContextView) (pc next : ℕ) (form : Form) → rule_of_form v c pc next form ≡ None → (n : ℕ) → fails_in (trials v c pc next form) n ≡ true → ⊥
-form-none v c pc next form e n f = not-both (fails_in (trials v c pc next form) n) (first-none (trials v c pc next form) n (sym (first-of-form v c pc next form) ∙ e)) f

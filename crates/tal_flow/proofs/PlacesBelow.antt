@@ -77,7 +77,6 @@ if-both P false x y z w p q = q
 
 -- heads and fields
 pub object_place-below : (s : ShapesView) → ClassLaws s → (r : Reg) (c d n : ℕ) → within s c d ≡ true → FoundBelow s (object_place s r c n) (object_place s r d n)
-unfolding object_place
 object_place-below s l r c d n h =
     if-both (FoundBelow s) _ (Some (Head r c)) (field_place (field_at s c n)) (Some (Head r d)) (field_place (field_at s d n))
     (refl, h)
@@ -85,7 +84,6 @@ object_place-below s l r c d n h =
 
 -- methods and displays
 pub table_place-below : (s : ShapesView) → ClassLaws s → (r : Reg) (c d n : ℕ) → within s c d ≡ true → FoundBelow s (table_place s r c n) (table_place s r d n)
-unfolding table_place
 table_place-below s l r c d n h =
     if-both (FoundBelow s) _ (option_map Method (slot_at s c n)) (display_place r n) (option_map Method (slot_at s d n)) (display_place r n)
     (method-below s _ _ (λ g e. slot-within s l c d n g h e))
@@ -94,7 +92,6 @@ table_place-below s l r c d n h =
 -- elements, whose pair the lower context has, too
 pub element_place-below : (s : ShapesView) (a b : LiveContext) (r : Reg) (j k : ℕ) (i : Reg) (scale n : ℕ) → LiveBelow s a b → j ≡ k
     → FoundBelow s (element_place s a r j i scale n) (element_place s b r k i scale n)
-unfolding element_place
 element_place-below s a b r j k i scale n h e = rw e (go (b.pairs i r) (h.pairs i r))
   where
     go : (t : Bool) → (t ≡ true → a.pairs i r ≡ true) → FoundBelow s (element_place s a r k i scale n) (if t && ((scale == 2) && (n == 8)) then field_place (Element s k) else None)
@@ -104,7 +101,7 @@ element_place-below s a b r j k i scale n h e = rw e (go (b.pairs i r) (h.pairs 
 -- places at a base other than ESP
 pub based-below : (s : ShapesView) → ClassLaws s → (a b : LiveContext) (r : Reg) (t u : Ty) (x : Option Reg) (k n : ℕ) → LiveBelow s a b → sub s t u ≡ true
     → FoundBelow s (based s a r t x k n) (based s b r u x k n)
-unfolding sub based
+unfolding sub
 based-below s l a b r (Obj c) (Obj d) None k n h e = object_place-below s l r c d n e
 based-below s l a b r (Tab c) (Tab d) None k n h e = table_place-below s l r c d n e
 based-below s l a b r (Arr c) (Arr d) None k n h e = place-same s (array_place n)
@@ -136,7 +133,6 @@ same-slot s false i = tt
 
 -- slots, of which both contexts have as many
 pub slot_place-below : (s : ShapesView) (a b : LiveContext) (n : ℕ) → all_sub s a.slots b.slots ≡ true → FoundBelow s (slot_place a n) (slot_place b n)
-unfolding slot_place
 slot_place-below s a b n h = go (word_index 0 n)
   where
     go : (o : Option ℕ)
@@ -159,7 +155,6 @@ located-below s l statics a b (Some r) x k n h = if-both (FoundBelow s) (same r 
 -- a memory operand is the same place in the lower context
 pub place-below : (s : ShapesView) → ClassLaws s → (statics : List FieldTy) (a b : LiveContext) (m : Mem) → LiveBelow s a b
     → FoundBelow s (place_in s statics a m) (place_in s statics b m)
-unfolding place_in
 place-below s l statics a b m h = located-below s l statics a b m.base m.index m.scale m.disp h
 
 -- the same of each operand
@@ -179,7 +174,6 @@ tab-below s c d e = e
 
 -- what is read at a place has a lower type
 pub place_type-below : (s : ShapesView) (a b : LiveContext) (p q : Place) → LiveBelow s a b → PlaceBelow s p q → sub s (place_type a p) (place_type b q) ≡ true
-unfolding place_type
 place_type-below s a b (Whole t) (Whole u) h e = rw e (sub-refl s u)
 place_type-below s a b (Slot i) (Slot j) h e = rw e (slot_type-below s a.slots b.slots j h.slots)
 place_type-below s a b Length Length h e = sub-refl s Num
@@ -223,17 +217,14 @@ found-below v l a b pc (I n) h e = e
 
 -- a place that may be read may be read below
 is_readable-below : (s : ShapesView) (p q : Place) → PlaceBelow s p q → is_readable q ≡ true → is_readable p ≡ true
-unfolding is_readable
 is_readable-below s p q h e = grind arith
 
 -- a place that may be written in the higher context may be in the lower one
 pub is_writable-below : (s : ShapesView) (p q : Place) → PlaceBelow s p q → is_writable q ≡ true → is_writable p ≡ true
-unfolding is_writable
 is_writable-below s p q h e = grind arith
 
 -- a place takes a lower value where it takes a higher one
 takes-below : (s : ShapesView) → ClassLaws s → (t u : Ty) (p q : Place) → PlaceBelow s p q → sub s t u ≡ true → takes s u q ≡ true → takes s t p ≡ true
-unfolding takes
 takes-below s l t u p q h g e = grind (arith, sub-trans s l t u)
 
 -- an operand that may be read in the higher context may be read in the lower

@@ -30,12 +30,10 @@ KindBelow None (Some k) = ⊥
 
 -- the first head is a head
 first_head-some : (c : LiveContext) (t r : Reg) → first_head c t ≡ Some r → c.heads t r ≡ true
-unfolding first_head
 first_head-some c t r e = grind arith
 
 -- where there is no first head, there is none
 first_head-none : (c : LiveContext) (t r : Reg) → first_head c t ≡ None → c.heads t r ≡ true → ⊥
-unfolding first_head
 first_head-none c t r e h = grind arith
 
 -- the head of the higher context is the lower one's, which has no other
@@ -51,7 +49,7 @@ first_head-below s a b t r h one e = go (first_head a t) refl
 
 -- the kind of a class test in two contexts
 class_test-below : (s : ShapesView) (a b : LiveContext) (t : Reg) (d : ℕ) → LiveBelow s a b → OneHead a → kind_below (class_test a t d) (class_test b t d) ≡ true
-unfolding class_test kind_below
+unfolding kind_below
 class_test-below s a b t d h one = go (first_head b t) refl
   where
     go : (o : Option Reg) → first_head b t ≡ o → kind_below (class_test a t d) (class_test b t d) ≡ true
@@ -61,7 +59,6 @@ class_test-below s a b t d h one = go (first_head b t) refl
 -- the row of a display in two contexts
 display-below : (s : ShapesView) (a b : LiveContext) (t : Reg) (k : ℕ) (m : Option ℕ) → LiveBelow s a b → OneHead a
     → KindBelow (display_row s a (Some (Display t k)) m) (display_row s b (Some (Display t k)) m)
-unfolding display_row
 display-below s a b t k None h one = tt
 display-below s a b t k (Some d) h one = grind (arith, class_test-below s a b t d h one)
 
@@ -72,7 +69,6 @@ display-same s p t k e = grind arith
 -- the row of displays gives a lower kind
 pub display_row-below : (s : ShapesView) (a b : LiveContext) (p q : Option Place) (m : Option ℕ) → LiveBelow s a b → OneHead a → FoundBelow s p q
     → KindBelow (display_row s a p m) (display_row s b q m)
-unfolding display_row
 display_row-below s a b p (Some (Display t k)) m h one e = rw (display-same s p t k e) (display-below s a b t k m h one)
 display_row-below s a b p q m h one e = tt
 
@@ -83,7 +79,7 @@ FamilyBelow f g = f ≡ g
 
 -- a lower type is of the same family
 pub family-below : (s : ShapesView) (t u : Ty) → sub s t u ≡ true → FamilyBelow (family t) (family u)
-unfolding family sub
+unfolding sub
 family-below s t u e = grind arith
 
 -- the place is a display
@@ -93,7 +89,6 @@ is_display _ = false
 
 -- what is no display has no row
 display_row-none : (s : ShapesView) (c : LiveContext) (p : Option Place) (m : Option ℕ) → is_display p ≡ false → display_row s c p m ≡ None
-unfolding display_row
 display_row-none s c p m e = grind arith
 
 -- a display in the higher context is one in the lower
@@ -114,14 +109,14 @@ bound-below d x y h = grind (arith, same-refl)
 readable_row-below : (s : ShapesView) (a b : LiveContext) (d : Operand) (f f' g g' : Family) (p p' : Option Place) (x x' : Option Reg) (z : Bool) (m : Option ℕ)
     → (z ≡ true → g ≡ Numbers) → FamilyBelow f f' → FamilyBelow g g' → ArrayBelow x x' → display_row s b p' m ≡ None
     → KindBelow (compare_row s a d f g p x z m) (compare_row s b d f' g' p' x' z m)
-unfolding compare_row kind_below has_null
+unfolding kind_below
 readable_row-below s a b d f f' g g' p p' x x' z m w e i y n = let k = bound-below d x x' y in grind (arith, same-refl)
 
 -- the row of a display
 unreadable_row-below : (s : ShapesView) (a b : LiveContext) (d : Operand) (f f' g g' : Family) (p p' : Option Place) (x x' : Option Reg) (z : Bool) (m : Option ℕ)
     → f ≡ Others → FamilyBelow f f' → KindBelow (display_row s a p m) (display_row s b p' m)
     → KindBelow (compare_row s a d f g p x z m) (compare_row s b d f' g' p' x' z m)
-unfolding compare_row kind_below has_null
+unfolding kind_below
 unreadable_row-below s a b d f f' g g' p p' x x' z m n e dm = grind arith
 
 -- the row of CMP by its parts
@@ -136,25 +131,25 @@ compare_row-below s a b d f f' g g' p p' x x' z m h one j w e i k y = go (is_dis
 
 -- a display has no family
 display-other : (v : ShownImage) (a : LiveContext) (pc : ℕ) (x : Operand) → is_display (operand_place v a x) ≡ true → family (operand_type v a pc x) ≡ Others
-unfolding operand_place operand_type place_type family
+unfolding operand_place operand_type
 display-other v a pc (R r) e = absurd (grind arith)
 display-other v a pc (M m) e = grind arith
 display-other v a pc (I n) e = absurd (grind arith)
 
 -- a 0 is a number
 zero-number : (x : Operand) (t : Ty) → is_zero x t ≡ true → family t ≡ Numbers
-unfolding is_zero is_num family
+unfolding is_num
 zero-number x t e = grind arith
 
 -- whether an operand is 0, and its class, are the same in both contexts
 zero-same : (v : ShownImage) (a b : LiveContext) (pc : ℕ) (x : Operand) → is_zero x (operand_type v a pc x) ≡ is_zero x (operand_type v b pc x)
-unfolding is_zero operand_type
+unfolding operand_type
 zero-same v a b pc (R r) = refl
 zero-same v a b pc (M m) = refl
 zero-same v a b pc (I n) = refl
 
 class-same : (v : ShownImage) (a b : LiveContext) (pc : ℕ) (x : Operand) → marked_class x (operand_type v a pc x) ≡ marked_class x (operand_type v b pc x)
-unfolding marked_class operand_type
+unfolding operand_type
 class-same v a b pc (R r) = refl
 class-same v a b pc (M m) = refl
 class-same v a b pc (I n) = refl
@@ -165,7 +160,6 @@ length-below s p q base h = grind arith
 
 -- and it is the length of the array in the same register
 length_base-below : (s : ShapesView) (x : Operand) (p q : Option Place) → FoundBelow s p q → ArrayBelow (length_base x p) (length_base x q)
-unfolding length_base
 length_base-below s (M m) p q h = length-below s p q m.base h
 length_base-below s (R r) p q h = tt
 length_base-below s (I n) p q h = tt
@@ -173,7 +167,6 @@ length_base-below s (I n) p q h = tt
 -- CMP gives a lower kind
 pub compare_kind-below : (v : ShownImage) → ClassLaws v.shapes → (a b : LiveContext) (pc : ℕ) (d x : Operand) → LiveBelow v.shapes a b → OneHead a
     → KindBelow (compare_kind v.shapes a (resolve v a pc d) (resolve v a pc x)) (compare_kind v.shapes b (resolve v b pc d) (resolve v b pc x))
-unfolding compare_kind
 compare_kind-below v l a b pc d x h one =
     rw (← zero-same v a b pc x, ← class-same v a b pc x)
     (compare_row-below v.shapes a b d _ _ _ _ _ _ _ _ (is_zero x (operand_type v a pc x)) (marked_class x (operand_type v a pc x)) h one
@@ -186,11 +179,10 @@ compare_kind-below v l a b pc d x h one =
 
 -- the row of TEST by its parts
 test_row-below : (d : Operand) (f f' g g' : Family) (z : Bool) → FamilyBelow f f' → FamilyBelow g g' → KindBelow (test_row d f g z) (test_row d f' g' z)
-unfolding test_row kind_below has_null
+unfolding kind_below
 test_row-below d f f' g g' z e i = grind (arith, same-refl)
 
 -- TEST gives a lower kind
 pub test_kind-below : (v : ShownImage) → ClassLaws v.shapes → (a b : LiveContext) (pc : ℕ) (d x : Operand) → LiveBelow v.shapes a b
     → KindBelow (test_kind (resolve v a pc d) (resolve v a pc x)) (test_kind (resolve v b pc d) (resolve v b pc x))
-unfolding test_kind
 test_kind-below v l a b pc d x h = test_row-below d _ _ _ _ _ (family-below v.shapes _ _ (operand_type-below v l a b pc d h)) (family-below v.shapes _ _ (operand_type-below v l a b pc x h))

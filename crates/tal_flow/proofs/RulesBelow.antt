@@ -1,4 +1,4 @@
-use Rattle.std.proofs.Common.{◌≡◌, ℕ, true, false, ◌&&◌, Option, Some, None, arith, refl, List, [], ◌∷◌, length, is_some}
+use Rattle.std.proofs.Common.{◌≡◌, ℕ, true, false, ◌&&◌, Bool, Option, Some, None, arith, refl, List, [], ◌∷◌, length, is_some}
 use Rattle.std.proofs.lemmas.Bool.{and_parts}
 use Rattle.std.specs.Option.{option_and_then, option_map_or}
 use Rattle.ia32_code.specs.declared.instruction.Reg.{Reg}
@@ -19,6 +19,8 @@ use Rattle.tal_types.proofs.Orders.{sub-trans}
 use Rattle.tal_flow.specs.declared.forms.Form.{Form}
 use Rattle.tal_flow.specs.declared.forms.Form.TheVariants.{Refused, Compute, Move, Address, Compare, TestBits, PushOf, PopTo, DropSlots, CallTo, CallBy, Return, Jump, Branch, Nothing}
 use Rattle.tal_flow.specs.declared.calls.Called.{Called}
+use Rattle.tal_flow.specs.declared.trials.RuleName.TheVariants as rule
+use Rattle.tal_flow.specs.Trials.{ask, first_failing}
 use Rattle.tal_flow.specs.Places.{operand_type, resolve, writable, storable, is_num}
 use Rattle.tal_flow.specs.Calls.{call_to, call_by, is_callable, is_fit}
 use Rattle.tal_flow.specs.Edges.{allows}
@@ -61,7 +63,6 @@ reg_num-below s a b (Some q) h e = is_num-below s _ _ (h.regs q) e
 
 -- and so do both registers of an address
 address-below : (s : ShapesView) (a b : LiveContext) (m : Mem) → LiveBelow s a b → address_is_num b m ≡ true → address_is_num a m ≡ true
-unfolding address_is_num
 address-below s a b m h e =
     let f = and_parts (option_map_or (λ q. is_num (b.regs q)) m.base true) _ e in
     rw (reg_num-below s a b m.base h f.0, reg_num-below s a b m.index h f.1) refl
@@ -98,6 +99,12 @@ call_by-holds : (v : ShownImage) → ClassLaws v.shapes → (a b : LiveContext) 
     → (is_callable (call_by v a (operand_type v a pc x)) && is_fit (call_by v a (operand_type v a pc x))) ≡ true
 call_by-holds v l a b pc x h e f = called-below v.shapes _ _ (call_by-below v l a b _ _ h (operand_type-below v l a b pc x h)) e f
 
+-- a comparison that has a row above and fails no rule there fails none below
+compared-below : (p q q' x x' : Bool) (j k : Option FlagKind) → KindBelow j k → (q ≡ true → q' ≡ true) → (q ≡ true → x ≡ true → x' ≡ true)
+    → first_failing (ask rule.EspRole p ∷ ask rule.Place q ∷ ask rule.Access x ∷ ask rule.Comparison (is_some k) ∷ []) ≡ None
+    → first_failing (ask rule.EspRole p ∷ ask rule.Place q' ∷ ask rule.Access x' ∷ ask rule.Comparison (is_some j) ∷ []) ≡ None
+compared-below p q q' x x' j k h f g e = grind (arith, kind_there j k h)
+
 -- none of the rules 1 to 15 fails in the lower context alone
 pub operand_rule-below : (v : ShownImage) → ClassLaws v.shapes → (a b : LiveContext) (pc : ℕ) (f : Form) → LiveBelow v.shapes a b → OneHead a
     → operand_rule v b pc f ≡ None → operand_rule v a pc f ≡ None
@@ -109,9 +116,12 @@ operand_rule-below v l a b pc (Move d x) h one e =
     grind (arith, found-below v l a b pc d h, found-below v l a b pc x h, readable-below v l a b pc x h, writable-below v l a b pc d h, stored-below v l a b pc d x h)
 operand_rule-below v l a b pc (Address r m) h one e = grind (arith, address-below v.shapes a b m h)
 operand_rule-below v l a b pc (Compare d x) h one e =
-    grind (arith, found-below v l a b pc d h, found-below v l a b pc x h, kind_there _ _ (compare_kind-below v l a b pc d x h one))
+    compared-below _ _ _ true true _ _ (compare_kind-below v l a b pc d x h one)
+    (λ g. grind (arith, found-below v l a b pc d h, found-below v l a b pc x h)) (λ g y. refl) e
 operand_rule-below v l a b pc (TestBits d x) h one e =
-    grind (arith, found-below v l a b pc d h, found-below v l a b pc x h, readable-below v l a b pc d h, readable-below v l a b pc x h, kind_there _ _ (test_kind-below v l a b pc d x h))
+    compared-below _ _ _ _ _ _ _ (test_kind-below v l a b pc d x h)
+    (λ g. grind (arith, found-below v l a b pc d h, found-below v l a b pc x h))
+    (λ g y. grind (arith, readable-below v l a b pc d h, readable-below v l a b pc x h)) e
 operand_rule-below v l a b pc (PushOf x) h one e = rw (slots-length v.shapes a.slots b.slots h.slots) (grind (arith, found-below v l a b pc x h, readable-below v l a b pc x h))
 operand_rule-below v l a b pc (PopTo r) h one e = rw (slots-length v.shapes a.slots b.slots h.slots) e
 operand_rule-below v l a b pc (DropSlots n) h one e = grind (arith, may_drop-below v.shapes a b n h)

@@ -23,7 +23,6 @@ there-within (x ∷ xs) (suc i) e = let h = there-within xs i e in omega arith
 
 -- a place of a slot is one of the frame's slots
 slot_place-room : (c : LiveContext) (n i : ℕ) → slot_place c n ≡ Some (Slot i) → i < length c.slots
-unfolding slot_place
 slot_place-room c n i e = go (word_index 0 n) e
   where
     go : (o : Option ℕ) → option_and_then (λ i. if is_some (slice_get c.slots i) then Some (Slot i) else None) o ≡ Some (Slot i) → i < length c.slots
@@ -42,17 +41,14 @@ method-no_slot (Some g) i e = absurd (grind arith)
 
 -- a display's place is no slot
 display-no_slot : (r : Reg) (n i : ℕ) → display_place r n ≢ Some (Slot i)
-unfolding display_place
 display-no_slot r n i e = grind arith
 
 -- a place at a base other than ESP is no slot
 based-no_slot : (s : ShapesView) (c : LiveContext) (r : Reg) (t : Ty) (x : Option Reg) (k n i : ℕ) → based s c r t x k n ≢ Some (Slot i)
-unfolding based object_place array_place element_place table_place
 based-no_slot s c r t x k n i e = grind (arith, field_place-no_slot, method-no_slot, display-no_slot)
 
 -- a slot that an operand means is one of the frame's
 located-room : (s : ShapesView) (statics : List FieldTy) (c : LiveContext) (r x : Option Reg) (k n i : ℕ) → located s statics c r x k n ≡ Some (Slot i) → i < length c.slots
-unfolding static_place
 located-room s statics c None None k n i e = absurd (field_place-no_slot _ i e)
 located-room s statics c None (Some x) k n i e = absurd (grind arith)
 located-room s statics c (Some r) x k n i e = go (same r Esp) x e
@@ -64,7 +60,7 @@ located-room s statics c (Some r) x k n i e = go (same r Esp) x e
 
 -- and so is that of an operand
 pub place-room : (v : ShownImage) (c : LiveContext) (x : Operand) (i : ℕ) → operand_place v c x ≡ Some (Slot i) → i < length c.slots
-unfolding operand_place place_in
+unfolding operand_place
 place-room v c (R r) i e = absurd (grind arith)
 place-room v c (M m) i e = located-room v.shapes v.statics c m.base m.index m.scale m.disp i e
 place-room v c (I n) i e = absurd (grind arith)

@@ -29,7 +29,7 @@ kind_without r (kinds.IsA q d) = if same q r then kinds.Eq else kinds.IsA q d
 kind_without r k = k
 
 -- the pairs of registers that do not name r
-unfoldable pub without : Reg → (Reg → Reg → Bool) → Reg → Reg → Bool
+abbrev pub without : Reg → (Reg → Reg → Bool) → Reg → Reg → Bool
 without r pairs i a = not (same i r) && (not (same a r) && pairs i a)
 
 -- register r is written with a value of the type: what named r is no longer known
@@ -51,7 +51,7 @@ abbrev pub with_slots : List Ty → LiveContext → LiveContext
 with_slots ts c = record c { slots = ts }
 
 -- a slot takes the new type; other memory keeps its own
-unfoldable pub store_place : Option Place → Ty → LiveContext → LiveContext
+abbrev pub store_place : Option Place → Ty → LiveContext → LiveContext
 store_place (Some (Slot i)) t c = with_slots (slice_set c.slots i t) c
 store_place _ t c = c
 

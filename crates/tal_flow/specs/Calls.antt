@@ -42,7 +42,7 @@ unfoldable pub is_entry : ℕ → Bool
 is_entry address = is_some (option_and_then (slice_get nucleus_arguments) (entry_number address))
 
 -- what an entry gives, where EAX and ECX have these types
-unfoldable pub entry_gives : Arguments → Ty → Ty → Called
+abbrev pub entry_gives : Arguments → Ty → Ty → Called
 entry_gives Table (ty.Tab c) ecx = Gives (ty.Ref c)
 entry_gives DescriptorAndNumber (ty.Desc k) ty.Num = Gives (ty.ArrRef k)
 entry_gives Nothing eax ecx = Gives ty.Num

@@ -27,14 +27,14 @@ allows _ condition.Ne = true
 allows _ k = false
 
 -- what the branch tells
-unfoldable pub told_by_branch : Cond → Told
+abbrev pub told_by_branch : Cond → Told
 told_by_branch condition.E = Equal
 told_by_branch condition.Ne = Unequal
 told_by_branch condition.B = Below
 told_by_branch _ = Nothing
 
 -- what the fall tells
-unfoldable pub told_by_fall : Cond → Told
+abbrev pub told_by_fall : Cond → Told
 told_by_fall condition.E = Unequal
 told_by_fall condition.Ne = Equal
 told_by_fall condition.Ae = Below
@@ -57,7 +57,7 @@ add_pair i a c = record c { pairs = λ j b. (same j i && same b a) || c.pairs j 
 
 -- the object of class k or below in register r is of class d or below: the lower of the two, and no run
 -- comes there where neither is below the other
-unfoldable pub meet_class : ShapesView → LiveContext → Reg → ℕ → ℕ → ContextView
+abbrev pub meet_class : ShapesView → LiveContext → Reg → ℕ → ℕ → ContextView
 meet_class s c r k d = if within s k d then Live (refine_reg r (Obj k) c) else if within s d k then Live (refine_reg r (Obj d) c) else Dead
 
 -- the same where register r has the type; other types tell nothing
@@ -101,13 +101,6 @@ falls_to v (Live c) pc form = falling v c pc form
 unfoldable pub branches_to : ShownImage → ContextView → Form → ContextView
 branches_to v Dead form = Dead
 branches_to v (Live c) form = branching v c form
-
--- the instruction is no jump, branch or return: it falls through
-unfoldable pub goes_on : Form → Bool
-goes_on Return = false
-goes_on (Jump address) = false
-goes_on (Branch condition address) = false
-goes_on form = true
 
 -- rule 1 fails at it in every context
 abbrev pub is_refused : Form → Bool

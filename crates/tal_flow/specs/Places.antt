@@ -28,35 +28,35 @@ abbrev pub field_place : Option FieldTy → Option Place
 field_place field = option_map (λ t. Whole (of_field t)) field
 
 -- static: no base, no index, the word of a static, from the first one's on
-unfoldable pub static_place : List FieldTy → ℕ → Option Place
+abbrev pub static_place : List FieldTy → ℕ → Option Place
 static_place statics disp = field_place (option_and_then (slice_get statics) (word_index statics_start disp))
 
 -- slot: base ESP, no index, the word of a slot; slot i stands at ESP + 4i
-unfoldable pub slot_place : LiveContext → ℕ → Option Place
+abbrev pub slot_place : LiveContext → ℕ → Option Place
 slot_place c disp = option_and_then (λ i. if is_some (slice_get c.slots i) then Some (Slot i) else None) (word_index 0 disp)
 
 -- head: base Obj c, no index, displacement 0. Field: the displacement of a field
-unfoldable pub object_place : ShapesView → Reg → ℕ → ℕ → Option Place
+abbrev pub object_place : ShapesView → Reg → ℕ → ℕ → Option Place
 object_place s r c disp = if disp == 0 then Some (Head r c) else field_place (field_at s c disp)
 
 -- length: base Arr k, no index, displacement 4
-unfoldable pub array_place : ℕ → Option Place
+abbrev pub array_place : ℕ → Option Place
 array_place disp = if disp == 4 then Some Length else None
 
 -- element: base a of Arr k, index i times 4, displacement 8, the pair (i, a)
-unfoldable pub element_place : ShapesView → LiveContext → Reg → ℕ → Reg → ℕ → ℕ → Option Place
+abbrev pub element_place : ShapesView → LiveContext → Reg → ℕ → Reg → ℕ → ℕ → Option Place
 element_place s c a k i scale disp = if c.pairs i a && ((scale == 2) && (disp == 8)) then field_place (Element s k) else None
 
 -- display: base Tab c, no index, displacement 12 + 4d, d 0 to 7
-unfoldable pub display_place : Reg → ℕ → Option Place
+abbrev pub display_place : Reg → ℕ → Option Place
 display_place t disp = option_and_then (λ d. if nat_le d 7 then Some (Display t d) else None) (word_index 12 disp)
 
 -- method: base Tab c, no index, the displacement of a method, from 44 on
-unfoldable pub table_place : ShapesView → Reg → ℕ → ℕ → Option Place
+abbrev pub table_place : ShapesView → Reg → ℕ → ℕ → Option Place
 table_place s t c disp = if nat_le 44 disp then option_map Method (slot_at s c disp) else display_place t disp
 
 -- the place at a base other than ESP, by the base's type and the index
-unfoldable pub based : ShapesView → LiveContext → Reg → Ty → Option Reg → ℕ → ℕ → Option Place
+abbrev pub based : ShapesView → LiveContext → Reg → Ty → Option Reg → ℕ → ℕ → Option Place
 based s c r (Obj k) None scale disp = object_place s r k disp
 based s c r (Arr k) None scale disp = array_place disp
 based s c r (Arr k) (Some i) scale disp = element_place s c r k i scale disp
@@ -75,18 +75,18 @@ located s statics c None (Some i) scale disp = None
 located s statics c (Some r) x scale disp = if same r Esp then stack_place c x disp else based s c r (c.regs r) x scale disp
 
 -- the place of a memory operand, where there is one, in a live context
-unfoldable pub place_in : ShapesView → List FieldTy → LiveContext → Mem → Option Place
+abbrev pub place_in : ShapesView → List FieldTy → LiveContext → Mem → Option Place
 place_in s statics c m = located s statics c m.base m.index m.scale m.disp
 
 -- the place of a memory operand. A dead context tells nothing of registers and slots: it has statics alone
-unfoldable pub PlaceType : ShapesView → List FieldTy → ContextView → Mem → Option Place
+abbrev pub PlaceType : ShapesView → List FieldTy → ContextView → Mem → Option Place
 PlaceType s statics (Live c) m = place_in s statics c m
 PlaceType s statics Dead m = if is_some m.base || is_some m.index then None else static_place statics m.disp
 
 -- ---- what stands at a place
 
 -- the type of what is read there; a display has none
-unfoldable pub place_type : LiveContext → Place → Ty
+abbrev pub place_type : LiveContext → Place → Ty
 place_type c (Whole t) = t
 place_type c (Slot i) = slice_index_or c.slots i Junk
 place_type c Length = Num
@@ -95,18 +95,18 @@ place_type c (Method g) = Code g
 place_type c (Display t d) = Junk
 
 -- displays are for CMP alone
-unfoldable pub is_readable : Place → Bool
+abbrev pub is_readable : Place → Bool
 is_readable (Display t d) = false
 is_readable _ = true
 
 -- lengths, heads, methods and displays are never written
-unfoldable pub is_writable : Place → Bool
+abbrev pub is_writable : Place → Bool
 is_writable (Whole t) = true
 is_writable (Slot i) = true
 is_writable _ = false
 
 -- what a place takes; a slot takes every type
-unfoldable pub takes : ShapesView → Ty → Place → Bool
+abbrev pub takes : ShapesView → Ty → Place → Bool
 takes s t (Whole u) = sub s t u
 takes s t _ = true
 
@@ -120,7 +120,7 @@ operand_place v c (I n) = None
 
 -- the type of a marked immediate: a null of a class, an array kind or a signature; a function, whose
 -- address it is; a class's table; a kind's descriptor; a data array
-unfoldable pub mark_type : ShownImage → ℕ → Mark → Ty
+abbrev pub mark_type : ShownImage → ℕ → Mark → Ty
 mark_type v n mark =
     if mark.tag == 1 then Ref mark.index
     else if mark.tag == 3 then ArrRef mark.index

@@ -19,7 +19,7 @@ use Rattle.tal_flow.specs.declared.rows.Family.TheVariants.{Numbers, Objects, Ar
 use Rattle.tal_flow.specs.Places.{is_num}
 
 -- what CMP and TEST ask of a type
-unfoldable pub family : Ty → Family
+abbrev pub family : Ty → Family
 family ty.Num = Numbers
 family (ty.Ref c) = Objects
 family (ty.Obj c) = Objects
@@ -30,14 +30,14 @@ family (ty.Code g) = Routines
 family _ = Others
 
 -- null is a value of some types of the family
-unfoldable pub has_null : Family → Bool
+abbrev pub has_null : Family → Bool
 has_null Objects = true
 has_null Arrays = true
 has_null Routines = true
 has_null _ = false
 
 -- the operand of the type is the number 0; a marked immediate is no number
-unfoldable pub is_zero : Operand → Ty → Bool
+abbrev pub is_zero : Operand → Ty → Bool
 is_zero (I n) t = (n == 0) && is_num t
 is_zero _ t = false
 
@@ -47,7 +47,7 @@ table_class (ty.Tab c) = Some c
 table_class _ = None
 
 -- the class that an immediate of the type is marked with
-unfoldable pub marked_class : Operand → Ty → Option ℕ
+abbrev pub marked_class : Operand → Ty → Option ℕ
 marked_class (I n) t = table_class t
 marked_class _ t = None
 
@@ -57,16 +57,16 @@ base_of_length (Some Length) base = base
 base_of_length _ base = None
 
 -- the register of the array whose length the operand at the place is
-unfoldable pub length_base : Operand → Option Place → Option Reg
+abbrev pub length_base : Operand → Option Place → Option Reg
 length_base (M m) place = base_of_length place m.base
 length_base _ place = None
 
 -- there is class c, and its depth is k
-unfoldable pub has_depth : ShapesView → ℕ → ℕ → Bool
+abbrev pub has_depth : ShapesView → ℕ → ℕ → Bool
 has_depth s c k = nat_lt c (length s.classes) && (Depth s c == k)
 
 -- the register of lowest number whose object's table is in t
-unfoldable pub first_head : LiveContext → Reg → Option Reg
+abbrev pub first_head : LiveContext → Reg → Option Reg
 first_head c t =
     if c.heads t Eax then Some Eax
     else if c.heads t Ecx then Some Ecx
@@ -79,11 +79,11 @@ first_head c t =
     else None
 
 -- the kind of a comparison of a display in register t with class d
-unfoldable pub class_test : LiveContext → Reg → ℕ → FlagKind
+abbrev pub class_test : LiveContext → Reg → ℕ → FlagKind
 class_test c t d = option_map_or (λ r. kind.IsA r d) (first_head c t) kind.Eq
 
 -- the row of displays: the display at depth k of the table in t, with a class of that depth
-unfoldable pub display_row : ShapesView → LiveContext → Option Place → Option ℕ → Option FlagKind
+abbrev pub display_row : ShapesView → LiveContext → Option Place → Option ℕ → Option FlagKind
 display_row s c (Some (Display t k)) (Some d) = if has_depth s d k then Some (class_test c t d) else None
 display_row s c _ _ = None
 
@@ -99,14 +99,14 @@ null_kind _ = kind.Eq
 
 -- CMP d,x: the families f and g of their types, d's place, the array whose length x is, whether x is the
 -- number 0, and the class that x is marked with. There is no row where there is no kind
-unfoldable pub compare_row : ShapesView → LiveContext → Operand → Family → Family → Option Place → Option Reg → Bool → Option ℕ → Option FlagKind
+abbrev pub compare_row : ShapesView → LiveContext → Operand → Family → Family → Option Place → Option Reg → Bool → Option ℕ → Option FlagKind
 compare_row s c d Numbers Numbers place array zero class = Some (bound_kind d array)
 compare_row s c d Objects Objects place array zero class = Some kind.Eq
 compare_row s c d Arrays Arrays place array zero class = Some kind.Eq
 compare_row s c d f g place array zero class = if has_null f && zero then Some (null_kind d) else display_row s c place class
 
 -- the kind that CMP d,x gives
-unfoldable pub compare_kind : ShapesView → LiveContext → Resolved → Resolved → Option FlagKind
+abbrev pub compare_kind : ShapesView → LiveContext → Resolved → Resolved → Option FlagKind
 compare_kind s c d x =
     compare_row s c d.operand (family d.ty) (family x.ty) d.place (length_base x.operand x.place) (is_zero x.operand x.ty) (marked_class x.operand x.ty)
 
@@ -116,10 +116,10 @@ same_register (R r) (R q) = same r q
 same_register _ _ = false
 
 -- TEST d,x: two numbers, or one register that may hold null
-unfoldable pub test_row : Operand → Family → Family → Bool → Option FlagKind
+abbrev pub test_row : Operand → Family → Family → Bool → Option FlagKind
 test_row d Numbers Numbers alike = Some kind.Num
 test_row d f g alike = if alike && has_null f then Some (null_kind d) else None
 
 -- the kind that TEST d,x gives
-unfoldable pub test_kind : Resolved → Resolved → Option FlagKind
+abbrev pub test_kind : Resolved → Resolved → Option FlagKind
 test_kind d x = test_row d.operand (family d.ty) (family x.ty) (same_register d.operand x.operand)

@@ -25,11 +25,11 @@ use Rattle.tal_flow.specs.Afterwards.{slots_in}
 use Rattle.tal_flow.specs.Edges.{allows, falling, branching, target_of, falls_to, branches_to, is_refused}
 
 -- rule 2, of LEA, whose operand names no ESP
-unfoldable pub address_spares_esp : Reg → Mem → Bool
+abbrev pub address_spares_esp : Reg → Mem → Bool
 address_spares_esp r m = not (same r Esp) && (not (is_esp m.base) && not (is_esp m.index))
 
 -- rule 5, of LEA: base and index
-unfoldable pub address_is_num : LiveContext → Mem → Bool
+abbrev pub address_is_num : LiveContext → Mem → Bool
 address_is_num c m = option_map_or (λ q. is_num (c.regs q)) m.base true && option_map_or (λ q. is_num (c.regs q)) m.index true
 
 -- rule 8, of ADD ESP: so many slots are there

@@ -1,3 +1,5 @@
+#![tactic(auto, unfolding(crate::specs::Afterwards::store, crate::specs::Afterwards::note_head, crate::specs::Afterwards::write_high, crate::specs::Afterwards::give_kind, crate::specs::Afterwards::slots_in, crate::specs::Places::spares_esp, crate::specs::Rules::may_drop, tal_types::specs::Contexts::same))]
+
 ghost use Rattle.std.specs.Prelude.{◌≡◌, ℕ, ◌<◌, true, Some, None, length, drop, unwrap_or};
 ghost use Rattle.tal_types.specs.Kept.{live_of};
 ghost use Rattle.tal_flow.specs.Afterwards.{store_place, store, note_head, write_high, give_kind, slots_in, with_kind, with_slots, left_by, IsResolved, StoresResolved};
@@ -14,7 +16,6 @@ use object_layout::areas::word_index;
 use tal_types::{Context, FlagKind, Ty, same};
 
 /// Stores a value of the type at a place: a slot takes the type.
-#[tactic(auto, unfolding(crate::specs::Afterwards::store_place))]
 fn store_place(context: &mut Context, place: Option<Place>, t: Ty)
     requires { (i : ℕ) → place ≡ Some (Place.Slot i) → i < length (live_of context.old).slots }
     ensures known { live_of context.new ≡ store_place place t (live_of context.old) }
@@ -26,7 +27,6 @@ fn store_place(context: &mut Context, place: Option<Place>, t: Ty)
 }
 
 /// Stores a value of the type in an operand, which is not ESP.
-#[tactic(auto, unfolding(crate::specs::Afterwards::store, crate::specs::Places::spares_esp))]
 fn store(context: &mut Context, d: &Resolved, t: Ty)
     requires spared { d.now.spares_esp ≡ true }
     requires resolved { IsResolved (live_of context.old) d.now }
@@ -41,7 +41,6 @@ fn store(context: &mut Context, d: &Resolved, t: Ty)
 }
 
 /// Notes the head that a MOV has read.
-#[tactic(auto, unfolding(crate::specs::Afterwards::note_head))]
 fn note_head(context: &mut Context, d: &Operand, place: Option<Place>)
     ensures known { live_of context.new ≡ note_head d.now place (live_of context.old) }
     ensures dead { context.new.dead ≡ context.old.dead }
@@ -54,7 +53,6 @@ fn note_head(context: &mut Context, d: &Operand, place: Option<Place>)
 }
 
 /// Writes the upper half of a wide result into EDX.
-#[tactic(auto, unfolding(crate::specs::Afterwards::write_high, tal_types::specs::Contexts::same))]
 fn write_high(context: &mut Context, wide: bool)
     ensures known { live_of context.new ≡ write_high wide (live_of context.old) }
     ensures dead { context.new.dead ≡ context.old.dead }
@@ -65,7 +63,6 @@ fn write_high(context: &mut Context, wide: bool)
 }
 
 /// Gives the flags a kind, where the instruction gives one.
-#[tactic(auto, unfolding(crate::specs::Afterwards::give_kind, tal_types::specs::Kept::live_of))]
 fn give_kind(context: &mut Context, kind: Option<FlagKind>)
     ensures known { live_of context.new ≡ give_kind kind (live_of context.old) }
     ensures dead { context.new.dead ≡ context.old.dead }
@@ -98,8 +95,17 @@ fn move_to(context: &mut Context, d: &Resolved, x: &Resolved)
     note_head(context, &d.operand, x.place);
 }
 
+/// Whether so many slots are there as a number of bytes has.
+pub(crate) fn may_drop(context: &Context, bytes: u32) -> bool
+    ensures { result ≡ may_drop (live_of context.now) bytes }
+{
+    match word_index(0, bytes) {
+        Some(n) => n as usize <= context.slots().len(),
+        None => false,
+    }
+}
+
 /// Takes off as many slots as a number of bytes has, where they are there.
-#[tactic(auto, unfolding(crate::specs::Afterwards::slots_in, crate::specs::Rules::may_drop))]
 fn drop_bytes(context: &mut Context, bytes: u32)
     requires { may_drop (live_of context.old) bytes ≡ true }
     ensures known { live_of context.new ≡ with_kind FlagKind.Lost (with_slots (drop (unwrap_or (slots_in bytes) 0) (live_of context.old).slots) (live_of context.old)) }
@@ -113,7 +119,6 @@ fn drop_bytes(context: &mut Context, bytes: u32)
 
 /// Turns what is known before an instruction, none of whose rules 1 to 15 fails, into what is known
 /// where it falls through.
-#[tactic(auto, unfolding(crate::specs::Rules::address_spares_esp))]
 pub(crate) fn step(context: &mut Context, seen: &Seen)
     requires rules { first_failing (operand_trials (live_of context.old) seen.now) ≡ None }
     requires stored { StoresResolved (live_of context.old) seen.now }

@@ -1,3 +1,5 @@
+#![tactic(auto, unfolding(crate::specs::Calls::arguments_fit, crate::specs::Calls::call_of_signature, crate::specs::Calls::call_to, crate::specs::Calls::call_by, crate::specs::Calls::is_callable, crate::specs::Calls::is_fit, crate::specs::Calls::result_of, crate::specs::Calls::nucleus_arguments, crate::specs::Calls::entry_number, crate::specs::Calls::is_entry, tal_types::specs::Contexts::register_type, tal_types::specs::Types::sub))]
+
 ghost use Rattle.std.specs.Prelude.{◌≡◌, slice_get};
 ghost use Rattle.std.specs.Option.{option_and_then};
 ghost use Rattle.tal_types.specs.Kept.{live_of};
@@ -35,7 +37,6 @@ pub enum Called {
 }
 
 /// Whether each register's type is below its parameter's.
-#[tactic(auto, unfolding(crate::specs::Calls::arguments_fit, tal_types::specs::Contexts::register_type, tal_types::specs::Types::sub))]
 fn arguments_fit(shapes: &Shapes, context: &Context, sig: &Sig) -> bool
     ensures { result ≡ arguments_fit shapes.now (live_of context.now) sig.now }
 {
@@ -49,7 +50,6 @@ fn arguments_fit(shapes: &Shapes, context: &Context, sig: &Sig) -> bool
 }
 
 /// A call of a function whose signature has the number.
-#[tactic(auto, unfolding(crate::specs::Calls::call_of_signature))]
 fn call_of_signature<V: ImageView>(image: &V, context: &Context, g: Option<u32>) -> Called
     ensures { result ≡ call_of_signature (V.shown image.now) (live_of context.now) g }
 {
@@ -68,7 +68,6 @@ fn call_of_signature<V: ImageView>(image: &V, context: &Context, g: Option<u32>)
 }
 
 /// What the Nucleus entry at an address asks; none where no entry is there.
-#[tactic(auto, unfolding(crate::specs::Calls::entry_number, crate::specs::Calls::nucleus_arguments))]
 fn entry_arguments(address: u32) -> Option<Arguments>
     ensures { result ≡ option_and_then (slice_get nucleus_arguments) (entry_number address) }
 {
@@ -92,7 +91,6 @@ fn entry_arguments(address: u32) -> Option<Arguments>
 }
 
 /// Whether a Nucleus entry stands at an address.
-#[tactic(auto, unfolding(crate::specs::Calls::is_entry))]
 pub fn is_entry(address: u32) -> bool
     ensures { result ≡ is_entry address }
 {
@@ -100,7 +98,6 @@ pub fn is_entry(address: u32) -> bool
 }
 
 /// What an entry gives, where EAX and ECX have these types.
-#[tactic(auto, unfolding(crate::specs::Calls::entry_gives))]
 fn entry_gives(arguments: Arguments, eax: Ty, ecx: Ty) -> Called
     ensures { result ≡ entry_gives arguments eax ecx }
 {
@@ -115,7 +112,6 @@ fn entry_gives(arguments: Arguments, eax: Ty, ecx: Ty) -> Called
 }
 
 /// A CALL of an address.
-#[tactic(auto, unfolding(crate::specs::Calls::call_to))]
 pub(crate) fn call_to<V: ImageView>(image: &V, context: &Context, address: u32) -> Called
     ensures { result ≡ call_to (V.shown image.now) (live_of context.now) address }
 {
@@ -130,7 +126,6 @@ pub(crate) fn call_to<V: ImageView>(image: &V, context: &Context, address: u32) 
 }
 
 /// A CALL of what has the type.
-#[tactic(auto, unfolding(crate::specs::Calls::call_by))]
 pub(crate) fn call_by<V: ImageView>(image: &V, context: &Context, t: Ty) -> Called
     ensures { result ≡ call_by (V.shown image.now) (live_of context.now) t }
 {
@@ -141,7 +136,6 @@ pub(crate) fn call_by<V: ImageView>(image: &V, context: &Context, t: Ty) -> Call
 }
 
 /// The type of the result of a call.
-#[tactic(auto, unfolding(crate::specs::Calls::result_of))]
 pub(crate) fn result_of(called: Called) -> Ty
     ensures { result ≡ result_of called }
 {
@@ -152,7 +146,6 @@ pub(crate) fn result_of(called: Called) -> Ty
 }
 
 /// Whether there is something that can be called.
-#[tactic(auto, unfolding(crate::specs::Calls::is_callable))]
 pub(crate) fn is_callable(called: Called) -> bool
     ensures { result ≡ is_callable called }
 {
@@ -163,7 +156,6 @@ pub(crate) fn is_callable(called: Called) -> bool
 }
 
 /// Whether the arguments fit, where something can be called.
-#[tactic(auto, unfolding(crate::specs::Calls::is_fit))]
 pub(crate) fn is_fit(called: Called) -> bool
     ensures { result ≡ is_fit called }
 {

@@ -1,3 +1,5 @@
+#![tactic(auto, unfolding(crate::specs::Edges::allows, crate::specs::Edges::not_null, crate::specs::Edges::meet, crate::specs::Edges::refine, tal_types::specs::Kept::context_of))]
+
 ghost use Rattle.std.specs.Prelude.{◌≡◌, ◌≢◌, false};
 ghost use Rattle.tal_types.specs.Kept.{live_of, context_of};
 ghost use Rattle.tal_flow.specs.Edges.{allows, told_by_branch, told_by_fall, not_null, meet_class, meet, refine};
@@ -34,7 +36,6 @@ pub enum Told {
 }
 
 /// Whether a flag kind allows a condition.
-#[tactic(auto, unfolding(crate::specs::Edges::allows))]
 pub(crate) fn allows(kind: FlagKind, condition: Cond) -> bool
     ensures { result ≡ allows kind condition }
 {
@@ -47,7 +48,6 @@ pub(crate) fn allows(kind: FlagKind, condition: Cond) -> bool
 }
 
 /// What the branch tells.
-#[tactic(auto, unfolding(crate::specs::Edges::told_by_branch))]
 pub(crate) fn told_by_branch(condition: Cond) -> Told
     ensures { result ≡ told_by_branch condition }
 {
@@ -60,7 +60,6 @@ pub(crate) fn told_by_branch(condition: Cond) -> Told
 }
 
 /// What the fall tells.
-#[tactic(auto, unfolding(crate::specs::Edges::told_by_fall))]
 pub(crate) fn told_by_fall(condition: Cond) -> Told
     ensures { result ≡ told_by_fall condition }
 {
@@ -73,7 +72,6 @@ pub(crate) fn told_by_fall(condition: Cond) -> Told
 }
 
 /// The type of a reference that is not null.
-#[tactic(auto, unfolding(crate::specs::Edges::not_null))]
 fn not_null(t: Ty) -> Ty
     ensures { result ≡ not_null t }
 {
@@ -86,7 +84,6 @@ fn not_null(t: Ty) -> Ty
 }
 
 /// Of an object of class `k` or below in `r` it is told that it is of class `d` or below.
-#[tactic(auto, unfolding(crate::specs::Edges::meet_class, tal_types::specs::Kept::context_of))]
 fn meet_class(shapes: &Shapes, context: &mut Context, r: Reg, k: u32, d: u32)
     requires alive { context.old.dead ≡ false }
     requires register { r ≢ Reg.Esp }
@@ -101,7 +98,6 @@ fn meet_class(shapes: &Shapes, context: &mut Context, r: Reg, k: u32, d: u32)
     }
 }
 
-#[tactic(auto, unfolding(crate::specs::Edges::meet, tal_types::specs::Kept::context_of))]
 fn meet(shapes: &Shapes, context: &mut Context, r: Reg, d: u32)
     requires { context.old.dead ≡ false }
     ensures { context_of context.new ≡ meet shapes.now (live_of context.old) r ((live_of context.old).regs r) d }
@@ -113,7 +109,6 @@ fn meet(shapes: &Shapes, context: &mut Context, r: Reg, d: u32)
 }
 
 /// Turns what is known before a branch into what is known on a way that tells more.
-#[tactic(auto, unfolding(crate::specs::Edges::refine, tal_types::specs::Kept::context_of, crate::specs::Edges::not_null))]
 pub(crate) fn refine(shapes: &Shapes, context: &mut Context, told: Told)
     requires { context.old.dead ≡ false }
     ensures { context_of context.new ≡ refine shapes.now (live_of context.old) context.old.kind told }

@@ -1,3 +1,5 @@
+#![tactic(auto, unfolding(crate::specs::Forms::address_at, crate::specs::Forms::form_of))]
+
 ghost use Rattle.std.specs.Prelude.{◌≡◌, Some, true, false};
 ghost use Rattle.tal_flow.specs.Forms.{address_at, one, two, three, form_of};
 
@@ -97,7 +99,6 @@ pub enum Form {
 }
 
 /// The address at a distance from the next instruction.
-#[tactic(auto, unfolding(crate::specs::Forms::address_at))]
 fn address_at(next: u32, distance: i32) -> u32
     ensures { result ≡ address_at next distance }
 {
@@ -129,7 +130,6 @@ fn wide(sources: Operands) -> Form
 }
 
 /// The form of an operation of `Alu`.
-#[tactic(auto, unfolding(crate::specs::Forms::form_of))]
 fn alu_form(next: u32, op: Alu, dst: Operand, src: Operand) -> Form
     ensures { result ≡ form_of next (Inst.Alu op dst src) }
 {
@@ -141,7 +141,6 @@ fn alu_form(next: u32, op: Alu, dst: Operand, src: Operand) -> Form
 }
 
 /// The form of a shift.
-#[tactic(auto, unfolding(crate::specs::Forms::form_of))]
 fn shift_form(next: u32, op: Shift, dst: Operand, by: Count) -> Form
     ensures { result ≡ form_of next (Inst.Shift op dst by) }
 {
@@ -163,7 +162,6 @@ fn shift_form(next: u32, op: Shift, dst: Operand, by: Count) -> Form
 }
 
 /// The form of an instruction, where the next one is at `next`.
-#[tactic(auto, unfolding(crate::specs::Forms::form_of))]
 pub(crate) fn form_of(next: u32, inst: &Inst) -> Form
     ensures { result ≡ form_of next inst.now }
 {

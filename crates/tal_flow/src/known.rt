@@ -1,3 +1,5 @@
+#![tactic(auto, using(std::proofs::lemmas::Nat::Bits::shr_and_one), unfolding(crate::specs::Afterwards::kind_without, crate::specs::Afterwards::pop_to, tal_types::specs::Kept::pair_in))]
+
 ghost use Rattle.std.specs.Prelude.{◌≡◌, ◌<◌, ◌≤◌, ℕ, ◌+◌, ◌∷◌, ◌&&◌, ◌||◌, false, true, length, drop, slice_set, slice_index_or, slice_get, unwrap_or};
 ghost use Rattle.ia32_code.specs.OperandForms.{number};
 ghost use Rattle.tal_types.specs.Contexts.{same};
@@ -29,7 +31,6 @@ fn number(r: Reg) -> usize
 }
 
 /// The type of a register.
-#[tactic(auto, unfolding(tal_types::specs::Kept::live_of, tal_types::specs::Kept::type_at))]
 pub(crate) fn register(context: &Context, r: Reg) -> Ty
     ensures value { result ≡ (live_of context.now).regs r }
     ensures esp { r ≡ Reg.Esp → result ≡ Ty.Junk }
@@ -38,7 +39,6 @@ pub(crate) fn register(context: &Context, r: Reg) -> Ty
 }
 
 /// Whether (r, q) is in a set of pairs of registers.
-#[tactic(auto, using(std::proofs::lemmas::Nat::Bits::shr_and_one), unfolding(tal_types::specs::Kept::pair_in))]
 pub(crate) fn has_pair(bits: u64, r: Reg, q: Reg) -> bool
     ensures { result ≡ pair_in bits r q }
 {
@@ -60,7 +60,6 @@ fn without(bits: u64, r: Reg) -> u64
 }
 
 /// The flag kind when a register is written.
-#[tactic(auto, unfolding(crate::specs::Afterwards::kind_without))]
 fn kind_without(r: Reg, kind: FlagKind) -> FlagKind
     ensures { result ≡ kind_without r kind }
 {
@@ -113,7 +112,6 @@ pub(crate) fn add_head(context: &mut Context, t: Reg, r: Reg)
     context.heads = with_pair(context.heads, t, r);
 }
 
-#[tactic(auto, unfolding(tal_types::specs::Kept::live_of))]
 pub(crate) fn set_kind(context: &mut Context, kind: FlagKind)
     ensures known { live_of context.new ≡ with_kind kind (live_of context.old) }
     ensures dead { context.new.dead ≡ context.old.dead }
@@ -180,7 +178,6 @@ pub(crate) fn drop_slots(context: &mut Context, n: u32)
 }
 
 /// Pops slot 0 into a register.
-#[tactic(auto, unfolding(crate::specs::Afterwards::pop_to))]
 pub(crate) fn pop_to(context: &mut Context, r: Reg)
     requires register { same r Reg.Esp ≡ false }
     requires slot { 1 ≤ length (live_of context.old).slots }

@@ -26,7 +26,7 @@ mod trials;
 
 pub use calls::is_entry;
 pub use edges::{Edges, Rule};
-pub use flowing::flow;
+pub use flowing::{flow, pass};
 pub use places::{Place, place_of};
 
 #[cfg(test)]

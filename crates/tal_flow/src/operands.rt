@@ -1,3 +1,5 @@
+#![tactic(auto, unfolding(crate::specs::Places::found, crate::specs::Places::readable, crate::specs::Places::storable, crate::specs::Places::is_num, crate::specs::Places::immediate_type, crate::specs::Places::operand_place, crate::specs::Places::operand_type, crate::specs::Places::spares_esp, crate::specs::Places::writable))]
+
 ghost use Rattle.std.specs.Prelude.{◌≡◌};
 ghost use Rattle.tal_types.specs.Kept.{live_of};
 ghost use Rattle.tal_flow.specs.Places.{place_type, operand_place, mark_type, immediate_type, operand_type, is_esp, spares_esp, resolve, found, readable, writable, is_num, storable, reads_of};
@@ -9,7 +11,6 @@ use object_layout::Shapes;
 use tal_types::{Context, ImageView, Mark, Ty, same, sub};
 
 /// The type of what is read at a place.
-#[tactic(auto, unfolding(crate::specs::Places::place_type, tal_types::specs::Kept::live_of))]
 fn place_type(context: &Context, place: Place) -> Ty
     ensures { result ≡ place_type (live_of context.now) place }
 {
@@ -27,7 +28,6 @@ fn place_type(context: &Context, place: Place) -> Ty
 }
 
 /// The type of a marked immediate.
-#[tactic(auto, unfolding(crate::specs::Places::mark_type))]
 fn mark_type<V: ImageView>(image: &V, n: u32, mark: Mark) -> Ty
     ensures { result ≡ mark_type (V.shown image.now) n mark }
 {
@@ -50,7 +50,6 @@ fn mark_type<V: ImageView>(image: &V, n: u32, mark: Mark) -> Ty
 }
 
 /// The type of an immediate of the instruction at `pc`.
-#[tactic(auto, unfolding(crate::specs::Places::immediate_type))]
 pub(crate) fn immediate_type<V: ImageView>(image: &V, pc: u32, n: u32) -> Ty
     ensures { result ≡ immediate_type (V.shown image.now) pc n }
 {
@@ -61,7 +60,6 @@ pub(crate) fn immediate_type<V: ImageView>(image: &V, pc: u32, n: u32) -> Ty
 }
 
 /// The place of an operand, where it is memory and has one.
-#[tactic(auto, unfolding(crate::specs::Places::operand_place))]
 pub(crate) fn operand_place<V: ImageView>(
     image: &V,
     context: &Context,
@@ -86,7 +84,6 @@ pub(crate) fn is_esp(r: Option<Reg>) -> bool
 }
 
 /// Whether ESP is named, if at all, as the base of a memory operand without an index.
-#[tactic(auto, unfolding(crate::specs::Places::spares_esp))]
 pub(crate) fn spares_esp(x: &Operand) -> bool
     ensures { result ≡ spares_esp x.now }
 {
@@ -110,7 +107,6 @@ pub struct Resolved {
 }
 
 /// The type of an operand of the instruction at `pc` that has this place.
-#[tactic(auto, unfolding(crate::specs::Places::operand_type, crate::specs::Places::operand_place))]
 fn type_there<V: ImageView>(
     image: &V,
     context: &Context,
@@ -145,7 +141,6 @@ pub(crate) fn resolve<V: ImageView>(image: &V, context: &Context, pc: u32, x: &O
 }
 
 /// Whether an operand is a place, where it is memory.
-#[tactic(auto, unfolding(crate::specs::Places::found))]
 pub(crate) fn found(x: &Resolved) -> bool
     ensures { result ≡ found x.now }
 {
@@ -156,7 +151,6 @@ pub(crate) fn found(x: &Resolved) -> bool
 }
 
 /// Whether an operand may be read by other instructions than CMP.
-#[tactic(auto, unfolding(crate::specs::Places::readable, crate::specs::Places::is_readable))]
 pub(crate) fn readable(x: &Resolved) -> bool
     ensures { result ≡ readable x.now }
 {
@@ -167,7 +161,6 @@ pub(crate) fn readable(x: &Resolved) -> bool
 }
 
 /// Whether an operand may be written.
-#[tactic(auto, unfolding(crate::specs::Places::writable, crate::specs::Places::is_writable))]
 pub(crate) fn writable(x: &Resolved) -> bool
     ensures { result ≡ writable x.now }
 {
@@ -182,7 +175,6 @@ pub(crate) fn writable(x: &Resolved) -> bool
 }
 
 /// Whether values of the type are numbers.
-#[tactic(auto, unfolding(crate::specs::Places::is_num))]
 pub(crate) fn is_num(t: Ty) -> bool
     ensures { result ≡ is_num t }
 {
@@ -193,7 +185,6 @@ pub(crate) fn is_num(t: Ty) -> bool
 }
 
 /// Whether a value of the type may be stored in an operand.
-#[tactic(auto, unfolding(crate::specs::Places::storable, crate::specs::Places::takes))]
 pub(crate) fn storable(shapes: &Shapes, t: Ty, x: &Resolved) -> bool
     ensures { result ≡ storable shapes.now t x.now }
 {

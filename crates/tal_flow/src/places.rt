@@ -6,7 +6,7 @@ use crate::known::{has_pair, register};
 use ia32_code::{Mem, Reg};
 use object_layout::areas::{STATICS_START, word_index};
 use object_layout::{FieldTy, Shapes};
-use tal_types::{Context, Ty};
+use tal_types::{Context, Ty, same};
 
 /// What a memory operand means.
 #[derive(Clone, Copy, Debug, PartialEq, Eq)]
@@ -32,7 +32,6 @@ fn field_place(field: Option<FieldTy>) -> Option<Place>
     Some(Place::Whole(Ty::from(field?)))
 }
 
-#[tactic(auto, unfolding(crate::specs::Places::static_place))]
 fn static_place(statics: &[FieldTy], disp: u32) -> Option<Place>
     ensures { result ≡ static_place statics.now disp }
 {
@@ -40,7 +39,6 @@ fn static_place(statics: &[FieldTy], disp: u32) -> Option<Place>
     field_place(statics.get(j as usize).copied())
 }
 
-#[tactic(auto, unfolding(crate::specs::Places::slot_place, tal_types::specs::Kept::live_of))]
 fn slot_place(context: &Context, disp: u32) -> Option<Place>
     ensures { result ≡ slot_place (live_of context.now) disp }
 {
@@ -49,7 +47,6 @@ fn slot_place(context: &Context, disp: u32) -> Option<Place>
     Some(Place::Slot(i))
 }
 
-#[tactic(auto, unfolding(crate::specs::Places::object_place))]
 fn object_place(shapes: &Shapes, r: Reg, c: u32, disp: u32) -> Option<Place>
     ensures { result ≡ object_place shapes.now r c disp }
 {
@@ -60,14 +57,12 @@ fn object_place(shapes: &Shapes, r: Reg, c: u32, disp: u32) -> Option<Place>
     }
 }
 
-#[tactic(auto, unfolding(crate::specs::Places::array_place))]
 fn array_place(disp: u32) -> Option<Place>
     ensures { result ≡ array_place disp }
 {
     if disp == 4 { Some(Place::Length) } else { None }
 }
 
-#[tactic(auto, unfolding(crate::specs::Places::element_place, tal_types::specs::Kept::live_of))]
 fn element_place(
     shapes: &Shapes,
     context: &Context,
@@ -85,7 +80,6 @@ fn element_place(
     }
 }
 
-#[tactic(auto, unfolding(crate::specs::Places::display_place))]
 fn display_place(t: Reg, disp: u32) -> Option<Place>
     ensures { result ≡ display_place t disp }
 {
@@ -97,7 +91,6 @@ fn display_place(t: Reg, disp: u32) -> Option<Place>
     }
 }
 
-#[tactic(auto, unfolding(crate::specs::Places::table_place))]
 fn table_place(shapes: &Shapes, t: Reg, c: u32, disp: u32) -> Option<Place>
     ensures { result ≡ table_place shapes.now t c disp }
 {
@@ -109,7 +102,6 @@ fn table_place(shapes: &Shapes, t: Reg, c: u32, disp: u32) -> Option<Place>
 }
 
 /// The place at a base register other than ESP.
-#[tactic(auto, unfolding(crate::specs::Places::based))]
 fn based(shapes: &Shapes, context: &Context, r: Reg, mem: &Mem) -> Option<Place>
     ensures { result ≡ based shapes.now (live_of context.now) r ((live_of context.now).regs r) mem.now.index mem.now.scale mem.now.disp }
 {
@@ -123,7 +115,6 @@ fn based(shapes: &Shapes, context: &Context, r: Reg, mem: &Mem) -> Option<Place>
 }
 
 /// What a memory operand means in a context that is not dead.
-#[tactic(auto, unfolding(crate::specs::Places::place_in, tal_types::specs::Contexts::same))]
 pub(crate) fn place_in(
     shapes: &Shapes,
     statics: &[FieldTy],
@@ -135,15 +126,18 @@ pub(crate) fn place_in(
     match (mem.base, mem.index) {
         (None, None) => static_place(statics, mem.disp),
         (None, Some(_)) => None,
-        (Some(Reg::Esp), None) => slot_place(context, mem.disp),
-        (Some(Reg::Esp), Some(_)) => None,
-        (Some(r), _) => based(shapes, context, r, mem),
+        (Some(r), index) => if !same(r, Reg::Esp) {
+            based(shapes, context, r, mem)
+        } else if index.is_none() {
+            slot_place(context, mem.disp)
+        } else {
+            None
+        },
     }
 }
 
 /// What a memory operand means where `context` is known; none where it is no place. A dead context tells
 /// nothing of registers and slots: statics alone are places in it.
-#[tactic(auto, unfolding(crate::specs::Places::PlaceType, tal_types::specs::Kept::context_of))]
 pub fn place_of(shapes: &Shapes, statics: &[FieldTy], context: &Context, mem: &Mem) -> Option<Place>
     ensures { result ≡ PlaceType shapes.now statics.now (context_of context.now) mem.now }
 {

@@ -22,7 +22,6 @@ pub enum Family {
     Others,
 }
 
-#[tactic(auto, unfolding(crate::specs::Rows::family))]
 fn family_of(t: Ty) -> Family
     ensures { result ≡ family t }
 {
@@ -35,7 +34,6 @@ fn family_of(t: Ty) -> Family
     }
 }
 
-#[tactic(auto, unfolding(crate::specs::Rows::has_null))]
 fn has_null(family: Family) -> bool
     ensures { result ≡ has_null family }
 {
@@ -46,7 +44,6 @@ fn has_null(family: Family) -> bool
 }
 
 /// Whether an operand of the type is the number 0. A marked immediate is no number.
-#[tactic(auto, unfolding(crate::specs::Rows::is_zero))]
 fn is_zero(x: &Operand, t: Ty) -> bool
     ensures { result ≡ is_zero x.now t }
 {
@@ -57,7 +54,6 @@ fn is_zero(x: &Operand, t: Ty) -> bool
 }
 
 /// The class that an immediate of the type is marked with.
-#[tactic(auto, unfolding(crate::specs::Rows::marked_class))]
 fn marked_class(x: &Operand, t: Ty) -> Option<u32>
     ensures { result ≡ marked_class x.now t }
 {
@@ -68,7 +64,6 @@ fn marked_class(x: &Operand, t: Ty) -> Option<u32>
 }
 
 /// The register of the array whose length an operand at the place is.
-#[tactic(auto, unfolding(crate::specs::Rows::length_base))]
 fn length_base(x: &Operand, place: Option<Place>) -> Option<Reg>
     ensures { result ≡ length_base x.now place }
 {
@@ -79,7 +74,6 @@ fn length_base(x: &Operand, place: Option<Place>) -> Option<Reg>
 }
 
 /// Whether there is class `c`, and its depth is `k`.
-#[tactic(auto, unfolding(crate::specs::Rows::has_depth, object_layout::specs::Classes::table_word, object_layout::specs::Classes::table))]
 fn has_depth(shapes: &Shapes, c: u32, k: u32) -> bool
     ensures { result ≡ has_depth shapes.now c k }
 {
@@ -90,7 +84,6 @@ fn has_depth(shapes: &Shapes, c: u32, k: u32) -> bool
 }
 
 /// The register of lowest number whose object's table is in `t`.
-#[tactic(auto, unfolding(crate::specs::Rows::first_head, tal_types::specs::Kept::live_of))]
 fn first_head(context: &Context, t: Reg) -> Option<Reg>
     ensures { result ≡ first_head (live_of context.now) t }
 {
@@ -116,7 +109,6 @@ fn first_head(context: &Context, t: Reg) -> Option<Reg>
 }
 
 /// The kind that a class test of the table in `t` gives.
-#[tactic(auto, unfolding(crate::specs::Rows::class_test))]
 fn class_test(context: &Context, t: Reg, d: u32) -> FlagKind
     ensures { result ≡ class_test (live_of context.now) t d }
 {
@@ -127,7 +119,6 @@ fn class_test(context: &Context, t: Reg, d: u32) -> FlagKind
 }
 
 /// The row of a display and a marked class.
-#[tactic(auto, unfolding(crate::specs::Rows::display_row))]
 fn display_row(
     shapes: &Shapes,
     context: &Context,
@@ -165,7 +156,6 @@ fn null_kind(d: &Operand) -> FlagKind
 }
 
 /// The kind that CMP gives; none where its operands have no row.
-#[tactic(auto, unfolding(crate::specs::Rows::compare_kind, crate::specs::Rows::compare_row))]
 pub(crate) fn compare_kind(
     shapes: &Shapes,
     context: &Context,
@@ -199,7 +189,6 @@ fn same_register(d: &Operand, x: &Operand) -> bool
 }
 
 /// The kind that TEST gives; none where its operands have no row.
-#[tactic(auto, unfolding(crate::specs::Rows::test_kind, crate::specs::Rows::test_row))]
 pub(crate) fn test_kind(d: &Resolved, x: &Resolved) -> Option<FlagKind>
     ensures { result ≡ test_kind d.now x.now }
 {

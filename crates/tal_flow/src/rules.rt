@@ -5,8 +5,9 @@ ghost use Rattle.tal_types.specs.Kept.{live_of};
 ghost use Rattle.tal_types.specs.declared.types.FlagKind.{FlagKind};
 ghost use Rattle.tal_flow.specs.Places.{is_num};
 ghost use Rattle.tal_flow.specs.Trials.{first_failing};
-ghost use Rattle.tal_flow.specs.Rules.{address_spares_esp, address_is_num, may_drop, operand_trials};
+ghost use Rattle.tal_flow.specs.Rules.{address_spares_esp, address_is_num, operand_trials};
 
+use crate::afterwards::may_drop;
 use crate::calls::{Called, is_callable, is_fit};
 use crate::edges::allows;
 use crate::known::register;
@@ -14,7 +15,6 @@ use crate::operands::{Reads, Resolved, found, is_esp, is_num, readable, writable
 use crate::seen::Seen;
 use crate::trials::{RuleName, ask, first_failing};
 use ia32_code::{Cond, Mem, Reg};
-use object_layout::areas::word_index;
 use tal_types::{Context, FlagKind, Ty, same};
 
 /// Whether a register of an address, if there is one, holds a number.
@@ -24,17 +24,6 @@ fn holds_number(context: &Context, r: Option<Reg>) -> bool
     match r {
         Some(q) => is_num(register(context, q)),
         None => true,
-    }
-}
-
-/// Whether so many slots are there as a number of bytes has.
-#[tactic(auto, unfolding(crate::specs::Rules::may_drop, crate::specs::Afterwards::slots_in, tal_types::specs::Kept::live_of))]
-fn may_drop(context: &Context, bytes: u32) -> bool
-    ensures { result ≡ may_drop (live_of context.now) bytes }
-{
-    match word_index(0, bytes) {
-        Some(n) => n as usize <= context.slots().len(),
-        None => false,
     }
 }
 
@@ -63,7 +52,6 @@ fn move_rule(d: &Resolved, x: &Resolved, fits: bool) -> Option<RuleName>
 }
 
 /// The first rule of a LEA that fails.
-#[tactic(auto, unfolding(crate::specs::Rules::address_spares_esp, crate::specs::Rules::address_is_num))]
 fn address_rule(context: &Context, r: Reg, m: &Mem) -> Option<RuleName>
     ensures { result ≡ first_failing (operand_trials (live_of context.now) (Seen.Address r m.now)) }
 {
@@ -103,7 +91,6 @@ fn test_rule(d: &Resolved, x: &Resolved, kind: Option<FlagKind>) -> Option<RuleN
 }
 
 /// The first rule of a PUSH that fails.
-#[tactic(auto, unfolding(tal_types::specs::Kept::live_of))]
 fn push_rule(context: &Context, x: &Resolved) -> Option<RuleName>
     ensures { result ≡ first_failing (operand_trials (live_of context.now) (Seen.PushOf x.now)) }
 {
@@ -116,7 +103,6 @@ fn push_rule(context: &Context, x: &Resolved) -> Option<RuleName>
 }
 
 /// The first rule of a POP that fails.
-#[tactic(auto, unfolding(tal_types::specs::Kept::live_of))]
 fn pop_rule(context: &Context, r: Reg) -> Option<RuleName>
     ensures { result ≡ first_failing (operand_trials (live_of context.now) (Seen.PopTo r)) }
 {
@@ -160,7 +146,6 @@ fn call_by_rule(x: &Resolved, called: Called) -> Option<RuleName>
 }
 
 /// The first rule of RET that fails.
-#[tactic(auto, unfolding(tal_types::specs::Kept::live_of))]
 fn return_rule(context: &Context, fits: bool) -> Option<RuleName>
     ensures { result ≡ first_failing (operand_trials (live_of context.now) (Seen.Return fits)) }
 {
@@ -171,7 +156,6 @@ fn return_rule(context: &Context, fits: bool) -> Option<RuleName>
 }
 
 /// The first rule of a branch that fails.
-#[tactic(auto, unfolding(tal_types::specs::Kept::live_of))]
 fn branch_rule(context: &Context, condition: Cond, is_block: bool) -> Option<RuleName>
     ensures { result ≡ first_failing (operand_trials (live_of context.now) (Seen.Branch condition is_block)) }
 {

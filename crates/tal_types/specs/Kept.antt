@@ -10,7 +10,7 @@ use Rattle.tal_types.specs.Contexts.{LiveContext, ContextView, Dead, Live}
 -- What a `Context` means.
 
 -- the type of a register among those of all eight
-unfoldable pub type_at : List Ty → Reg → Ty
+abbrev pub type_at : List Ty → Reg → Ty
 type_at types r = slice_index_or types (number r) Junk
 
 -- whether (r, q) is in a set of pairs of registers: it is bit 8r + q
@@ -18,7 +18,7 @@ unfoldable pub pair_in : ℕ → Reg → Reg → Bool
 pair_in bits r q = bit_at bits (8 * number r + number q) == 1
 
 -- what is known in a context that is not dead
-unfoldable pub live_of : Context → LiveContext
+abbrev pub live_of : Context → LiveContext
 live_of c = record {
   regs = type_at c.regs;
   slots = take c.depth c.slots;

@@ -72,7 +72,6 @@ impl Context {
     }
 
     /// The types of the frame's slots, slot 0 first.
-    #[tactic(auto, unfolding(crate::specs::Kept::live_of))]
     pub fn slots(&self) -> &[Ty]
         ensures slots { result.now ≡ (live_of self.now).slots }
         ensures depth { length result.now ≡ self.now.depth }

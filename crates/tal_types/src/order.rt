@@ -95,7 +95,7 @@ fn has_all(bits: u64, others: u64) -> bool
 }
 
 /// Whether context `a` is below context `b`: what is known in the second is known in the first, too.
-#[tactic(auto, unfolding(crate::specs::Contexts::context_below, crate::specs::Contexts::live_below, crate::specs::Kept::context_of, crate::specs::Kept::live_of))]
+#[tactic(auto, unfolding(crate::specs::Contexts::context_below, crate::specs::Contexts::live_below, crate::specs::Kept::context_of))]
 pub fn context_below(shapes: &Shapes, a: &Context, b: &Context) -> bool
     ensures { result ≡ context_below shapes.now (context_of a.now) (context_of b.now) }
 {

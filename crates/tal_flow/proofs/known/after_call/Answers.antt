@@ -6,5 +6,5 @@ use Rattle.tal_flow.proofs.Fields.{type_at-first}
 use Rattle.tal_flow.proofs.known.after_call.Goals as goal
 
 pub returns-clause-known : goal.returns-clause-known
-unfolding live_of after_call
+unfolding after_call
 returns-clause-known c = same_live _ _ (type_at-first c.args.t) refl refl pair_in-zero pair_in-zero

@@ -20,7 +20,6 @@ pub overflow_sub-context : goal.overflow_sub-context
 overflow_sub-context c = let d = depth-most c.args.context.now in omega (arith, c.requires)
 
 pub returns-clause-known : goal.returns-clause-known
-unfolding live_of
 returns-clause-known c =
     let made = c.dropped-context.ensures in
     let d = depth-most c.args.context.now in

@@ -6,7 +6,7 @@ use Rattle.tal_flow.proofs.Fields.{popped}
 use Rattle.tal_flow.proofs.known.pop_to.Goals as goal
 
 pub returns-clause-known : goal.returns-clause-known
-unfolding pop_to write live_of
+unfolding pop_to write
 returns-clause-known c =
     c.write.ensures.known
     ∙ ap (λ k. write c.args.r (get_or c.args.context.now.slots 0 Num) k) c.drop_slots.ensures.known

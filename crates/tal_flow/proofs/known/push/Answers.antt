@@ -18,7 +18,6 @@ invariant_of-context-clause-no_more_slots c = λ k l.
     junk-pushed c.pushed-context.result c.args.context.now.slots c.args.context.now.depth k made.long made.given made.rest c.args.context.now.no_more_slots l
 
 pub returns-clause-known : goal.returns-clause-known
-unfolding live_of
 returns-clause-known c =
     let made = c.pushed-context.ensures in
     let d = depth-of c.args.context.now made.given in

@@ -16,5 +16,4 @@ invariant_of-context-clause-no_more_slots c = λ k l.
     get_or-set_other c.args.context.now.slots c.args.i k c.args.t Junk apart ∙ c.args.context.now.no_more_slots k l
 
 pub returns-clause-known : goal.returns-clause-known
-unfolding live_of
 returns-clause-known c = same_live _ _ (λ r. refl) (take-set c.args.context.now.depth c.args.context.now.slots c.args.i c.args.t) refl (λ i a. refl) (λ t r. refl)

@@ -9,7 +9,7 @@ pub invariant_of-context-clause-stack_pointer : goal.invariant_of-context-clause
 invariant_of-context-clause-stack_pointer c = rw c.number.ensures.value (esp-other c.args.context.now.regs c.args.r c.args.t (omega arith) c.requires c.args.context.now.stack_pointer)
 
 pub returns-clause-known : goal.returns-clause-known
-unfolding live_of write
+unfolding write
 returns-clause-known c = same_live _ _
     (λ q. rw c.number.ensures.value (type_at-set c.args.context.now.regs c.args.r q c.args.t (omega arith)))
     refl
