@@ -40,6 +40,19 @@ length-with_row rows row = by_case (list_any (same_row row) rows)
 pub same_row-is : (a b : FrameRow) → same_row a b ≡ true → a ≡ b
 same_row-is a b same = grind (arith, nat_tests)
 
+-- A row says the same as itself.
+same_row-refl : (row : FrameRow) → same_row row row ≡ true
+same_row-refl row = grind (arith, nat_tests)
+
+-- Joining a row that has a number already changes nothing.
+pub with_row-there : (rows : List FrameRow) (row : FrameRow) (n : ℕ) → n < length rows → numbered rows n ≡ row → rows ≡ with_row rows row
+with_row-there rows row n below is = rw (there rows n below is) refl
+  where
+    there : (rs : List FrameRow) (k : ℕ) → k < length rs → numbered rs k ≡ row → list_any (same_row row) rs ≡ true
+    there [] k below is = absurd (omega arith)
+    there (r ∷ rs) zero below is = rw (is, same_row-refl row) refl
+    there (r ∷ rs) (suc k) below is = let rest = there rs k (omega arith) is in grind arith
+
 -- A key is among the kept ones where its row is.
 pub list_any-row_of : (row : FrameRow) (ks : List (ℕ × ℕ × ℕ)) → list_any (same_row row) (map row_of ks) ≡ list_any (λ k. same_row row (row_of k)) ks
 list_any-row_of row [] = refl

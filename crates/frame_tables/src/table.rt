@@ -1,6 +1,6 @@
 // Rows of frames by address. Each different row is kept once, in a set that a hash searches; addresses are kept in
 // order, each with the number of its row, and are searched by halving.
-ghost use Rattle.std.specs.Prelude.{ℕ, ◌≡◌, ◌≢◌, ◌<◌, ◌^◌, ◌∷◌, ◌++◌, [], All, IfOk, OnOk, OnErr, MatchOption, slice_index, length, map};
+ghost use Rattle.std.specs.Prelude.{ℕ, ◌≡◌, ◌≢◌, ◌<◌, ◌^◌, ◌∷◌, ◌++◌, [], All, IfOk, IfSome, OnOk, OnErr, MatchOption, slice_index, length, map};
 ghost use Rattle.frame_tables.specs.FrameRows.{row_at, with_row, different_rows};
 ghost use Rattle.frame_tables.specs.Layout.{Rises, row_of, numbered};
 
@@ -44,6 +44,38 @@ fn keep_row(rows: &mut IndexSet<(u8, u8, u64)>, row: FrameRow) -> Result<u32, No
     Ok(number as u32)
 }
 
+// The number of the row that was kept last, where it is this one.
+fn last_number(rows: &IndexSet<(u8, u8, u64)>, numbers: &[u32], row: FrameRow) -> Option<u32>
+    requires { All (λ n. n < length rows.now.keys) numbers.now }
+    ensures { IfSome result (λ n. (n < length rows.now.keys) × (numbered (map row_of rows.now.keys) n ≡ row)) }
+{
+    let number = *numbers.last()?;
+    if kept_row(rows, number) == row {
+        Some(number)
+    } else {
+        None
+    }
+}
+
+// The number of a row, which is kept where it is not already. Most instructions have the row of the one before.
+fn number_of(
+    rows: &mut IndexSet<(u8, u8, u64)>,
+    numbers: &[u32],
+    row: FrameRow,
+) -> Result<u32, NoMemory>
+    requires known { All (λ n. n < length rows.old.keys) numbers.now }
+    requires few { length rows.old.keys < 2 ^ 32 }
+    ensures joined { OnOk result (map row_of rows.new.keys ≡ with_row (map row_of rows.old.keys) row) }
+    ensures few { OnOk result (length rows.new.keys < 2 ^ 32) }
+    ensures number { IfOk result (λ n. (n < length rows.new.keys) × (numbered (map row_of rows.new.keys) n ≡ row)) }
+    ensures err { OnErr result (rows.new.keys ≡ rows.old.keys) }
+{
+    match last_number(rows, numbers, row) {
+        Some(number) => Ok(number),
+        None => keep_row(rows, row),
+    }
+}
+
 /// The rows of frames by the addresses of instructions.
 #[derive(Drop)]
 pub struct FrameTable {
@@ -85,7 +117,7 @@ impl FrameTable {
     {
         self.addresses.reserve(1)?;
         self.numbers.reserve(1)?;
-        let number = keep_row(&mut self.rows, row)?;
+        let number = number_of(&mut self.rows, &self.numbers, row)?;
         self.addresses.push_reserved(pc);
         self.numbers.push_reserved(number);
         Ok(())
