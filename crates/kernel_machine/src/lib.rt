@@ -10,7 +10,6 @@
 // `ReportText` is the report. `laws` has that no run of a well typed image is stuck.
 #![tactic(auto)]
 
-mod ending;
 mod form;
 mod journal;
 pub mod laws;
@@ -25,7 +24,6 @@ mod stack_words;
 mod stepping;
 mod turn;
 
-pub use ending::Ending;
 pub use form::first_outside;
 pub use journal::Journal;
 pub use machine::Machine;

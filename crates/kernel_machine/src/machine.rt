@@ -7,19 +7,17 @@ ghost use Rattle.kernel_machine.specs.Built.{IsBuilt};
 ghost use Rattle.kernel_machine.specs.Machine.{MachineView, Follows, turn_of, end_of};
 ghost use Rattle.kernel_machine.specs.States.{entry_place};
 ghost use Rattle.kernel_machine.specs.Turns.{inst_at};
-ghost use Rattle.kernel_machine.specs.Words.{Steps};
+ghost use Rattle.kernel_machine.specs.Words.{TakesTurn};
 
-use crate::ending::Ending;
 use crate::journal::Journal;
 use crate::laws::{first_is_typed, runs_go_on, turns_keep_typing};
 use crate::run_end::RunEnd;
 use crate::running::MOST_TURNS;
-use crate::screen_text::CELLS;
 use crate::shown::Shown;
 use crate::stack_words::{STACK_END, StackWords};
 use crate::stepping::{ESP, advance};
 use crate::turn::Turn;
-use device_model::Event;
+use device_model::{BLANK, CELLS, Event};
 use ia32_code::laws::canonical_is_none;
 use ia32_code::{Decoded, Inst, decode};
 use ia32_step::Cpu;
@@ -35,9 +33,6 @@ use tal_image::Image;
 /// ESP of stack 0 with its end word alone.
 const FIRST_ESP: u32 = STACK_END - 4;
 
-/// A cell of the screen before it is written: a space with attribute 7.
-const BLANK: u16 = 0x0720;
-
 /// A machine over a checked image and recorded events.
 ///
 /// It stands for a state of the typed machine that typing allows, so no turn tests for an ill typed step.
@@ -48,21 +43,21 @@ pub struct Machine {
     /// ESP is that of stack 0.
     cpu: Cpu,
     turns: u32,
-    ending: Option<Ending>,
+    ending: Turn,
     /// The memory of stack 0, which alone runs so far.
     stack: StackWords,
     cells: Vec<u16>,
 }
 
 impl Model for Machine {
-    ghost use Rattle.kernel_machine.specs.Machine.{MachineView, Lawful};
+    ghost use Rattle.kernel_machine.specs.Machine.{MachineView, Lawful, ending_of};
     ghost use Rattle.kernel_machine.specs.Words.{viewed};
 
     ghost Value = { MachineView };
 
-    ghost view = { λ m. viewed m.checked.image m.events.items m.cpu m.turns m.ending m.stack m.cells.items };
+    ghost view = { λ m. viewed m.checked.image m.events.items m.cpu m.turns (ending_of m.ending) m.stack m.cells.items };
 
-    ghost invariant = { λ m. Lawful (viewed m.checked.image m.events.items m.cpu m.turns m.ending m.stack m.cells.items) };
+    ghost invariant = { λ m. Lawful (viewed m.checked.image m.events.items m.cpu m.turns (ending_of m.ending) m.stack m.cells.items) };
 }
 
 // Where stack 0 begins.
@@ -129,7 +124,7 @@ impl Machine {
             events,
             cpu,
             turns: 0,
-            ending: None,
+            ending: Turn::On,
             stack,
             cells,
         })
@@ -153,14 +148,10 @@ impl Machine {
     {
         accepted_runs();
         runs_go_on();
-        if self.ending.is_none() {
+        if !self.has_ended() {
             self.step();
         }
-        match self.ending {
-            None => Turn::On,
-            Some(Ending::Halted(number)) => Turn::Halted(number),
-            Some(Ending::KernelFault(vector)) => Turn::KernelFault(vector),
-        }
+        self.ending
     }
 
     /// How many turns were taken.
@@ -183,9 +174,9 @@ impl Machine {
         ensures real { result ≢ RunEnd.NoMemory }
     {
         match self.ending {
-            None => RunEnd::Turns,
-            Some(Ending::Halted(number)) => RunEnd::Halted(number),
-            Some(Ending::KernelFault(vector)) => RunEnd::KernelFault(vector),
+            Turn::On => RunEnd::Turns,
+            Turn::Halted(number) => RunEnd::Halted(number),
+            Turn::KernelFault(vector) => RunEnd::KernelFault(vector),
         }
     }
 
@@ -193,7 +184,7 @@ impl Machine {
     fn step(&mut self)
         requires on { self.old.ending ≡ None }
         requires turns { self.old.turns < MOST_TURNS }
-        ensures { Steps self.old self.new }
+        ensures { TakesTurn self.old self.new }
     {
         accepted_runs();
         turns_keep_typing();
@@ -206,7 +197,7 @@ impl Machine {
     pub(crate) fn has_ended(&self) -> bool
         ensures { result ≡ is_some self.now.ending }
     {
-        self.ending.is_some()
+        !matches!(self.ending, Turn::On)
     }
 }
 

@@ -1,4 +1,5 @@
-ghost use Rattle.std.specs.Prelude.{◌≡◌, ◌≤◌, [], ◌∷◌, IfOk, length, drop};
+ghost use Rattle.std.specs.Prelude.{◌≡◌, ◌≤◌, ◌-◌, [], ◌∷◌, IfOk, length, drop};
+ghost use Rattle.kernel_machine.specs.declared.stack_words.TheConstants.{STACK_WORDS};
 ghost use Rattle.kernel_machine.specs.Words.{word_number};
 
 use ia32_step::Bus;
@@ -7,8 +8,11 @@ use object_layout::areas::STACKS_START;
 use std::alloc::Global;
 use std::marker::Model;
 
+/// How many words a stack has at most.
+pub(crate) const STACK_WORDS: usize = 4096;
+
 /// The address above stack 0.
-pub(crate) const STACK_END: u32 = STACKS_START + 16384;
+pub(crate) const STACK_END: u32 = STACKS_START + 4 * STACK_WORDS as u32;
 
 /// The words of stack 0, from its lowest address.
 #[derive(Drop)]
@@ -18,26 +22,27 @@ pub(crate) struct StackWords {
 
 impl Model for StackWords {
     ghost use Rattle.std.specs.Prelude.{◌≡◌, ℕ, List, length};
+    ghost use Rattle.kernel_machine.specs.declared.stack_words.TheConstants.{STACK_WORDS};
 
     ghost Value = { List ℕ };
 
     ghost view = { λ s. s.words.items };
 
-    ghost invariant = { λ s. length s.words.items ≡ 4096 };
+    ghost invariant = { λ s. length s.words.items ≡ STACK_WORDS };
 }
 
 impl StackWords {
     /// A stack of words that are all 0.
     pub(crate) fn new(alloc: Global) -> Result<StackWords, NoMemory>
-        ensures { IfOk result (λ s. drop 4095 s ≡ 0 ∷ []) }
+        ensures { IfOk result (λ s. drop (STACK_WORDS - 1) s ≡ 0 ∷ []) }
     {
-        let words = vec![in alloc; 0u32; 4096]?;
+        let words = vec![in alloc; 0u32; STACK_WORDS]?;
         Ok(StackWords { words })
     }
 
-    /// There are 4096 words: a fact for the proofs.
+    /// All its words are there: a fact for the proofs.
     pub(crate) fn whole(&self)
-        ensures { length self.now ≡ 4096 }
+        ensures { length self.now ≡ STACK_WORDS }
     {
         let _words = &self.words;
     }

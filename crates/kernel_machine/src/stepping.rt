@@ -1,12 +1,14 @@
-ghost use Rattle.std.specs.Prelude.{◌≡◌, ◌≢◌, ℕ, ◌+◌, ◌-◌, ◌<◌, ◌≤◌, ◌%◌, ◌^◌, ◌==◌, if◌then◌else◌, None, true, false, length, slice_set};
+ghost use Rattle.std.specs.Prelude.{◌≡◌, ◌≢◌, ℕ, ◌+◌, ◌-◌, ◌<◌, ◌≤◌, ◌%◌, ◌^◌, ◌==◌, if◌then◌else◌, true, false, length, slice_set};
 ghost use Rattle.ia32_code.specs.Canonical.{Canonical};
 ghost use Rattle.tal_flow.specs.Rules.{next_address};
 ghost use Rattle.tal_image.specs.Image.{ImageParts};
 ghost use Rattle.kernel_machine.specs.States.{State};
-ghost use Rattle.kernel_machine.specs.Words.{top, is_push, overflows, Runs, Leads, Left, Leaves, is_stack_word, memory_of, came_back, halted_by};
+ghost use Rattle.kernel_machine.specs.Machine.{ending_of};
+ghost use Rattle.kernel_machine.specs.declared.stack_words.TheConstants.{STACK_WORDS};
+ghost use Rattle.kernel_machine.specs.Words.{top, is_push, overflows, Runs, Leads, Left, HoldsAfter, is_stack_word, memory_of, came_back, halted_by};
 
-use crate::ending::Ending;
 use crate::stack_words::StackWords;
+use crate::turn::Turn;
 use ia32_code::Inst;
 use ia32_step::{Bus, Cpu, Effect, exec};
 use object_layout::areas::STACKS_START;
@@ -54,8 +56,8 @@ fn enter(cpu: &mut Cpu, stack: &mut StackWords, target: u32, next: u32)
     ensures flags { cpu.new.flags ≡ cpu.old.flags }
     ensures place { cpu.new.pc ≡ target }
     ensures words { (a : ℕ) → memory_of stack.new a ≡ (if a == top cpu.old - 4 then next else memory_of stack.old a) }
-    ensures before { length stack.old ≡ 4096 }
-    ensures after { length stack.new ≡ 4096 }
+    ensures before { length stack.old ≡ STACK_WORDS }
+    ensures after { length stack.new ≡ STACK_WORDS }
 {
     // A fact for the proof, before and after.
     stack.whole();
@@ -67,39 +69,39 @@ fn enter(cpu: &mut Cpu, stack: &mut StackWords, target: u32, next: u32)
 }
 
 // Goes back to the place on top of the stack. At the end word the run is halted.
-fn leave(cpu: &mut Cpu, stack: &StackWords) -> Option<Ending>
+fn leave(cpu: &mut Cpu, stack: &StackWords) -> Turn
     requires { is_stack_word (top cpu.old) ≡ true }
     ensures cpu { cpu.new ≡ came_back (memory_of stack.now (top cpu.old)) cpu.old }
-    ensures end { result ≡ halted_by (memory_of stack.now (top cpu.old)) cpu.old }
+    ensures end { ending_of result ≡ halted_by (memory_of stack.now (top cpu.old)) cpu.old }
 {
     let top = cpu.regs[ESP];
     let place = stack.load(top);
     if place == 0 {
-        return Some(Ending::Halted(cpu.regs[EAX]));
+        return Turn::Halted(cpu.regs[EAX]);
     }
     cpu.regs[ESP] = top + 4;
     cpu.pc = place;
-    None
+    Turn::On
 }
 
 /// Runs an instruction that is spelled with `len` bytes; the end, where it comes to one.
 ///
 /// Where the words stand for a typed state that the instruction leads on, they stand for the state after it.
-pub(crate) fn advance(cpu: &mut Cpu, stack: &mut StackWords, inst: &Inst, len: u8) -> Option<Ending>
+pub(crate) fn advance(cpu: &mut Cpu, stack: &mut StackWords, inst: &Inst, len: u8) -> Turn
     requires spelled { Canonical inst.now ≢ None }
     requires runs { Runs inst.now len cpu.old stack.old }
-    ensures { (image : ImageParts) (s t : State) → Leads image inst.now len cpu.old stack.old s t → Leaves cpu.new stack.new result s t }
+    ensures { (image : ImageParts) (s t : State) → Leads image inst.now len cpu.old stack.old s t → HoldsAfter cpu.new stack.new (ending_of result) s t }
 {
     if overflows(inst, cpu) {
-        return Some(Ending::KernelFault(STACK_FAULT));
+        return Turn::KernelFault(STACK_FAULT);
     }
     let next = cpu.pc.wrapping_add(len as u32);
     match execute(cpu, stack, inst, len) {
-        Effect::Next => None,
-        Effect::Fault(vector) => Some(Ending::KernelFault(vector)),
+        Effect::Next => Turn::On,
+        Effect::Fault(vector) => Turn::KernelFault(vector),
         Effect::Call(target) => {
             enter(cpu, stack, target, next);
-            None
+            Turn::On
         }
         Effect::Return => leave(cpu, stack),
     }
