@@ -44,7 +44,7 @@ no_long_step : (i : Placed) (is : List Placed) (r : Bool) → is_long i.token �
 no_long_step i is true e rest h = absurd cc
 no_long_step i is false e rest h = (e, rest h)
 
-no_long : (is : List Placed) → long_name is ≡ None → NoLong (lexemes_of is)
+pub no_long : (is : List Placed) → long_name is ≡ None → NoLong (lexemes_of is)
 unfolding long_name
 no_long [] h = tt
 no_long (i ∷ is) h = no_long_step i is (is_long i.token) refl (no_long is) h

@@ -16,3 +16,5 @@ pub mod ArgLaws
 pub mod CodeLaws
 pub mod FaultLaws
 pub mod LineFaults
+pub mod LineEnds
+pub mod ModuleLaws

@@ -26,7 +26,7 @@ unfolding trimmed
 trimmed_cons l [] = record { first = l; more = []; is = refl }
 trimmed_cons l (m ∷ ms) = record { first = without_cr l; more = trimmed (m ∷ ms); is = refl }
 
-some_lines : (bytes : List ℕ) → Cons (lines bytes)
+pub some_lines : (bytes : List ℕ) → Cons (lines bytes)
 some_lines bytes = subst (λ (ls : List (List ℕ)). Cons (trimmed ls)) (sym (first_line bytes)) (trimmed_cons _ _)
 
 pub last_line : (n : ℕ) (scope : Scope) (l : List ℕ) (o : Option Form) (front : List TextLine) (total : Result (List TextLine) TextFault) → line_at scope (line_tokens l) ≡ Ok o

@@ -11,3 +11,4 @@ pub mod Text
 pub mod Sentences
 pub mod Grammar
 pub mod Faults
+pub mod Modules

@@ -1,7 +1,8 @@
 // Reading a text line by line.
-ghost use Rattle.std.specs.Prelude.{◌≡◌, ◌<◌, ◌≤◌, ◌+◌, ◌-◌, ◌^◌, ◌∷◌, [], length, Option, None, Some};
+ghost use Rattle.std.specs.Prelude.{◌≡◌, ◌<◌, ◌≤◌, ◌+◌, ◌-◌, ◌^◌, ◌∷◌, [], length, Option, None, Some, IfOk};
 ghost use Rattle.text_tokens.specs.Lexing.{line_tokens};
 ghost use Rattle.tal_syntax.specs.Lines.{CutIs};
+ghost use Rattle.tal_syntax.specs.Modules.{NoModule, TextOf};
 ghost use Rattle.tal_syntax.specs.Text.{after, IsTaken, behind_line, text_end, IsFault, line_fault, GivesText, text_at, line_at};
 
 use crate::fault::{TextAnswer, TextFault};
@@ -134,10 +135,8 @@ fn at_end(
     }))
 }
 
-/// The module that a text stands for, or its first fault.
-///
-/// The text has LF behind each line, before which a CR may stand; the last line needs none.
-pub fn parse(alloc: Global, bytes: &[u8]) -> Result<Module, TextAnswer>
+// Reads the lines from front to back.
+fn read_text(alloc: Global, bytes: &[u8]) -> Result<Module, TextAnswer>
     requires { length bytes.now ≤ 4294967294 }
     ensures { GivesText result (text_at bytes.now) }
 {
@@ -159,4 +158,17 @@ pub fn parse(alloc: Global, bytes: &[u8]) -> Result<Module, TextAnswer>
             }
         }
     }
+}
+
+/// The module that a text stands for, or its first fault.
+///
+/// The text has LF behind each line, before which a CR may stand; the last line needs none.
+pub fn parse(alloc: Global, bytes: &[u8]) -> Result<Module, TextAnswer>
+    requires { length bytes.now ≤ 4294967294 }
+    ensures gives { GivesText result (text_at bytes.now) }
+    // A module has the sentences of the text's lines, and a text with a fault has no module.
+    ensures module { IfOk result (TextOf bytes.now) }
+    ensures no_module { NoModule result bytes.now }
+{
+    read_text(alloc, bytes)
 }

@@ -1,7 +1,7 @@
 use Rattle.std.proofs.Common.{◌≡◌, ◌+◌, ◌≤◌, length}
 use Rattle.tal_syntax.specs.Text.{behind_line, read_lines, text_at}
 use Rattle.tal_syntax.specs.Lines.{lines}
-use Rattle.tal_syntax.proofs.module.parse.Given as goal
+use Rattle.tal_syntax.proofs.module.read_text.Given as goal
 
 abbrev pub invariant-loop-lines : goal.invariant-loop-lines
 invariant-loop-lines l = record {
