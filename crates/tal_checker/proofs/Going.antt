@@ -9,8 +9,6 @@ use Rattle.ia32_code.specs.Decoding.{decoded, instruction_of}
 use Rattle.tal_types.specs.Contexts.{ContextView, Dead}
 use Rattle.tal_types.specs.Shown.{ShownImage}
 use Rattle.tal_types.specs.declared.signatures.FrameRow.{FrameRow}
-use Rattle.tal_flow.specs.declared.edges.Edges.{Edges}
-use Rattle.tal_flow.specs.Flows.{Flows}
 use Rattle.tal_flow.specs.Rules.{NoRuleFails, LeastRule, Falls}
 use Rattle.tal_flow.specs.Strongest.{Placed, NoRuleAt, LeastRuleAt, falls_from, start, contexts, NoneFails}
 use Rattle.object_layout.specs.Areas.{code_start}
@@ -48,12 +46,6 @@ pub rows-below : (rows : List RowAt) (pc n : ℕ) (row : FrameRow) → 0 < n →
     → All (λ (r : RowAt). r.pc < pc + n) (rows ++ record { pc = pc; row = row } ∷ [])
 rows-below rows pc n row some h =
     All-push (λ (r : RowAt). r.pc < pc + n) rows (record { pc = pc; row = row }) (All-weaker (λ (r : RowAt). r.pc < pc) (λ (r : RowAt). r.pc < pc + n) (λ r l. omega arith) rows h) (omega arith)
-
--- what no rule forbids passes, and hands on what falls through
-pub flows-pass : (v : ShownImage) (c : ContextView) (pc : ℕ) (i : Inst) (n : ℕ) (after : ContextView) (edges : Edges) → Flows v c pc i n after edges
-    → NoRuleFails v c pc i n × (after ≡ Falls v c pc i n)
-unfolding Falls
-flows-pass v c pc i n after edges f = (f.none_fails, f.falls)
 
 module _ (v : ShownImage) (code : List ℕ) (pc : ℕ) (bytes : List ℕ) (c : ContextView) (rows : List RowAt) (i : Inst) (n : ℕ) (here : ContextView) (l : Left v code pc bytes c rows) (e : decoded bytes ≡ One i n) (some : 0 < n) (fits : n ≤ length bytes) (stands : here ≡ start v pc c) where
   -- the instruction at the front, and those after it

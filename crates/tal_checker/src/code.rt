@@ -11,7 +11,7 @@ use frame_tables::FrameTable;
 use ia32_code::{Decoded, decode};
 use object_layout::areas::CODE_START;
 use std::alloc::Global;
-use tal_flow::flow;
+use tal_flow::pass;
 use tal_types::{Context, ImageView, Sig, entry_context};
 
 /// The signature of the function that begins at an address.
@@ -62,7 +62,7 @@ pub(crate) fn check_code<V: ImageView>(
     while let Decoded::One { inst, len } = decode(rest) {
         start_at(image, &mut context, pc);
         frames.push(pc, frame_row(&context))?;
-        if let Err(rule) = flow(image, &mut context, pc, &inst, len) {
+        if let Some(rule) = pass(image, &mut context, pc, &inst, len) {
             return Err(CheckAnswer::Refused {
                 address: pc,
                 rule: rule.0,
