@@ -7,10 +7,11 @@ use Rattle.ia32_code.specs.declared.instruction.Inst.{Inst}
 use Rattle.ia32_code.specs.Spells.{Spells}
 use Rattle.tal_image.specs.declared.parts.FunctionPart.{FunctionPart}
 use Rattle.tal_image.specs.Conditions.{Tables, Spelled}
-use Rattle.tal_image.specs.Grammar.{Grammar, done, then_with, Field, Number, Pair, Instruction, fields_text, Sound}
+use Rattle.file_fields.specs.Grammar.{Grammar, done, then_with, Field, Chunk, Instruction, fields_text, Sound}
+use Rattle.file_fields.specs.Parts.{Means}
+use Rattle.file_fields.specs.Composed.{at_end, split, join, texts}
 use Rattle.tal_image.specs.Fields.{instructions, bodies, joined, code_bytes, after_function}
 use Rattle.tal_image.specs.Formed.{IsBody, AreBodies, EachAfter, IsFunction}
-use Rattle.tal_image.proofs.PartMeanings.{Means, at_end, split, join, texts}
 
 -- the bytes of the instructions of functions
 pub joined_bytes : (body : List Spelled) (more : List (List Spelled)) → code_bytes (joined (body ∷ more)) ≡ code_bytes body ++ code_bytes (joined more)
@@ -49,8 +50,7 @@ module _ (some : SomeText) where
       let k = at_end [] xs fs s in
       subst (λ (z : List Spelled). IsBody zero z × (fields_text fs ≡ code_bytes z)) k.1 (refl, ap fields_text k.0)
   body_back (suc n) (suc r) le [] xs s = absurd cc
-  body_back (suc n) (suc r) le (Number m ∷ fs) xs s = absurd s.1
-  body_back (suc n) (suc r) le (Pair a b ∷ fs) xs s = absurd s.1
+  body_back (suc n) (suc r) le (Chunk t ∷ fs) xs s = absurd s.1
   body_back (suc n) (suc r) le (Instruction text i ∷ fs) xs s =
       let x : Spelled = record { text = text; means = i } in
       let pos = some text i s.1.0 in

@@ -8,16 +8,15 @@ use Rattle.ia32_code.specs.declared.instruction.Inst.{Inst}
 use Rattle.ia32_code.specs.declared.decoding.Decoded.{Decoded}
 use Rattle.ia32_code.specs.declared.decoding.Decoded.TheVariants as answer
 use Rattle.ia32_code.specs.Decoding.{decoded}
-use Rattle.tal_image.specs.declared.fault.ImageFault.{ImageFault}
-use Rattle.tal_image.specs.declared.fault.ImageFault.TheVariants.{Short, Bad}
+use Rattle.file_fields.specs.declared.fault.ImageFault.{ImageFault}
+use Rattle.file_fields.specs.declared.fault.ImageFault.TheVariants.{Short, Bad}
 use Rattle.tal_image.specs.Conditions.{Spelled}
-use Rattle.tal_image.specs.Grammar.{done, then_with}
+use Rattle.file_fields.specs.Grammar.{done, then_with}
 use Rattle.tal_image.specs.declared.parts.FunctionPart.{FunctionPart}
 use Rattle.tal_image.specs.Fields.{instructions, bodies, joined}
-use Rattle.tal_image.specs.Reading.{◌>>=◌, answered, run, body_at}
-use Rattle.tal_image.specs.CodeReading.{span, instruction_starts, bodies_at, starts_behind}
-use Rattle.tal_image.proofs.Loops.{with_front, regroup}
-use Rattle.tal_image.proofs.RowReadings.{run-then_with, bind_then, same_bind}
+use Rattle.file_fields.specs.Reading.{◌▸◌, after_decoding, run}
+use Rattle.tal_image.specs.CodeReading.{body_at, span, instruction_starts, bodies_at, starts_behind}
+use Rattle.file_fields.specs.Composed.{run-then_with, bind_then, same_bind, with_front, regroup}
 
 -- all of a list is as many as it has
 take_whole : (k : ℕ) (xs : List ℕ) → length xs ≤ k → take k xs ≡ xs
@@ -53,9 +52,9 @@ abbrev after_one : ℕ → ℕ → List ℕ → ℕ → ℕ → Inst → Result 
 after_one n room file at len i = run (then_with (instructions n (room - length (take len (drop at file)))) (λ more. done (record { text = take len (drop at file); means = i } ∷ more))) file (at + len)
 
 -- where an instruction must come, the answer to the bytes decides
-one_more : (n r : ℕ) (file : List ℕ) (at : ℕ) (d : Decoded) → d ≡ decoded (drop at file) → run (instructions (suc n) (suc r)) file at ≡ answered d (after_one n (suc r) file at) (suc r) at (length file)
+one_more : (n r : ℕ) (file : List ℕ) (at : ℕ) (d : Decoded) → d ≡ decoded (drop at file) → run (instructions (suc n) (suc r)) file at ≡ after_decoding d (after_one n (suc r) file at) (suc r) at (length file)
 unfolding instructions
-one_more n r file at d e = ap (λ (z : Decoded). answered z (after_one n (suc r) file at) (suc r) at (length file)) (sym e)
+one_more n r file at d e = ap (λ (z : Decoded). after_decoding z (after_one n (suc r) file at) (suc r) at (length file)) (sym e)
 
 -- a test that holds lets through
 passes : {A : Type 0} (len room : ℕ) (x y : A) → len ≤ room → cond (nat_le len room) x y ≡ x
@@ -84,10 +83,10 @@ module _ (begun starts : List Bool) (left : ℕ) (file : List ℕ) (at : ℕ) (t
       go (suc m) zero h k f r = absurd (omega arith)
       go (suc m) (suc n) h k f r =
           let l = length-take-le len (drop at file) within in
-          let step : run (instructions (suc n) (suc m)) file at ≡ (run (instructions n (suc m - len)) file (at + len) >>= λ z. Ok (x ∷ z.0, z.1)) =
+          let step : run (instructions (suc n) (suc m)) file at ≡ (run (instructions n (suc m - len)) file (at + len) ▸ λ z. Ok (x ∷ z.0, z.1)) =
           one_more n m file at (answer.One i len) e ∙ passes len (suc m) (after_one n (suc m) file at len i) (Err (Bad at 23)) f
           ∙ run-then_with (instructions n (suc m - length (take len (drop at file)))) (λ more. done (x ∷ more)) file (at + len)
-          ∙ ap (λ (z : ℕ). run (instructions n (suc m - z)) file (at + len) >>= λ y. Ok (x ∷ y.0, y.1)) l in
+          ∙ ap (λ (z : ℕ). run (instructions n (suc m - z)) file (at + len) ▸ λ y. Ok (x ∷ y.0, y.1)) l in
           record {
             fuel = n;
             front = b.front ++ x ∷ [];
@@ -98,7 +97,7 @@ module _ (begun starts : List Bool) (left : ℕ) (file : List ℕ) (at : ℕ) (t
 
   -- no instruction follows that may
   stopped : (d : Decoded) (f : ImageFault) → 0 < left → d ≡ decoded (drop at file)
-      → ((n room : ℕ) → left ≡ room → answered d (after_one n room file at) room at (length file) ≡ Err f) → starts_behind begun total ≡ Err f
+      → ((n room : ℕ) → left ≡ room → after_decoding d (after_one n room file at) room at (length file) ≡ Err f) → starts_behind begun total ≡ Err f
   stopped d f some e h = ap (starts_behind begun) (go left b.fuel some b.enough refl b.read)
     where
       go : (room fuel : ℕ) → 0 < room → room ≤ fuel → left ≡ room → with_front b.front (run (instructions fuel room) file at) ≡ total → total ≡ Err f
@@ -144,13 +143,13 @@ ok_are {A} x y n m e = let k = pair_is (x, n) (y, m) e in (ap (λ (z : A × ℕ)
 
 module _ (begun : List Bool) (f : FunctionPart) (functions : List FunctionPart) (file : List ℕ) (at : ℕ) where
   -- one function, then the others
-  one_function : bodies_at (f ∷ functions) file at ≡ (body_at f.length file at >>= λ b. bodies_at functions file b.1 >>= λ xs. Ok (b.0 ++ xs.0, xs.1))
+  one_function : bodies_at (f ∷ functions) file at ≡ (body_at f.length file at ▸ λ b. bodies_at functions file b.1 ▸ λ xs. Ok (b.0 ++ xs.0, xs.1))
   unfolding bodies
   one_function =
-      ap (λ r. r >>= λ x. Ok (joined x.0, x.1)) (run-then_with (instructions f.length f.length) (λ body. then_with (bodies functions) (λ more. done (body ∷ more))) file at)
+      ap (λ r. r ▸ λ x. Ok (joined x.0, x.1)) (run-then_with (instructions f.length f.length) (λ body. then_with (bodies functions) (λ more. done (body ∷ more))) file at)
       ∙ bind_then (body_at f.length file at) _ _
       ∙ same_bind (body_at f.length file at) _ _ (λ b.
-      ap (λ r. r >>= λ x. Ok (joined x.0, x.1)) (run-then_with (bodies functions) (λ more. done (b.0 ∷ more)) file b.1)
+      ap (λ r. r ▸ λ x. Ok (joined x.0, x.1)) (run-then_with (bodies functions) (λ more. done (b.0 ∷ more)) file b.1)
       ∙ bind_then (run (bodies functions) file b.1) _ _
       ∙ sym (bind_then (run (bodies functions) file b.1) _ _))
 
@@ -158,12 +157,12 @@ module _ (begun : List Bool) (f : FunctionPart) (functions : List FunctionPart) 
   pub function_on : (starts : List Bool) (next : ℕ) → starts_behind begun (body_at f.length file at) ≡ Ok (starts, next) → starts_behind begun (bodies_at (f ∷ functions) file at) ≡ starts_behind starts (bodies_at functions file next)
   function_on starts next e = ap (starts_behind begun) one_function ∙ go (body_at f.length file at) e
     where
-      behind : (code : List Spelled) (r : Result (List Spelled × ℕ) ImageFault) → starts_behind begun (r >>= λ xs. Ok (code ++ xs.0, xs.1)) ≡ starts_behind (begun ++ instruction_starts code) r
+      behind : (code : List Spelled) (r : Result (List Spelled × ℕ) ImageFault) → starts_behind begun (r ▸ λ xs. Ok (code ++ xs.0, xs.1)) ≡ starts_behind (begun ++ instruction_starts code) r
       behind code (Ok x) = ap (λ (z : List Bool). let r : Result (List Bool × ℕ) ImageFault = Ok (z, x.1) in r)
           (ap (λ (z : List Bool). begun ++ z) (flat_map-append (λ (s : Spelled). span (length s.text)) code x.0) ∙ sym (append_assoc begun (instruction_starts code) (instruction_starts x.0)))
       behind code (Err h) = refl
 
-      go : (r : Result (List Spelled × ℕ) ImageFault) → starts_behind begun r ≡ Ok (starts, next) → starts_behind begun (r >>= λ b. bodies_at functions file b.1 >>= λ xs. Ok (b.0 ++ xs.0, xs.1)) ≡ starts_behind starts (bodies_at functions file next)
+      go : (r : Result (List Spelled × ℕ) ImageFault) → starts_behind begun r ≡ Ok (starts, next) → starts_behind begun (r ▸ λ b. bodies_at functions file b.1 ▸ λ xs. Ok (b.0 ++ xs.0, xs.1)) ≡ starts_behind starts (bodies_at functions file next)
       go (Ok b) d =
           let k = ok_are (begun ++ instruction_starts b.0) starts b.1 next d in
           behind b.0 (bodies_at functions file b.1) ∙ ap (λ (z : List Bool). starts_behind z (bodies_at functions file b.1)) k.0 ∙ ap (λ (n : ℕ). starts_behind starts (bodies_at functions file n)) k.1
@@ -173,7 +172,7 @@ module _ (begun : List Bool) (f : FunctionPart) (functions : List FunctionPart) 
   pub function_fails : (h : ImageFault) → starts_behind begun (body_at f.length file at) ≡ Err h → starts_behind begun (bodies_at (f ∷ functions) file at) ≡ Err h
   function_fails h e = ap (starts_behind begun) one_function ∙ go (body_at f.length file at) e
     where
-      go : (r : Result (List Spelled × ℕ) ImageFault) → starts_behind begun r ≡ Err h → starts_behind begun (r >>= λ b. bodies_at functions file b.1 >>= λ xs. Ok (b.0 ++ xs.0, xs.1)) ≡ Err h
+      go : (r : Result (List Spelled × ℕ) ImageFault) → starts_behind begun r ≡ Err h → starts_behind begun (r ▸ λ b. bodies_at functions file b.1 ▸ λ xs. Ok (b.0 ++ xs.0, xs.1)) ≡ Err h
       go (Ok b) d = absurd cc
       go (Err g) d = d
 

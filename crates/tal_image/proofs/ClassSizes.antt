@@ -11,8 +11,7 @@ use Rattle.std.proofs.lemmas.Grind.{flat_map-append}
 use Rattle.object_layout.specs.declared.rows.FieldTy.{FieldTy}
 use Rattle.object_layout.specs.declared.rows.ClassRow.{ClassRow}
 use Rattle.object_layout.specs.Classes.{ShapesView, parent, own_fields, lineage_within, lineage, Depth, Fields}
-use Rattle.object_layout.proofs.Lineages.{IsEarlierBelow, lineage-root, lineage-under}
-use Rattle.object_layout.proofs.Inheriting.{fields-root, fields-under}
+use Rattle.object_layout.specs.Laws.{ParentsEarlier, LineageLaws}
 use Rattle.tal_image.specs.declared.parts.FunctionPart.{FunctionPart}
 use Rattle.tal_image.specs.declared.class_reader.ClassSize.{ClassSize}
 use Rattle.tal_image.specs.Conditions.{class_view, parent_fits, inherited_fields, method_fits}
@@ -181,7 +180,7 @@ module _ (functions : List FunctionPart) (classes : List ClassRow) (c : ClassRow
     unfolding Fields lineage
     fields_stay k h = ap (flat_map (own_fields after)) (within_stays (suc k) k h) ∙ fields_within (suc k) k h
 
-    module _ (number : ℕ) (z : ClassSize) (above : IsAbove before number z) (named : c.parent ≡ parent_of number) where
+    module _ (laws : LineageLaws after) (number : ℕ) (z : ClassSize) (above : IsAbove before number z) (named : c.parent ≡ parent_of number) where
       -- the new class's parent is an earlier class
       new_earlier : (p : ℕ) → c.parent ≡ Some p → (number ≡ suc p) × (p < length classes)
       unfolding parent_of parent_fits
@@ -191,13 +190,17 @@ module _ (functions : List FunctionPart) (classes : List ClassRow) (c : ClassRow
           go zero d f = absurd cc
           go (suc q) d f = let same = same_Some q p d in (ap (λ (x : ℕ). suc x) same, grind (arith, nat_tests))
 
-      all_earlier : IsEarlierBelow after (suc (length classes))
-      all_earlier = record {
-        earlier = λ k p lt e. ⊎_elim
-            (λ (low : k < length classes). known.earlier k p low (sym (parent_stays k low) ∙ e))
-            (λ (high : length classes ≤ k). let same : k ≡ length classes = omega arith in let q = (new_earlier p (sym parent_new ∙ ap (parent after) (sym same) ∙ e)).1 in omega arith)
-            (cases_lt k (length classes));
-      }
+      all_earlier : ParentsEarlier after
+      all_earlier = λ k p lt e.
+          let long = length-append classes (c ∷ []) in
+          ⊎_elim
+          (λ (low : k < length classes). known.earlier k p low (sym (parent_stays k low) ∙ e))
+          (λ (high : length classes ≤ k). let same : k ≡ length classes = omega arith in let q = (new_earlier p (sym parent_new ∙ ap (parent after) (sym same) ∙ e)).1 in omega arith)
+          (cases_lt k (length classes))
+
+      -- the new class is there
+      new_there : length classes < length (with_class classes c)
+      new_there = let long = length-append classes (c ∷ []) in omega arith
 
       -- the lineage and the fields of the new class
       new_size : (length (lineage after (length classes)) ≡ z.lineage + 1) × (length (Fields after (length classes)) ≡ z.fields + length c.fields)
@@ -207,18 +210,18 @@ module _ (functions : List FunctionPart) (classes : List ClassRow) (c : ClassRow
           go : (m : ℕ) → number ≡ m → (length (lineage after (length classes)) ≡ z.lineage + 1) × (length (Fields after (length classes)) ≡ z.fields + length c.fields)
           go zero e =
               let root : parent after (length classes) ≡ None = parent_new ∙ named ∙ ap parent_of e in
-              let l = ap (λ (xs : List ℕ). length xs) (lineage-root after (length classes) root) in
-              let f = ap (λ (xs : List FieldTy). length xs) (fields-root after (length classes) root ∙ own_new) in
+              let l = ap (λ (xs : List ℕ). length xs) (laws.root (length classes) root) in
+              let f = ap (λ (xs : List FieldTy). length xs) (laws.root_fields (length classes) root ∙ own_new) in
               let zl : z.lineage ≡ 0 = above.lineage ∙ ap (λ m. length (above_lineage before m)) e in
               let zf : z.fields ≡ 0 = above.fields ∙ ap (inherited_fields before) e in
               (omega arith, omega arith)
           go (suc p) e =
               let under : parent after (length classes) ≡ Some p = parent_new ∙ named ∙ ap parent_of e in
               let there = (new_earlier p (named ∙ ap parent_of e)).1 in
-              let l = ap (λ (xs : List ℕ). length xs) (lineage-under after (suc (length classes)) (length classes) p all_earlier (omega arith) under) in
+              let l = ap (λ (xs : List ℕ). length xs) (laws.under all_earlier (length classes) p new_there under) in
               let l2 = length-append (lineage after p) (length classes ∷ []) in
               let l3 = ap (λ (xs : List ℕ). length xs) (lineage_stays p there) in
-              let f = ap (λ (xs : List FieldTy). length xs) (fields-under after (length classes) p all_earlier under) in
+              let f = ap (λ (xs : List FieldTy). length xs) (laws.under_fields all_earlier (length classes) p new_there under) in
               let f2 = length-append (Fields after p) (own_fields after (length classes)) in
               let f3 = ap (λ (xs : List FieldTy). length xs) (fields_stay p there) in
               let f4 = ap (λ (xs : List FieldTy). length xs) own_new in
@@ -233,7 +236,7 @@ module _ (functions : List FunctionPart) (classes : List ClassRow) (c : ClassRow
       pub with_size : AreSizes after (sizes ++ record { lineage = z.lineage + 1; fields = z.fields + length c.fields } ∷ [])
       with_size = record {
         each = let e = known.each in let a = length-append sizes (new ∷ []) in let b = length-append classes (c ∷ []) in omega arith;
-        earlier = λ k p lt e. let b = length-append classes (c ∷ []) in all_earlier.earlier k p (omega arith) e;
+        earlier = all_earlier;
         sized = λ k lt. let b = length-append classes (c ∷ []) in ⊎_elim
             (λ (low : k < length classes).
             let e = known.each in

@@ -9,18 +9,23 @@ use Rattle.ia32_code.specs.declared.instruction.Inst.{Inst}
 use Rattle.ia32_code.specs.declared.decoding.Decoded.{Decoded}
 use Rattle.ia32_code.specs.declared.decoding.Decoded.TheVariants as answer
 use Rattle.ia32_code.specs.Decoding.{Answers, DecodedLaw, decoded}
-use Rattle.tal_image.specs.declared.fault.ImageFault.{ImageFault}
-use Rattle.tal_image.specs.declared.fault.ImageFault.TheVariants.{Bad}
+use Rattle.file_fields.specs.declared.fault.ImageFault.{ImageFault}
+use Rattle.file_fields.specs.declared.fault.ImageFault.TheVariants.{Bad}
 use Rattle.tal_image.specs.declared.parts.FunctionPart.{FunctionPart}
 use Rattle.tal_image.specs.Conditions.{Spelled, begins_at, function_begins, number_at, marked_number}
-use Rattle.tal_image.specs.Grammar.{done, then_with}
+use Rattle.file_fields.specs.Grammar.{done, then_with, AreBytes}
 use Rattle.tal_image.specs.Fields.{instructions, bodies, joined, code_bytes}
-use Rattle.tal_image.specs.Reading.{answered, run}
+use Rattle.file_fields.specs.Reading.{◌▸◌, after_decoding, run}
 use Rattle.tal_image.specs.CodeReading.{span, instruction_starts, function_starts, starts_at, number_of, number_in}
 use Rattle.tal_image.proofs.Bodies.{joined_bytes}
-use Rattle.tal_image.proofs.ReadFields.{AreBytes, bytes_after}
-use Rattle.tal_image.proofs.RowReadings.{run-then_with}
+use Rattle.file_fields.specs.Composed.{run-then_with}
 use Rattle.tal_image.proofs.Rooms.{AllPositive, bind_inverse, ok_pair}
+
+-- the bytes behind some are bytes
+bytes_after : (n : ℕ) (bytes : List ℕ) → AreBytes bytes → AreBytes (drop n bytes)
+bytes_after zero bytes fits = fits
+bytes_after (suc n) [] fits = fits
+bytes_after (suc n) (b ∷ bytes) fits = bytes_after n bytes (λ i. fits (suc i))
 
 -- These instructions stand one after another in a file from a place on.
 abbrev pub StandAt : List ℕ → ℕ → List Spelled → Type 0
@@ -58,7 +63,7 @@ module _ (law : DecodedLaw) (file : List ℕ) (fits : AreBytes file) where
 
   -- one instruction, then others
   one_more : (n r at : ℕ) (xs : List Spelled) (end : ℕ) (d : Decoded) → decoded (drop at file) ≡ d → Answers (drop at file) d
-      → answered d (λ len i. run (then_with (instructions n (suc r - length (take len (drop at file)))) (λ more. done (record { text = take len (drop at file); means = i } ∷ more))) file (at + len)) (suc r) at (length file) ≡ Ok (xs, end)
+      → after_decoding d (λ len i. run (then_with (instructions n (suc r - length (take len (drop at file)))) (λ more. done (record { text = take len (drop at file); means = i } ∷ more))) file (at + len)) (suc r) at (length file) ≡ Ok (xs, end)
       → ((room next : ℕ) (ys : List Spelled) (last : ℕ) → run (instructions n room) file next ≡ Ok (ys, last) → Read_to file next ys last) → Read_to file at xs end
   one_more n r at xs end answer.Short de a e more = absurd cc
   one_more n r at xs end answer.Unknown de a e more = absurd cc

@@ -1,8 +1,7 @@
 -- How far the fields of an image reach: no image file has more than 64 MiB.
-use Rattle.std.proofs.Common.{◌≡◌, ℕ, zero, suc, ◌+◌, ◌-◌, ◌*◌, ◌≤◌, Bool, true, false, List, [], ◌∷◌, ◌++◌, length, refl, subst, arith}
+use Rattle.std.proofs.Common.{◌≡◌, ℕ, zero, suc, ◌+◌, ◌-◌, ◌*◌, ◌≤◌, Bool, true, false, List, [], ◌∷◌, ◌++◌, length, refl, sym, subst, arith}
 use Rattle.std.specs.Prelude.{◌==◌, slice_get, if◌then◌else◌}
 use Rattle.std.specs.Option.{option_map_or}
-use Rattle.std.specs.Int.{w32, to_le_bytes}
 use Rattle.std.proofs.Math.Nat.{suc-mul}
 use Rattle.std.proofs.lemmas.Bool.Decides.{nat_tests}
 use Rattle.std.proofs.lemmas.List.{length-append}
@@ -13,12 +12,12 @@ use Rattle.object_layout.specs.declared.rows.KindRow.{KindRow}
 use Rattle.tal_types.specs.Types.{of_field}
 use Rattle.tal_image.specs.declared.parts.FunctionPart.{FunctionPart}
 use Rattle.tal_image.specs.Image.{ImageParts, ArrayPart, tag_of}
-use Rattle.tal_image.specs.Conditions.{Tables, Spelled, class_view, inherited_methods, numbers_given, with_array, between}
-use Rattle.tal_image.specs.Grammar.{Grammar, done, number, pair, instruction, then_with, many, Field, Number, Pair, Instruction, fields_text, Sound, EndsInside}
-use Rattle.tal_image.specs.Fields.{checked, each, type_field, field_type_field, sig_fields, function_fields, after_function, method_list, class_fields, kind_fields, array_fields, block_fields, mark_fields, instructions, bodies, joined, tables_of, header_fields, sigs_part, functions_part, entries_part, classes_part, kinds_part, statics_part, arrays_part, blocks_part, marks_part, coded_fields, image_fields}
+use Rattle.tal_image.specs.Conditions.{Tables, Spelled, class_view, inherited_methods, entry_fits, numbers_given, with_array, between}
+use Rattle.file_fields.specs.Grammar.{Grammar, done, chunk, instruction, checked, each, then_with, many, bytes_number, Field, Chunk, Instruction, fields_text, Sound, EndsInside}
+use Rattle.file_fields.specs.Composed.{and_then}
+use Rattle.tal_image.specs.Fields.{type_field, field_type_field, sig_fields, function_fields, after_function, method_list, class_fields, kind_fields, array_fields, block_where, block_fields, mark_where, mark_fields, instructions, bodies, joined, tables_of, header_fields, sigs_part, functions_part, entries_part, classes_part, kinds_part, statics_part, arrays_part, blocks_part, marks_part, coded_fields, image_fields}
 use Rattle.tal_image.specs.CodeReading.{code_length}
-use Rattle.tal_image.proofs.PartMeanings.{and_then, Checked, CheckedPair}
-use Rattle.tal_image.proofs.HeaderFields.{Test, tested, AllMeet, tests, header_of, IsHeader, header_is}
+use Rattle.tal_image.proofs.HeaderFields.{Test, tested, TestsMet, tests, header_of, IsHeader, header_is}
 use Rattle.tal_image.proofs.Rows.{after_params, after_types}
 
 -- ---- what a grammar reads at most
@@ -26,46 +25,51 @@ use Rattle.tal_image.proofs.Rows.{after_params, after_types}
 -- sound fields have no more than so many bytes, and what they stand for is so
 abbrev pub Most : {A : Type 0} → (A → Type 0) → Grammar A → ℕ → Type 0
 Most Is (done x) n = Is x
-Most Is (number ok fault next) n = (4 ≤ n) × ((k : ℕ) → Checked ok k → Most Is (next k) (n - 4))
-Most Is (pair ok fault next) n = (8 ≤ n) × ((k m : ℕ) → CheckedPair ok (k, m) → Most Is (next k m) (n - 8))
+Most Is (chunk m ok fault next) n = (m ≤ n) × ((t : List ℕ) → ok t ≡ true → Most Is (next t) (n - m))
 Most Is (instruction room next) n = (text : List ℕ) (i : Inst) → length text ≤ room → (length text ≤ n) × Most Is (next text i) (n - length text)
 
 -- whatever they stand for
 abbrev MostAny : {A : Type 0} → Grammar A → ℕ → Type 0
 MostAny {A} g n = Most (λ (x : A). Unit {0}) g n
 
--- that is how many bytes they have
-most_bytes : {A : Type 0} (Is : A → Type 0) (g : Grammar A) (n : ℕ) (fs : List Field) (after : Grammar A) → Most Is g n → Sound g fs after → length (fields_text fs) ≤ n
-most_bytes Is g n [] after m s = omega arith
-most_bytes {A} Is (number ok fault next) n (Number k ∷ fs) after m s =
-    let more = most_bytes Is (next k) (n - 4) fs after (m.1 k (s.1.0, s.1.1)) (subst (λ (z : Grammar A). Sound z fs after) s.1.2 s.2) in
-    let l : length (fields_text (Number k ∷ fs)) ≡ 4 + length (fields_text fs) = length-append (to_le_bytes w32 k) (fields_text fs) in
+-- no spelling has more than eleven bytes
+abbrev pub FewBytes : Type 0
+FewBytes = (text : List ℕ) (i : Inst) → Spells text i → length text ≤ 11
+
+-- what is left where a file ends inside the field that comes next
+ends_here : {A : Type 0} (few : FewBytes) (Is : A → Type 0) (g : Grammar A) (n : ℕ) (bytes : List ℕ) → Most Is g n → EndsInside g bytes → length bytes ≤ n + 11
+ends_here few Is (done x) n bytes m h = absurd h
+ends_here few Is (chunk k ok fault next) n bytes m h = let enough = m.0 in omega arith
+ends_here few Is (instruction room next) n bytes m h = let l = length-append bytes h.1 in let f = few (bytes ++ h.1) h.0 h.3 in omega arith
+
+-- how many bytes a file has that ends inside a field
+ends_inside : {A : Type 0} (few : FewBytes) (Is : A → Type 0) (g : Grammar A) (n : ℕ) (fs : List Field) (after : Grammar A) (bytes : List ℕ)
+    → Most Is g n → Sound g fs after → EndsInside after bytes → length (fields_text fs ++ bytes) ≤ n + 11
+ends_inside {A} few Is g n [] after bytes m s h = ends_here few Is g n bytes m (subst (λ (z : Grammar A). EndsInside z bytes) (sym s) h)
+ends_inside {A} few Is (chunk k ok fault next) n (Chunk t ∷ fs) after bytes m s h =
+    let more = ends_inside few Is (next t) (n - k) fs after bytes (m.1 t s.1.2) (subst (λ (z : Grammar A). Sound z fs after) s.1.3 s.2) h in
+    let l = length-append t (fields_text fs) in
+    let l2 = length-append (t ++ fields_text fs) bytes in
+    let l3 = length-append (fields_text fs) bytes in
+    let long = s.1.0 in
     let enough = m.0 in
     omega arith
-most_bytes {A} Is (pair ok fault next) n (Pair k j ∷ fs) after m s =
-    let more = most_bytes Is (next k j) (n - 8) fs after (m.1 k j (s.1.0, s.1.1, s.1.2)) (subst (λ (z : Grammar A). Sound z fs after) s.1.3 s.2) in
-    let l : length (fields_text (Pair k j ∷ fs)) ≡ 8 + length (fields_text fs) = length-append (to_le_bytes w32 k ++ to_le_bytes w32 j) (fields_text fs) in
-    let enough = m.0 in
-    omega arith
-most_bytes {A} Is (instruction room next) n (Instruction text i ∷ fs) after m s =
+ends_inside {A} few Is (instruction room next) n (Instruction text i ∷ fs) after bytes m s h =
     let one = m text i s.1.1 in
-    let more = most_bytes Is (next text i) (n - length text) fs after one.1 (subst (λ (z : Grammar A). Sound z fs after) s.1.2 s.2) in
+    let more = ends_inside few Is (next text i) (n - length text) fs after bytes one.1 (subst (λ (z : Grammar A). Sound z fs after) s.1.2 s.2) h in
     let l = length-append text (fields_text fs) in
+    let l2 = length-append (text ++ fields_text fs) bytes in
+    let l3 = length-append (fields_text fs) bytes in
     let enough = one.0 in
     omega arith
-most_bytes Is (done x) n (f ∷ fs) after m s = absurd s.1
-most_bytes Is (number ok fault next) n (Pair k j ∷ fs) after m s = absurd s.1
-most_bytes Is (number ok fault next) n (Instruction text i ∷ fs) after m s = absurd s.1
-most_bytes Is (pair ok fault next) n (Number k ∷ fs) after m s = absurd s.1
-most_bytes Is (pair ok fault next) n (Instruction text i ∷ fs) after m s = absurd s.1
-most_bytes Is (instruction room next) n (Number k ∷ fs) after m s = absurd s.1
-most_bytes Is (instruction room next) n (Pair k j ∷ fs) after m s = absurd s.1
+ends_inside few Is (done x) n (f ∷ fs) after bytes m s h = absurd s.1
+ends_inside few Is (chunk k ok fault next) n (Instruction text i ∷ fs) after bytes m s h = absurd s.1
+ends_inside few Is (instruction room next) n (Chunk t ∷ fs) after bytes m s h = absurd s.1
 
 -- more will do
 most_more : {A : Type 0} (Is : A → Type 0) (g : Grammar A) (n m : ℕ) → n ≤ m → Most Is g n → Most Is g m
 most_more Is (done x) n m le h = h
-most_more Is (number ok fault next) n m le h = (let enough = h.0 in omega arith, λ k c. most_more Is (next k) (n - 4) (m - 4) (omega arith) (h.1 k c))
-most_more Is (pair ok fault next) n m le h = (let enough = h.0 in omega arith, λ k j c. most_more Is (next k j) (n - 8) (m - 8) (omega arith) (h.1 k j c))
+most_more Is (chunk k ok fault next) n m le h = (let enough = h.0 in omega arith, λ t c. most_more Is (next t) (n - k) (m - k) (omega arith) (h.1 t c))
 most_more Is (instruction room next) n m le h = λ text i fit.
     let one = h text i fit in
     let enough = one.0 in
@@ -74,13 +78,11 @@ most_more Is (instruction room next) n m le h = λ text i fit.
 -- one part, and what comes then
 most_then : {A B : Type 0} (Is : A → Type 0) (Then : B → Type 0) (g : Grammar A) (f : A → Grammar B) (n m limit : ℕ) → n + m ≤ limit
     → Most Is g n → ((x : A) → Is x → Most Then (f x) m) → Most Then (then_with g f) limit
+unfolding then_with
 most_then Is Then (done x) f n m limit le h more = most_more Then (f x) m limit (omega arith) (more x h)
-most_then Is Then (number ok fault next) f n m limit le h more =
+most_then Is Then (chunk k ok fault next) f n m limit le h more =
     let enough = h.0 in
-    (omega arith, λ k c. most_then Is Then (next k) f (n - 4) m (limit - 4) (omega arith) (h.1 k c) more)
-most_then Is Then (pair ok fault next) f n m limit le h more =
-    let enough = h.0 in
-    (omega arith, λ k j c. most_then Is Then (next k j) f (n - 8) m (limit - 8) (omega arith) (h.1 k j c) more)
+    (omega arith, λ t c. most_then Is Then (next t) f (n - k) m (limit - k) (omega arith) (h.1 t c) more)
 most_then Is Then (instruction room next) f n m limit le h more = λ text i fit.
     let one = h text i fit in
     let enough = one.0 in
@@ -111,73 +113,78 @@ most_each row size one n = most_many (λ later kept. row) (λ kept x. kept) size
 -- ---- the header
 
 -- numbers under tests
-most_tested : (ts : List Test) (n : ℕ) → length ts * 4 ≤ n → Most (AllMeet ts) (tested ts) n
+most_tested : (ts : List Test) (n : ℕ) → length ts * 4 ≤ n → Most (TestsMet ts) (tested ts) n
+unfolding then_with
 most_tested [] n le = tt
 most_tested (t ∷ ts) n le =
-    and_then (omega arith) (λ k c.
+    and_then (omega arith) (λ four c.
+    let k = bytes_number four in
     let rest = most_tested ts (n - 4) (omega arith) in
-    most_then (AllMeet ts) (AllMeet (t ∷ ts)) (tested ts) (λ ns. done (k, ns)) (n - 4) 0 (n - 4) (omega arith) rest (λ ns all. (c, all)))
+    most_then (TestsMet ts) (TestsMet (t ∷ ts)) (tested ts) (λ ns. done (k, ns)) (n - 4) 0 (n - 4) (omega arith) rest (λ ns all. (c, all)))
 
 -- a header, and its limits
 header_most : Most IsHeader header_fields 52
-unfolding header_fields
-header_most = most_then (AllMeet tests) IsHeader (tested tests) (λ ns. done (header_of ns)) 52 0 52 (omega arith) (most_tested tests 52 (omega arith)) header_is
+unfolding header_fields then_with
+header_most = most_then (TestsMet tests) IsHeader (tested tests) (λ ns. done (header_of ns)) 52 0 52 (omega arith) (most_tested tests 52 (omega arith)) header_is
 
 -- ---- rows
 
 -- so many types, and so many types of fields or of statics
 types_most : (t : Tables) (n : ℕ) → MostAny (each n (type_field t)) (n * 8)
-types_most t n = most_each (type_field t) 8 (omega arith, λ tag index c. tt) n
+unfolding type_field
+types_most t n = most_each (type_field t) 8 (omega arith, λ t c. tt) n
 
 field_types_most : (t : Tables) (n : ℕ) → MostAny (each n (field_type_field t)) (n * 8)
-field_types_most t n = most_each (field_type_field t) 8 (omega arith, λ tag index c. tt) n
+unfolding field_type_field
+field_types_most t n = most_each (field_type_field t) 8 (omega arith, λ t c. tt) n
 
 -- so many numbers under a condition
 numbers_most : (ok : ℕ → Bool) (condition n : ℕ) → MostAny (each n (checked ok condition)) (n * 4)
-numbers_most ok condition n = most_each (checked ok condition) 4 (omega arith, λ k c. tt) n
+numbers_most ok condition n = most_each (checked ok condition) 4 (omega arith, λ t c. tt) n
 
 -- a signature: eight types
 sig_most : (t : Tables) → MostAny (sig_fields t) 64
-unfolding sig_fields
-sig_most t = most_next (each 7 (type_field t)) (after_params t) 56 8 64 (omega arith) (types_most t 7) (λ params. (omega arith, λ tag index c. tt))
+unfolding sig_fields type_field then_with
+sig_most t = most_next (each 7 (type_field t)) (after_params t) 56 8 64 (omega arith) (types_most t 7) (λ params. (omega arith, λ t c. tt))
 
 -- functions, which have no more bytes than the code
 functions_most : (t : Tables) (n left limit : ℕ) → n * 8 ≤ limit
     → Most (λ (fs : List FunctionPart). code_length fs ≤ left) (many n (function_fields t) after_function left) limit
-unfolding function_fields code_length
+unfolding function_fields code_length then_with
 functions_most t zero left limit le = omega arith
 functions_most t (suc n) left limit le =
     let m = suc-mul n 8 in
-    and_then (omega arith) (λ len c.
-    and_then (omega arith) (λ sig c2.
-    let test = c.1 in
+    and_then (omega arith) (λ four test.
+    let len = bytes_number four in
+    and_then (omega arith) (λ sig test2.
     let fits : len ≤ left = grind (arith, nat_tests) in
     let others = functions_most t n (left - len) (n * 8) (omega arith) in
     most_then _ _ (many n (function_fields t) after_function (left - len)) _ (n * 8) 0 (limit - 4 - 4) (omega arith) others (λ fs few. omega arith)))
 
 -- an array kind
 kind_most : (t : Tables) → MostAny (kind_fields t) 8
-unfolding kind_fields
-kind_most t = (omega arith, λ tag index c. tt)
+unfolding kind_fields field_type_field then_with
+kind_most t = (omega arith, λ t c. tt)
 
 -- a class: 256 fields at most, and 53 methods
 class_most : (t : Tables) (functions : List FunctionPart) (classes : List ClassRow) → MostAny (class_fields t functions classes) 2272
-unfolding class_fields
+unfolding class_fields then_with
 class_most t functions classes =
-    and_then (omega arith) (λ m cm.
-    and_then (omega arith) (λ own co.
-    let test = co.1 in
+    and_then (omega arith) (λ first above.
+    let m = bytes_number first in
+    and_then (omega arith) (λ second test.
+    let own = bytes_number second in
     let few : own ≤ 256 = grind (arith, nat_tests) in
     most_next (each own (field_type_field t)) _ (own * 8) 216 2264 (omega arith) (field_types_most t own) (λ fields.
-    and_then (omega arith) (λ n cn.
-    let test2 = cn.1 in
+    and_then (omega arith) (λ third test2.
+    let n = bytes_number third in
     let few2 : n ≤ 53 = grind (arith, nat_tests) in
     let slots = inherited_methods (class_view functions classes) m in
-    most_next (method_list functions n slots) _ (n * 4) 0 212 (omega arith) (most_many _ _ 4 (λ later kept. (omega arith, λ f c. tt)) n slots) (λ methods. tt)))))
+    most_next (method_list functions n slots) _ (n * 4) 0 212 (omega arith) (most_many _ _ 4 (λ later kept. (omega arith, λ t c. tt)) n slots) (λ methods. tt)))))
 
 -- the numbers of a data array are not more than its elements
 given_few : (kinds : List KindRow) (kind n : ℕ) → numbers_given kinds kind n ≤ n
-unfolding numbers_given
+unfolding numbers_given then_with
 given_few kinds kind n = go (option_map_or (λ (row : KindRow). tag_of (of_field row.element) == 0) (slice_get kinds kind) false)
   where
     go : (b : Bool) → (if b then n else 0) ≤ n
@@ -187,13 +194,14 @@ given_few kinds kind n = go (option_map_or (λ (row : KindRow). tag_of (of_field
 -- data arrays, which have 65536 words at most in all
 arrays_most : (t : Tables) (kinds : List KindRow) (n used limit : ℕ) → n * 8 + (65536 - used) * 4 ≤ limit
     → MostAny (many n (λ later kept. array_fields t kinds kept) with_array used) limit
-unfolding array_fields
+unfolding array_fields then_with
 arrays_most t kinds zero used limit le = tt
 arrays_most t kinds (suc n) used limit le =
     let m = suc-mul n 8 in
-    and_then (omega arith) (λ kind ck.
-    and_then (omega arith) (λ size cs.
-    let test = cs.1 in
+    and_then (omega arith) (λ first there.
+    let kind = bytes_number first in
+    and_then (omega arith) (λ second test.
+    let size = bytes_number second in
     let room : used + 2 + size ≤ 65536 = grind (arith, nat_tests) in
     let count = numbers_given kinds kind size in
     let few = given_few kinds kind size in
@@ -207,26 +215,27 @@ arrays_most t kinds (suc n) used limit le =
 
 -- a block: 64 slots at most
 block_most : (t : Tables) (functions : List FunctionPart) (code : List Spelled) (least : ℕ) → MostAny (block_fields t functions code least) 576
-unfolding block_fields
+unfolding block_where then_with
 block_most t functions code least =
-    and_then (omega arith) (λ offset co.
+    and_then (omega arith) (λ first placed.
+    let offset = bytes_number first in
     most_next (each 7 (type_field t)) (after_types t offset) 56 516 572 (omega arith) (types_most t 7) (λ types.
-    and_then (omega arith) (λ n c.
-    let test = c.1 in
+    and_then (omega arith) (λ second test.
+    let n = bytes_number second in
     let few : n ≤ 64 = grind (arith, nat_tests) in
     most_next (each n (type_field t)) _ (n * 8) 0 512 (omega arith) (types_most t n) (λ slots. tt))))
 
 -- a mark
 mark_most : (t : Tables) (functions : List FunctionPart) (statics : ℕ) (arrays : List ArrayPart) (code : List Spelled) (least : ℕ)
     → MostAny (mark_fields t functions statics arrays code least) 12
-unfolding mark_fields
-mark_most t functions statics arrays code least = (omega arith, λ offset co. (omega arith, λ tag index c. tt))
+unfolding mark_where then_with
+mark_most t functions statics arrays code least = (omega arith, λ offset placed. (omega arith, λ both c. tt))
 
 -- ---- the code
 
 -- the instructions of so many bytes
 instructions_most : (n room : ℕ) → MostAny (instructions n room) room
-unfolding instructions
+unfolding instructions then_with
 instructions_most zero room = tt
 instructions_most (suc n) zero = tt
 instructions_most (suc n) (suc r) = λ text i fit.
@@ -235,7 +244,7 @@ instructions_most (suc n) (suc r) = λ text i fit.
 
 -- those of all functions
 bodies_most : (functions : List FunctionPart) → MostAny (bodies functions) (code_length functions)
-unfolding bodies code_length
+unfolding bodies code_length then_with
 bodies_most [] = tt
 bodies_most (f ∷ functions) =
     most_next (instructions f.length f.length) _ f.length (code_length functions) (f.length + code_length functions) (omega arith) (instructions_most f.length f.length) (λ body.
@@ -249,7 +258,7 @@ not_above low high n h = grind (arith, nat_tests)
 
 -- the fields of an image; the numbers are what is left after each part, rounded up
 coded_most : MostAny coded_fields 67108853
-unfolding coded_fields
+unfolding coded_fields then_with
 coded_most =
     most_then IsHeader _ header_fields _ 52 60000000 67108853 (omega arith) header_most (λ h is.
     let few1 = not_above 1 4096 h.sigs is.condition_3 in
@@ -266,7 +275,7 @@ coded_most =
     most_next (sigs_part h) _ (h.sigs * 64) 59000000 60000000 (omega arith) (most_each (sig_fields t) 64 (sig_most t) h.sigs) (λ sigs.
     most_then (λ (fs : List FunctionPart). code_length fs ≤ h.code) _ (functions_part h) _ (h.functions * 8) 58000000 59000000 (omega arith)
     (functions_most t h.functions h.code (h.functions * 8) (omega arith)) (λ functions few.
-    most_next (entries_part h sigs functions) _ (h.stacks * 4) 57000000 58000000 (omega arith) (numbers_most _ 15 h.stacks) (λ entries.
+    most_next (entries_part h sigs functions) _ (h.stacks * 4) 57000000 58000000 (omega arith) (numbers_most (entry_fits sigs functions) 15 h.stacks) (λ entries.
     most_next (classes_part h functions) _ (h.classes * 2272) 54000000 57000000 (omega arith)
     (most_many _ _ 2272 (λ later classes. class_most t functions classes) h.classes []) (λ classes.
     most_next (kinds_part h) _ (h.kinds * 8) 53000000 54000000 (omega arith) (most_each (kind_fields t) 8 (kind_most t) h.kinds) (λ kinds.
@@ -278,24 +287,10 @@ coded_most =
     most_next (marks_part h functions arrays (joined code)) _ (h.marks * 12) 0 11000000 (omega arith)
     (most_many _ _ 12 (λ later least. mark_most t functions h.statics arrays (joined code) least) h.marks 0) (λ marks. tt)))))))))))
 
--- no spelling has more than eleven bytes
-abbrev pub FewBytes : Type 0
-FewBytes = (text : List ℕ) (i : Inst) → Spells text i → length text ≤ 11
-
--- what is left where a file ends inside a field
-ends_few : {A : Type 0} (few : FewBytes) (g : Grammar A) (bytes : List ℕ) → EndsInside g bytes → length bytes ≤ 11
-ends_few few (done x) bytes h = absurd h
-ends_few few (number ok fault next) bytes h = omega arith
-ends_few few (pair ok fault next) bytes h = omega arith
-ends_few few (instruction room next) bytes h = let l = length-append bytes h.1 in let m = few (bytes ++ h.1) h.0 h.3 in omega arith
-
 -- a file that ends inside a field of an image has 64 MiB at most
 pub short_file : (few : FewBytes) (fs : List Field) (after : Grammar ImageParts) (bytes : List ℕ)
     → Sound image_fields fs after → EndsInside after bytes → length (fields_text fs ++ bytes) ≤ 67108864
-unfolding image_fields
+unfolding image_fields then_with
 short_file few fs after bytes s h =
     let most = most_last coded_fields (λ coded. coded.image) 67108853 coded_most in
-    let fields = most_bytes _ image_fields 67108853 fs after most s in
-    let left = ends_few few after bytes h in
-    let l = length-append (fields_text fs) bytes in
-    omega arith
+    ends_inside few _ image_fields 67108853 fs after bytes most s h

@@ -3,14 +3,16 @@ use Rattle.std.proofs.Common.{◌≡◌, ℕ, ◌<◌, ◌^◌, Bool, true, List
 use Rattle.std.specs.Prelude.{◌==◌}
 use Rattle.std.proofs.lemmas.Bool.{eqb-true}
 use Rattle.std.proofs.lemmas.Bool.Decides.{nat_tests}
-use Rattle.tal_image.specs.declared.fault.ImageFault.{ImageFault}
-use Rattle.tal_image.specs.declared.fault.ImageFault.TheVariants.{Magic, Version, Bad}
+use Rattle.file_fields.specs.declared.fault.ImageFault.{ImageFault}
+use Rattle.file_fields.specs.declared.fault.ImageFault.TheVariants.{Magic, Version, Bad}
 use Rattle.tal_image.specs.declared.parts.Header.{Header}
 use Rattle.tal_image.specs.Image.{number_bytes}
 use Rattle.tal_image.specs.Conditions.{between, heap_fits, stacks_fit, sigs_fit, functions_fit, classes_fit, kinds_fit, statics_fit, arrays_fit, code_fits, blocks_fit, marks_fit}
-use Rattle.tal_image.specs.Grammar.{Grammar, done, then_with, fields_text}
-use Rattle.tal_image.specs.Fields.{field, header_fields}
-use Rattle.tal_image.proofs.PartMeanings.{and_then, Means, Checked, at_end, field_means, put_part, put_last, take_part, take_last}
+use Rattle.file_fields.specs.Grammar.{Grammar, done, field, then_with, fields_text}
+use Rattle.file_fields.specs.Laws.{NumberMeanings}
+use Rattle.file_fields.specs.Parts.{Means, Checked}
+use Rattle.file_fields.specs.Composed.{and_then, at_end, put_part, put_last, take_part, take_last}
+use Rattle.tal_image.specs.Fields.{header_fields}
 
 -- ---- numbers, each under a test
 
@@ -33,19 +35,28 @@ abbrev pub AllMeet : (ts : List Test) → Numbers ts → Type 0
 AllMeet [] ns = Unit {0}
 AllMeet (t ∷ ts) ns = Checked t.0 ns.0 × AllMeet ts ns.1
 
+-- each number meets its test, whatever its size
+abbrev pub TestsMet : (ts : List Test) → Numbers ts → Type 0
+TestsMet [] ns = Unit {0}
+TestsMet (t ∷ ts) ns = (t.0 ns.0 ≡ true) × TestsMet ts ns.1
+
+tests_met : (ts : List Test) (ns : Numbers ts) → AllMeet ts ns → TestsMet ts ns
+tests_met [] ns m = tt
+tests_met (t ∷ ts) ns m = (m.0.1, tests_met ts ns.1 m.1)
+
 -- the bytes of the numbers
 abbrev numbers_text : (ts : List Test) → Numbers ts → List ℕ
 numbers_text [] ns = []
 numbers_text (t ∷ ts) ns = number_bytes ns.0 ++ numbers_text ts ns.1
 
 -- numbers in a file
-tested_means : (ts : List Test) → Means (tested ts) (AllMeet ts) (numbers_text ts)
-tested_means [] = record { whole = λ ns h. ([], refl, refl); back = λ fs ns s. (tt, ap fields_text (at_end tt ns fs s).0) }
-tested_means (t ∷ ts) = record {
-  whole = λ ns h. put_part (field_means t.0 t.1) _ ns.0 ns _ h.0 (put_last (tested_means ts) (λ more. (ns.0, more)) ns.1 h.1);
+tested_means : (meanings : NumberMeanings) (ts : List Test) → Means (tested ts) (AllMeet ts) (numbers_text ts)
+tested_means meanings [] = record { whole = λ ns h. ([], refl, refl); back = λ fs ns s. (tt, ap fields_text (at_end tt ns fs s).0) }
+tested_means meanings (t ∷ ts) = record {
+  whole = λ ns h. put_part (meanings.one t.0 t.1) _ ns.0 ns _ h.0 (put_last (tested_means meanings ts) (λ more. (ns.0, more)) ns.1 h.1);
   back = λ fs ns s.
-      let n = take_part (field_means t.0 t.1) _ fs ns s in
-      let more = take_last (tested_means ts) (λ (ms : Numbers ts). (let r : Numbers (t ∷ ts) = (n.value, ms) in r)) n.rest ns n.more in
+      let n = take_part (meanings.one t.0 t.1) _ fs ns s in
+      let more = take_last (tested_means meanings ts) (λ (ms : Numbers ts). (let r : Numbers (t ∷ ts) = (n.value, ms) in r)) n.rest ns n.more in
       subst (λ (z : Numbers (t ∷ ts)). AllMeet (t ∷ ts) z × (fields_text fs ≡ numbers_text (t ∷ ts) z)) more.same ((n.is, more.is), n.bytes _ more.bytes);
 }
 
@@ -103,24 +114,24 @@ pub record IsHeader (h : Header) : Type 0 where
   pub condition_11 : marks_fit h.marks ≡ true
 
 -- numbers that meet the tests are those of a header
-pub header_is : (ns : Numbers tests) → AllMeet tests ns → IsHeader (header_of ns)
+pub header_is : (ns : Numbers tests) → TestsMet tests ns → IsHeader (header_of ns)
 header_is ns m =
     let limits = m.1.1 in
     let tables = limits.1.1 in
     let rows = tables.1.1.1.1 in
     let code = rows.1.1 in
     record {
-      condition_1 = limits.0.1;
-      condition_2 = limits.1.0.1;
-      condition_3 = tables.0.1;
-      condition_4 = tables.1.0.1;
-      condition_5 = tables.1.1.0.1;
-      condition_6 = tables.1.1.1.0.1;
-      condition_7 = rows.0.1;
-      condition_8 = rows.1.0.1;
-      condition_9 = code.0.1;
-      condition_10 = code.1.0.1;
-      condition_11 = code.1.1.0.1;
+      condition_1 = limits.0;
+      condition_2 = limits.1.0;
+      condition_3 = tables.0;
+      condition_4 = tables.1.0;
+      condition_5 = tables.1.1.0;
+      condition_6 = tables.1.1.1.0;
+      condition_7 = rows.0;
+      condition_8 = rows.1.0;
+      condition_9 = code.0;
+      condition_10 = code.1.0;
+      condition_11 = code.1.1.0;
     }
 
 -- a number within small limits has 32 bits
@@ -153,14 +164,14 @@ abbrev pub header_text : Header → List ℕ
 header_text h = numbers_text tests (numbers_of h)
 
 -- a header in a file
-pub header_means : Means header_fields IsHeader header_text
-unfolding header_fields
-header_means = record {
-  whole = λ h is. put_last (tested_means tests) header_of (numbers_of h) (all_meet h is);
+pub header_means : NumberMeanings → Means header_fields IsHeader header_text
+unfolding header_fields then_with
+header_means meanings = record {
+  whole = λ h is. put_last (tested_means meanings tests) header_of (numbers_of h) (all_meet h is);
   back = λ fs h s.
-      let k = take_last (tested_means tests) header_of fs h s in
+      let k = take_last (tested_means meanings tests) header_of fs h s in
       let ns = k.value in
       let magic = ap (λ (n : ℕ). numbers_text tests (n, ns.1)) (eqb-true ns.0 0x49565256 k.is.0.1) in
       let version = ap (λ (n : ℕ). numbers_text tests (0x49565256, (n, ns.1.1))) (eqb-true ns.1.0 1 k.is.1.0.1) in
-      subst (λ (z : Header). IsHeader z × (fields_text fs ≡ header_text z)) k.same (header_is ns k.is, k.bytes ∙ magic ∙ version);
+      subst (λ (z : Header). IsHeader z × (fields_text fs ≡ header_text z)) k.same (header_is ns (tests_met tests ns k.is), k.bytes ∙ magic ∙ version);
 }

@@ -1,15 +1,10 @@
-pub mod OneEnd
-pub mod PartMeanings
 pub mod TypeFields
 pub mod Rows
 pub mod HeaderFields
 pub mod Bodies
 pub mod WholeFiles
-pub mod ReadFields
-pub mod Loops
-pub mod EachFile
-pub mod TableReading
 pub mod RowReadings
+pub mod CodeRowReadings
 pub mod BodyReading
 pub mod KeyedRows
 pub mod Spans
@@ -27,4 +22,4 @@ pub mod Rooms
 pub mod CodeFacts
 pub mod ImageRuns
 pub mod FileEnds
-pub mod WholeReading
+pub mod Steps

@@ -1,8 +1,8 @@
 -- What a reader answers is pinned by what a file is.
 use Rattle.std.proofs.Common.{◌≡◌, ℕ, ◌⊎◌, inl, inr, List, Result, Ok, Err}
 use Rattle.std.specs.Prelude.{IfOk, IfErr, MatchResult}
-use Rattle.tal_image.specs.declared.fault.ImageFault.{ImageFault}
-use Rattle.tal_image.specs.declared.fault.ImageFault.TheVariants.{NoMemory}
+use Rattle.file_fields.specs.declared.fault.ImageFault.{ImageFault}
+use Rattle.file_fields.specs.declared.fault.ImageFault.TheVariants.{NoMemory}
 use Rattle.tal_image.specs.Image.{ImageParts}
 use Rattle.tal_image.specs.Formed.{ImageOf}
 use Rattle.tal_image.specs.Laws.{OneMeaning, FirstFault}

@@ -1,7 +1,7 @@
 -- What the two numbers of a type stand for.
 use Rattle.std.proofs.Common.{◌≡◌, ℕ, zero, suc, ◌<◌, ◌^◌, Bool, true, false, ◌&&◌, List, [], ◌∷◌, ◌++◌, refl, sym, ap, subst, ◌∙◌, arith, lit<}
 use Rattle.std.specs.Int.{w32, to_le_bytes}
-use Rattle.std.specs.Prelude.{nat_lt}
+use Rattle.std.specs.Prelude.{nat_lt, if◌then◌else◌}
 use Rattle.std.proofs.lemmas.Bool.Decides.{nat_tests}
 use Rattle.std.proofs.lemmas.List.{append-nil}
 use Rattle.object_layout.specs.declared.rows.FieldTy.{FieldTy}
@@ -11,10 +11,14 @@ use Rattle.tal_types.specs.declared.types.Ty.TheVariants.{Num, Ref, Obj, ArrRef,
 use Rattle.tal_types.specs.Types.{of_field}
 use Rattle.tal_image.specs.Image.{tag_of, index_of, type_bytes, field_bytes}
 use Rattle.tal_image.specs.Conditions.{Tables, type_fits, is_field_tag}
-use Rattle.tal_image.specs.Grammar.{Grammar, done, Field, Number, Pair, Instruction, fields_text, Sound}
+use Rattle.file_fields.specs.declared.fault.ImageFault.{ImageFault}
+use Rattle.file_fields.specs.declared.fault.ImageFault.TheVariants.{Bad}
+use Rattle.file_fields.specs.Grammar.{done, pair, then_with}
+use Rattle.file_fields.specs.Laws.{NumberMeanings}
+use Rattle.file_fields.specs.Parts.{FieldsOf, Means, CheckedPair, pair_bytes}
+use Rattle.file_fields.specs.Composed.{put_last, take_last}
 use Rattle.tal_image.specs.Fields.{type_of, field_type_of, type_field, field_type_field}
 use Rattle.tal_image.specs.Formed.{IsType, IsFieldType}
-use Rattle.tal_image.proofs.PartMeanings.{Means, at_end}
 
 -- no index is below 0, and 0 alone is below 1
 none_below : {X : Type 0} (i : ℕ) → nat_lt i 0 ≡ true → X
@@ -93,23 +97,6 @@ is_type t tag index small h = record {
 type_text : (t : Tables) (tag index : ℕ) → type_fits t tag index ≡ true → to_le_bytes w32 tag ++ to_le_bytes w32 index ≡ type_bytes (type_of tag index)
 type_text t tag index h = rw (same_tag t tag index h, same_index t tag index h) refl
 
--- a type in a file
-pub type_means : (t : Tables) → Means (type_field t) (IsType t) type_bytes
-type_means t = record { whole = whole; back = back }
-  where
-    whole : (ty : Ty) → IsType t ty → (fs : List Field) × Sound (type_field t) fs (done ty) × (fields_text fs ≡ type_bytes ty)
-    whole ty h = (Pair (tag_of ty) (index_of ty) ∷ [], (done (type_of (tag_of ty) (index_of ty)), (tag_small ty, h.word, h.condition_12, refl), ap (λ (z : Ty). done z) (type_is ty)), append-nil (type_bytes ty))
-
-    back : (fs : List Field) (ty : Ty) → Sound (type_field t) fs (done ty) → IsType t ty × (fields_text fs ≡ type_bytes ty)
-    back [] ty s = absurd cc
-    back (Number n ∷ fs) ty s = absurd s.1
-    back (Instruction text i ∷ fs) ty s = absurd s.1
-    back (Pair tag index ∷ fs) ty s =
-        let k = at_end (type_of tag index) ty fs (subst (λ (z : Grammar Ty). Sound z fs (done ty)) s.1.3 s.2) in (
-          subst (λ (z : Ty). IsType t z) k.1 (is_type t tag index s.1.1 s.1.2),
-          ap (λ (z : List Field). fields_text (Pair tag index ∷ z)) k.0 ∙ append-nil (to_le_bytes w32 tag ++ to_le_bytes w32 index) ∙ type_text t tag index s.1.2 ∙ ap type_bytes k.1,
-        )
-
 -- both of two tests
 both : (a b : Bool) → (a && b) ≡ true → (a ≡ true) × (b ≡ true)
 both true true h = (refl, refl)
@@ -143,24 +130,53 @@ field_tag (RefField c) = refl
 field_tag (ArrRefField k) = refl
 field_tag (FunField s) = refl
 
--- the type of a field, a static or an element in a file
-pub field_type_means : (t : Tables) → Means (field_type_field t) (IsFieldType t) field_bytes
-field_type_means t = record { whole = whole; back = back }
-  where
-    whole : (f : FieldTy) → IsFieldType t f → (fs : List Field) × Sound (field_type_field t) fs (done f) × (fields_text fs ≡ field_bytes f)
-    whole f h =
-        let ty = of_field f in
-        let ok : (type_fits t (tag_of ty) (index_of ty) && is_field_tag (tag_of ty)) ≡ true = rw (h.condition_12, field_tag f) refl in
-        (Pair (tag_of ty) (index_of ty) ∷ [], (done (field_type_of (tag_of ty) (index_of ty)), (tag_small ty, h.word, ok, refl), ap (λ (z : FieldTy). done z) (field_back f)), append-nil (type_bytes ty))
+module _ (meanings : NumberMeanings) (t : Tables) where
+  -- a type in a file
+  pub type_means : Means (type_field t) (IsType t) type_bytes
+  unfolding type_field then_with
+  type_means = record {
+    whole = λ ty h. subst (λ (z : Ty). FieldsOf (type_field t) z (type_bytes ty)) (type_is ty) (put_last pairs make (tag_of ty, index_of ty) (tag_small ty, h.word, h.condition_12));
+    back = λ fs ty s.
+        let k = take_last pairs make fs ty s in
+        let tag = k.value.0 in
+        let index = k.value.1 in
+        (subst (λ (z : Ty). IsType t z) k.same (is_type t tag index k.is.1 k.is.2), k.bytes ∙ type_text t tag index k.is.2 ∙ ap type_bytes k.same);
+  }
+    where
+      make : ℕ × ℕ → Ty
+      make p = type_of p.0 p.1
 
-    back : (fs : List Field) (f : FieldTy) → Sound (field_type_field t) fs (done f) → IsFieldType t f × (fields_text fs ≡ field_bytes f)
-    back [] f s = absurd cc
-    back (Number n ∷ fs) f s = absurd s.1
-    back (Instruction text i ∷ fs) f s = absurd s.1
-    back (Pair tag index ∷ fs) f s =
-        let k = at_end (field_type_of tag index) f fs (subst (λ (z : Grammar FieldTy). Sound z fs (done f)) s.1.3 s.2) in
-        let ok = both (type_fits t tag index) (is_field_tag tag) s.1.2 in
+      pairs : Means (pair (type_fits t) (λ tag index at. Bad at 12) (λ n m. done (n, m))) (CheckedPair (type_fits t)) pair_bytes
+      pairs = meanings.two (type_fits t) (λ tag index at. Bad at 12)
+
+  -- the tag and the index of a field, a static or an element
+  abbrev field_ok : ℕ → ℕ → Bool
+  field_ok tag index = type_fits t tag index && is_field_tag tag
+
+  abbrev field_fault : ℕ → ℕ → ℕ → ImageFault
+  field_fault tag index at = Bad at (if type_fits t tag index then 18 else 12)
+
+  -- the type of a field, a static or an element in a file
+  pub field_type_means : Means (field_type_field t) (IsFieldType t) field_bytes
+  unfolding field_type_field then_with
+  field_type_means = record {
+    whole = λ f h.
+        let ty = of_field f in
+        let ok : field_ok (tag_of ty) (index_of ty) ≡ true = rw (h.condition_12, field_tag f) refl in
+        subst (λ (z : FieldTy). FieldsOf (field_type_field t) z (field_bytes f)) (field_back f) (put_last pairs make (tag_of ty, index_of ty) (tag_small ty, h.word, ok));
+    back = λ fs f s.
+        let k = take_last pairs make fs f s in
+        let tag = k.value.0 in
+        let index = k.value.1 in
+        let ok = both (type_fits t tag index) (is_field_tag tag) k.is.2 in
         let e = field_type_is tag index ok.1 in (
-          subst (λ (z : FieldTy). IsFieldType t z) k.1 (subst (λ (z : Ty). IsType t z) (sym e) (is_type t tag index s.1.1 ok.0)),
-          ap (λ (z : List Field). fields_text (Pair tag index ∷ z)) k.0 ∙ append-nil (to_le_bytes w32 tag ++ to_le_bytes w32 index) ∙ type_text t tag index ok.0 ∙ ap type_bytes (sym e) ∙ ap field_bytes k.1,
-        )
+          subst (λ (z : FieldTy). IsFieldType t z) k.same (subst (λ (z : Ty). IsType t z) (sym e) (is_type t tag index k.is.1 ok.0)),
+          k.bytes ∙ type_text t tag index ok.0 ∙ ap type_bytes (sym e) ∙ ap field_bytes k.same,
+        );
+  }
+    where
+      make : ℕ × ℕ → FieldTy
+      make p = field_type_of p.0 p.1
+
+      pairs : Means (pair field_ok field_fault (λ n m. done (n, m))) (CheckedPair field_ok) pair_bytes
+      pairs = meanings.two field_ok field_fault

@@ -11,10 +11,13 @@ use Rattle.tal_image.specs.declared.parts.FunctionPart.{FunctionPart}
 use Rattle.tal_image.specs.declared.parts.MarkPart.{MarkPart}
 use Rattle.tal_image.specs.Image.{ImageParts, ArrayPart, BlockPart, number_bytes, numbers, field_bytes, sig_bytes, function_bytes, class_bytes, kind_bytes, array_bytes, block_bytes, mark_bytes, FileOf}
 use Rattle.tal_image.specs.Conditions.{Tables, functions_fit, entry_fits, with_array, Spelled}
-use Rattle.tal_image.specs.Grammar.{done, Field, fields_text, Sound, StandsFor}
-use Rattle.tal_image.specs.Fields.{checked, tables_of, sigs_part, functions_part, entries_part, classes_part, kinds_part, statics_part, arrays_part, blocks_part, marks_part, after_function, with_class, after_block, after_mark, joined, code_bytes, CodedImage, coded, coded_fields, image_fields}
+use Rattle.file_fields.specs.declared.fault.ImageFault.TheVariants.{Bad}
+use Rattle.file_fields.specs.Grammar.{done, checked, Field, fields_text, Sound, SoundFile}
+use Rattle.file_fields.specs.Laws.{NumberMeanings}
+use Rattle.file_fields.specs.Parts.{Means, FieldsOf, Counted}
+use Rattle.file_fields.specs.Composed.{at_end, split, join, many_means, each_means, means_as, put_part, put_last, take_part, take_last, given}
+use Rattle.tal_image.specs.Fields.{tables_of, sigs_part, functions_part, entries_part, classes_part, kinds_part, statics_part, arrays_part, blocks_part, marks_part, after_function, with_class, after_block, after_mark, joined, code_bytes, CodedImage, coded, coded_fields, image_fields}
 use Rattle.tal_image.specs.Formed.{EachAfter, Each, IsSig, IsFunction, IsEntry, IsClass, IsFieldType, IsArray, AreBodies, IsBlock, IsMark, Formed, ImageOf}
-use Rattle.tal_image.proofs.PartMeanings.{Means, FieldsOf, Counted, at_end, split, join, checked_means, many_means, each_means, means_as, put_part, put_last, take_part, take_last, given}
 use Rattle.tal_image.proofs.TypeFields.{field_type_means}
 use Rattle.tal_image.proofs.Rows.{sig_means, function_means, kind_means, array_means, mark_means, block_means, class_means}
 use Rattle.tal_image.proofs.HeaderFields.{IsHeader, header_text, header_means}
@@ -51,43 +54,44 @@ abbrev AreMarks : Header → List FunctionPart → List ArrayPart → List Spell
 AreMarks h functions arrays code xs =
     EachAfter after_mark (λ later least m. IsMark (tables_of h) functions h.statics arrays code least m) 0 xs
 
--- each list in a file
-sigs_means : (h : Header) → Means (sigs_part h) (Counted h.sigs (AreSigs (tables_of h))) (λ xs. flat_map sig_bytes xs)
-sigs_means h = each_means (sig_means (tables_of h)) h.sigs
+module _ (meanings : NumberMeanings) where
+  -- each list in a file
+  sigs_means : (h : Header) → Means (sigs_part h) (Counted h.sigs (AreSigs (tables_of h))) (λ xs. flat_map sig_bytes xs)
+  sigs_means h = each_means (sig_means meanings (tables_of h)) h.sigs
 
-functions_means : (h : Header) → Means (functions_part h) (Counted h.functions (AreFunctions h)) (λ xs. flat_map function_bytes xs)
-functions_means h = many_means after_function (function_means (tables_of h)) h.functions h.code
+  functions_means : (h : Header) → Means (functions_part h) (Counted h.functions (AreFunctions h)) (λ xs. flat_map function_bytes xs)
+  functions_means h = many_means after_function (function_means meanings (tables_of h)) h.functions h.code
 
-entry_means : (sigs : List Sig) (functions : List FunctionPart) → Means (checked (entry_fits sigs functions) 15) (IsEntry sigs functions) number_bytes
-entry_means sigs functions =
-    means_as (λ f h. record { word = h.0; condition_15 = h.1 }) (λ f h. (h.word, h.condition_15)) (checked_means (entry_fits sigs functions) 15)
+  entry_means : (sigs : List Sig) (functions : List FunctionPart) → Means (checked (entry_fits sigs functions) 15) (IsEntry sigs functions) number_bytes
+  entry_means sigs functions =
+      means_as (λ f h. record { word = h.0; condition_15 = h.1 }) (λ f h. (h.word, h.condition_15)) (meanings.one (entry_fits sigs functions) (λ at. Bad at 15))
 
-entries_means : (h : Header) (sigs : List Sig) (functions : List FunctionPart)
-    → Means (entries_part h sigs functions) (Counted h.stacks (AreEntries sigs functions)) numbers
-entries_means h sigs functions = each_means (entry_means sigs functions) h.stacks
+  entries_means : (h : Header) (sigs : List Sig) (functions : List FunctionPart)
+      → Means (entries_part h sigs functions) (Counted h.stacks (AreEntries sigs functions)) numbers
+  entries_means h sigs functions = each_means (entry_means sigs functions) h.stacks
 
-classes_means : (h : Header) (functions : List FunctionPart)
-    → Means (classes_part h functions) (Counted h.classes (AreClasses (tables_of h) functions)) (λ xs. flat_map class_bytes xs)
-classes_means h functions = many_means with_class (λ later classes. class_means (tables_of h) functions classes) h.classes []
+  classes_means : (h : Header) (functions : List FunctionPart)
+      → Means (classes_part h functions) (Counted h.classes (AreClasses (tables_of h) functions)) (λ xs. flat_map class_bytes xs)
+  classes_means h functions = many_means with_class (λ later classes. class_means meanings (tables_of h) functions classes) h.classes []
 
-kinds_means : (h : Header) → Means (kinds_part h) (Counted h.kinds (AreKinds (tables_of h))) (λ xs. flat_map kind_bytes xs)
-kinds_means h = each_means (kind_means (tables_of h)) h.kinds
+  kinds_means : (h : Header) → Means (kinds_part h) (Counted h.kinds (AreKinds (tables_of h))) (λ xs. flat_map kind_bytes xs)
+  kinds_means h = each_means (kind_means meanings (tables_of h)) h.kinds
 
-statics_means : (h : Header) → Means (statics_part h) (Counted h.statics (AreStatics (tables_of h))) (λ xs. flat_map field_bytes xs)
-statics_means h = each_means (field_type_means (tables_of h)) h.statics
+  statics_means : (h : Header) → Means (statics_part h) (Counted h.statics (AreStatics (tables_of h))) (λ xs. flat_map field_bytes xs)
+  statics_means h = each_means (field_type_means meanings (tables_of h)) h.statics
 
-arrays_means : (h : Header) (kinds : List KindRow)
-    → Means (arrays_part h kinds) (Counted h.arrays (AreArrays h kinds)) (λ xs. flat_map array_bytes xs)
-arrays_means h kinds = many_means with_array (λ later used. array_means (tables_of h) kinds used) h.arrays h.statics
+  arrays_means : (h : Header) (kinds : List KindRow)
+      → Means (arrays_part h kinds) (Counted h.arrays (AreArrays h kinds)) (λ xs. flat_map array_bytes xs)
+  arrays_means h kinds = many_means with_array (λ later used. array_means meanings (tables_of h) kinds used) h.arrays h.statics
 
-blocks_means : (h : Header) (functions : List FunctionPart) (code : List Spelled)
-    → Means (blocks_part h functions code) (Counted h.blocks (AreBlocks (tables_of h) functions code)) (λ xs. flat_map block_bytes xs)
-blocks_means h functions code = many_means after_block (λ later least. block_means (tables_of h) functions code least) h.blocks 0
+  blocks_means : (h : Header) (functions : List FunctionPart) (code : List Spelled)
+      → Means (blocks_part h functions code) (Counted h.blocks (AreBlocks (tables_of h) functions code)) (λ xs. flat_map block_bytes xs)
+  blocks_means h functions code = many_means after_block (λ later least. block_means meanings (tables_of h) functions code least) h.blocks 0
 
-marks_means : (h : Header) (functions : List FunctionPart) (arrays : List ArrayPart) (code : List Spelled)
-    → Means (marks_part h functions arrays code) (Counted h.marks (AreMarks h functions arrays code)) (λ xs. flat_map mark_bytes xs)
-marks_means h functions arrays code =
-    many_means after_mark (λ later least. mark_means (tables_of h) functions h.statics arrays code least) h.marks 0
+  marks_means : (h : Header) (functions : List FunctionPart) (arrays : List ArrayPart) (code : List Spelled)
+      → Means (marks_part h functions arrays code) (Counted h.marks (AreMarks h functions arrays code)) (λ xs. flat_map mark_bytes xs)
+  marks_means h functions arrays code =
+      many_means after_mark (λ later least. mark_means meanings (tables_of h) functions h.statics arrays code least) h.marks 0
 
 -- ---- an image under a header
 
@@ -229,7 +233,7 @@ image_is h y bytes u heap stacks code text =
       file = text ∙ ap (λ (z : Header). header_text z ++ file_behind y.image y.image.code) (sym own);
     }
 
-module _ (some : SomeText) where
+module _ (meanings : NumberMeanings) (some : SomeText) where
   -- the fields of an image that is formed
   fields_of : (i : ImageParts) (f : Formed i) → FieldsOf coded_fields (with_code i f.bodies i.code) (FileOf i)
   unfolding coded_fields FileOf
@@ -238,34 +242,34 @@ module _ (some : SomeText) where
       let all = joined f.bodies in
       let make = λ (ms : List MarkPart). coded h i.sigs i.functions i.entries i.classes i.kinds i.statics i.arrays f.bodies i.blocks ms in
       let y = make i.marks in
-      let marks = put_last (marks_means h i.functions i.arrays all) make i.marks (refl, f.marks) in
-      let blocks = put_part (blocks_means h i.functions all) _ i.blocks y _ (refl, f.blocks) marks in
+      let marks = put_last (marks_means meanings h i.functions i.arrays all) make i.marks (refl, f.marks) in
+      let blocks = put_part (blocks_means meanings h i.functions all) _ i.blocks y _ (refl, f.blocks) marks in
       let code = put_part (bodies_means some i.functions) _ f.bodies y _ f.condition_23 blocks in
-      let arrays = put_part (arrays_means h i.kinds) _ i.arrays y _ (refl, f.arrays) code in
-      let statics = put_part (statics_means h) _ i.statics y _ (refl, f.statics) arrays in
-      let kinds = put_part (kinds_means h) _ i.kinds y _ (refl, f.kinds) statics in
-      let classes = put_part (classes_means h i.functions) _ i.classes y _ (refl, f.classes) kinds in
-      let entries = put_part (entries_means h i.sigs i.functions) _ i.entries y _ (f.stacks, f.entries) classes in
-      let functions = put_part (functions_means h) _ i.functions y _ (refl, f.functions) entries in
-      let sigs = put_part (sigs_means h) _ i.sigs y _ (refl, f.sigs) functions in
+      let arrays = put_part (arrays_means meanings h i.kinds) _ i.arrays y _ (refl, f.arrays) code in
+      let statics = put_part (statics_means meanings h) _ i.statics y _ (refl, f.statics) arrays in
+      let kinds = put_part (kinds_means meanings h) _ i.kinds y _ (refl, f.kinds) statics in
+      let classes = put_part (classes_means meanings h i.functions) _ i.classes y _ (refl, f.classes) kinds in
+      let entries = put_part (entries_means meanings h i.sigs i.functions) _ i.entries y _ (f.stacks, f.entries) classes in
+      let functions = put_part (functions_means meanings h) _ i.functions y _ (refl, f.functions) entries in
+      let sigs = put_part (sigs_means meanings h) _ i.sigs y _ (refl, f.sigs) functions in
       subst (λ (z : List ℕ). FieldsOf coded_fields (with_code i f.bodies z) (header_text (header_of i) ++ file_behind i z)) (sym f.code)
-      (put_part header_means _ h y _ (formed_header i f) sigs)
+      (put_part (header_means meanings) _ h y _ (formed_header i f) sigs)
 
   -- sound fields of an image are its file, and it is formed
   image_back : (fs : List Field) (y : CodedImage) → Sound coded_fields fs (done y) → ImageOf (fields_text fs) y.image
   unfolding coded_fields
   image_back fs y s =
-      given (take_part header_means _ fs y s) (λ h.
-      given (take_part (sigs_means h.value) _ h.rest y h.more) (λ sigs.
-      given (take_part (functions_means h.value) _ sigs.rest y sigs.more) (λ functions.
-      given (take_part (entries_means h.value sigs.value functions.value) _ functions.rest y functions.more) (λ entries.
-      given (take_part (classes_means h.value functions.value) _ entries.rest y entries.more) (λ classes.
-      given (take_part (kinds_means h.value) _ classes.rest y classes.more) (λ kinds.
-      given (take_part (statics_means h.value) _ kinds.rest y kinds.more) (λ statics.
-      given (take_part (arrays_means h.value kinds.value) _ statics.rest y statics.more) (λ arrays.
+      given (take_part (header_means meanings) _ fs y s) (λ h.
+      given (take_part (sigs_means meanings h.value) _ h.rest y h.more) (λ sigs.
+      given (take_part (functions_means meanings h.value) _ sigs.rest y sigs.more) (λ functions.
+      given (take_part (entries_means meanings h.value sigs.value functions.value) _ functions.rest y functions.more) (λ entries.
+      given (take_part (classes_means meanings h.value functions.value) _ entries.rest y entries.more) (λ classes.
+      given (take_part (kinds_means meanings h.value) _ classes.rest y classes.more) (λ kinds.
+      given (take_part (statics_means meanings h.value) _ kinds.rest y kinds.more) (λ statics.
+      given (take_part (arrays_means meanings h.value kinds.value) _ statics.rest y statics.more) (λ arrays.
       given (take_part (bodies_means some functions.value) _ arrays.rest y arrays.more) (λ code.
-      given (take_part (blocks_means h.value functions.value (joined code.value)) _ code.rest y code.more) (λ blocks.
-      given (take_last (marks_means h.value functions.value arrays.value (joined code.value)) _ blocks.rest y blocks.more) (λ marks.
+      given (take_part (blocks_means meanings h.value functions.value (joined code.value)) _ code.rest y code.more) (λ blocks.
+      given (take_last (marks_means meanings h.value functions.value arrays.value (joined code.value)) _ blocks.rest y blocks.more) (λ marks.
       let make = coded h.value sigs.value functions.value entries.value classes.value kinds.value statics.value arrays.value in
       let under : Under h.value (make code.value blocks.value marks.value) = record {
         header = h.is;
@@ -285,7 +289,7 @@ module _ (some : SomeText) where
       (image_is h.value _ (fields_text fs) under refl refl refl (h.bytes _ (sigs.bytes _ (functions.bytes _ tables)))))))))))))))
 
   -- bytes that stand for an image are sound fields
-  pub stands : (bytes : List ℕ) (i : ImageParts) → ImageOf bytes i → StandsFor image_fields bytes i
+  pub stands : (bytes : List ℕ) (i : ImageParts) → ImageOf bytes i → SoundFile image_fields bytes i
   unfolding image_fields
   stands bytes i h =
       let k = fields_of i h.formed in
@@ -297,7 +301,7 @@ module _ (some : SomeText) where
       }
 
   -- sound fields are the file of an image
-  pub read : (bytes : List ℕ) (i : ImageParts) → StandsFor image_fields bytes i → ImageOf bytes i
+  pub read : (bytes : List ℕ) (i : ImageParts) → SoundFile image_fields bytes i → ImageOf bytes i
   unfolding image_fields
   read bytes i s =
       let a = split coded_fields (λ c. done c.image) s.fields i s.sound in

@@ -1,36 +1,22 @@
 -- Reading the classes, and what is kept of the earlier ones.
-use Rattle.std.specs.Prelude.{◌≡◌, ℕ, zero, suc, ◌<◌, ◌≤◌, ◌==◌, Bool, true, false, List, [], length, drop, Option, Some, slice_get, Ok}
+use Rattle.std.specs.Prelude.{◌≡◌, ℕ, zero, suc, ◌<◌, ◌≤◌, ◌==◌, Bool, true, false, List, [], length, Option, Some, slice_get}
 use Rattle.std.specs.Option.{option_map_or}
 use Rattle.object_layout.specs.declared.rows.ClassRow.{ClassRow}
 use Rattle.object_layout.specs.Classes.{ShapesView, parent, lineage, Fields, Methods}
 use Rattle.tal_image.specs.declared.parts.FunctionPart.{FunctionPart}
 use Rattle.tal_image.specs.declared.class_reader.ClassSize.{ClassSize}
-use Rattle.tal_image.specs.Conditions.{Tables, class_view, parent_fits, inherited_fields, inherited_methods, fields_fit, methods_fit, method_fits}
-use Rattle.tal_image.specs.Fields.{parent_of, with_class}
-use Rattle.tal_image.specs.Reading.{◌>>=◌, Read, many_at, checked_at, statics_at}
-
--- the methods of a class with these inherited slots
-abbrev pub methods_at : List FunctionPart → ℕ → List ℕ → Read (List ℕ)
-methods_at functions n slots file at = many_at n (λ later kept. checked_at (method_fits functions kept) 20) (λ (kept : List ℕ) f. drop 1 kept) slots file at
+use Rattle.file_fields.specs.Grammar.{Grammar, done, checked, each, then_with}
+use Rattle.tal_image.specs.Conditions.{Tables, parent_fits, inherited_fields, fields_fit, methods_fit}
+use Rattle.tal_image.specs.Fields.{parent_of, field_type_field, method_list}
 
 -- a class behind its parent's number, where it takes over so many fields and these slots
-unfoldable pub behind_parent_at : Tables → List FunctionPart → ℕ → ℕ → List ℕ → Read ClassRow
-behind_parent_at t functions number above slots file at = do
-  own ← checked_at (fields_fit above) 17 file at
-  fields ← statics_at t own.0 file own.1
-  count ← checked_at (methods_fit (length slots)) 19 file fields.1
-  methods ← methods_at functions count.0 slots file count.1
-  Ok (record { parent = parent_of number; fields = fields.0; methods = methods.0 }, methods.1)
-
--- a class, after these
-unfoldable pub class_at : Tables → List FunctionPart → List ClassRow → Read ClassRow
-class_at t functions classes file at = do
-  number ← checked_at (parent_fits (class_view functions classes)) 16 file at
-  behind_parent_at t functions number.0 (inherited_fields (class_view functions classes) number.0) (inherited_methods (class_view functions classes) number.0) file number.1
-
--- classes one after another
-abbrev pub classes_at : Tables → List FunctionPart → ℕ → Read (List ClassRow)
-classes_at t functions n file at = many_at n (λ later classes. class_at t functions classes) with_class [] file at
+unfoldable pub behind_parent : Tables → List FunctionPart → ℕ → ℕ → List ℕ → Grammar ClassRow
+behind_parent t functions number above slots =
+    then_with (checked (fields_fit above) 17) (λ own.
+    then_with (each own (field_type_field t)) (λ fields.
+    then_with (checked (methods_fit (length slots)) 19) (λ count.
+    then_with (method_list functions count slots) (λ methods.
+    done (record { parent = parent_of number; fields = fields; methods = methods })))))
 
 -- the signature of a function, or 0 where there is none
 unfoldable pub signature_in : List FunctionPart → ℕ → ℕ

@@ -15,6 +15,7 @@ use Rattle.object_layout.specs.Areas.{code_start, statics_start, table_address, 
 use Rattle.object_layout.specs.Classes.{ShapesView, Depth, Fields, signatures}
 use Rattle.tal_types.specs.declared.signatures.Sig.{Sig}
 use Rattle.tal_types.specs.Types.{of_field}
+pub use Rattle.file_fields.specs.Grammar.{between}
 pub use Rattle.tal_image.specs.declared.parts.Tables.{Tables}
 use Rattle.tal_image.specs.declared.parts.FunctionPart.{FunctionPart}
 use Rattle.tal_image.specs.Image.{ArrayPart, tag_of}
@@ -25,10 +26,6 @@ most_code = 1048576
 
 abbrev pub most_words : ℕ
 most_words = 65536
-
--- a number from one to another
-abbrev pub between : ℕ → ℕ → ℕ → Bool
-between low high n = nat_le low n && nat_le n high
 
 -- 1: the heap has 64 to 4194304 words, a multiple of 4
 abbrev pub heap_fits : ℕ → Bool

@@ -8,26 +8,14 @@ use Rattle.object_layout.specs.declared.rows.KindRow.{KindRow}
 use Rattle.tal_types.specs.declared.types.Ty.{Ty}
 use Rattle.tal_types.specs.declared.types.Ty.TheVariants.{Num, Ref, Obj, ArrRef, Arr, Fun, Code, Tab, Desc, Junk}
 use Rattle.tal_types.specs.declared.signatures.Sig.{Sig}
-use Rattle.tal_image.specs.declared.fault.ImageFault.{ImageFault}
-use Rattle.tal_image.specs.declared.fault.ImageFault.TheVariants.{Magic, Version, Bad}
+use Rattle.file_fields.specs.declared.fault.ImageFault.{ImageFault}
+use Rattle.file_fields.specs.declared.fault.ImageFault.TheVariants.{Magic, Version, Bad}
 use Rattle.tal_image.specs.declared.parts.Header.{Header}
 use Rattle.tal_image.specs.declared.parts.FunctionPart.{FunctionPart}
 use Rattle.tal_image.specs.declared.parts.MarkPart.{MarkPart}
 use Rattle.tal_image.specs.Image.{ImageParts, ArrayPart, BlockPart, magic_number}
 use Rattle.tal_image.specs.Conditions.{Tables, heap_fits, stacks_fit, sigs_fit, functions_fit, classes_fit, kinds_fit, statics_fit, arrays_fit, code_fits, blocks_fit, marks_fit, type_fits, length_fits, sig_fits, entry_fits, class_view, parent_fits, inherited_fields, inherited_methods, fields_fit, is_field_tag, methods_fit, method_fits, kind_fits, array_fits, with_array, numbers_given, Spelled, block_fits, slots_fit, number_at, mark_fits, word_fits}
-use Rattle.tal_image.specs.Grammar.{Grammar, done, number, pair, instruction, then_with, many, FaultOf}
-
--- a number under a condition, with the fault where it breaks that
-abbrev pub field : (ℕ → Bool) → (ℕ → ImageFault) → Grammar ℕ
-field ok fault = number ok fault (λ n. done n)
-
--- a number under the condition with this number
-abbrev pub checked : (ℕ → Bool) → ℕ → Grammar ℕ
-checked ok condition = field ok (λ at. Bad at condition)
-
--- so many rows that look at nothing but themselves
-abbrev pub each : {A : Type 0} → ℕ → Grammar A → Grammar (List A)
-each n row = many {S = ℕ} n (λ later kept. row) (λ kept x. kept) 0
+use Rattle.file_fields.specs.Grammar.{Grammar, done, pair, instruction, field, checked, each, then_with, many, FaultOf}
 
 -- the tables to which types refer
 abbrev pub tables_of : Header → Tables
@@ -86,11 +74,11 @@ field_type_of tag index =
     else NumField
 
 -- a type
-abbrev pub type_field : Tables → Grammar Ty
+unfoldable pub type_field : Tables → Grammar Ty
 type_field t = pair (type_fits t) (λ tag index at. Bad at 12) (λ tag index. done (type_of tag index))
 
 -- the type of a field, a static or an element: condition 12 comes before 18
-abbrev pub field_type_field : Tables → Grammar FieldTy
+unfoldable pub field_type_field : Tables → Grammar FieldTy
 field_type_field t =
     pair (λ tag index. type_fits t tag index && is_field_tag tag) (λ tag index at. Bad at (if type_fits t tag index then 18 else 12))
     (λ tag index. done (field_type_of tag index))
@@ -167,14 +155,18 @@ joined code = flat_map (λ body. body) code
 abbrev pub code_bytes : List Spelled → List ℕ
 code_bytes code = flat_map (λ (s : Spelled). s.text) code
 
--- a block, where its offset is at least this
-unfoldable pub block_fields : Tables → List FunctionPart → List Spelled → ℕ → Grammar BlockPart
-block_fields t functions code least =
-    then_with (checked (block_fits functions code least) 24) (λ offset.
+-- a block whose offset meets a test
+unfoldable pub block_where : Tables → (ℕ → Bool) → Grammar BlockPart
+block_where t place =
+    then_with (checked place 24) (λ offset.
     then_with (each 7 (type_field t)) (λ types.
     then_with (checked slots_fit 25) (λ n.
     then_with (each n (type_field t)) (λ slots.
     done (record { offset = offset; types = types; slots = slots })))))
+
+-- a block, where its offset is at least this
+abbrev pub block_fields : Tables → List FunctionPart → List Spelled → ℕ → Grammar BlockPart
+block_fields t functions code least = block_where t (block_fits functions code least)
 
 -- the least offset of a block, and of a mark, after another
 abbrev pub after_block : ℕ → BlockPart → ℕ
@@ -183,12 +175,16 @@ after_block least b = b.offset + 1
 abbrev pub after_mark : ℕ → MarkPart → ℕ
 after_mark least m = m.offset + 1
 
--- a mark, where its offset is at least this
-unfoldable pub mark_fields : Tables → List FunctionPart → ℕ → List ArrayPart → List Spelled → ℕ → Grammar MarkPart
-mark_fields t functions statics arrays code least =
-    then_with (checked (mark_fits code least) 26) (λ offset.
-    pair (word_fits t functions statics arrays (number_at offset code)) (λ tag index at. Bad at 27) (λ tag index.
+-- a mark whose offset meets a test, and its tag and index another
+unfoldable pub mark_where : (ℕ → Bool) → (ℕ → ℕ → ℕ → Bool) → Grammar MarkPart
+mark_where place word =
+    then_with (checked place 26) (λ offset.
+    pair (word offset) (λ tag index at. Bad at 27) (λ tag index.
     done (record { offset = offset; tag = tag; index = index })))
+
+-- a mark, where its offset is at least this
+abbrev pub mark_fields : Tables → List FunctionPart → ℕ → List ArrayPart → List Spelled → ℕ → Grammar MarkPart
+mark_fields t functions statics arrays code least = mark_where (mark_fits code least) (λ offset. word_fits t functions statics arrays (number_at offset code))
 
 -- the image of these parts
 abbrev pub image_of : Header → List Sig → List FunctionPart → List ℕ → List ClassRow → List KindRow → List FieldTy → List ArrayPart → List (List Spelled) → List BlockPart → List MarkPart → ImageParts

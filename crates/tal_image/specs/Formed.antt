@@ -7,6 +7,7 @@ use Rattle.object_layout.specs.declared.rows.KindRow.{KindRow}
 use Rattle.tal_types.specs.declared.types.Ty.{Ty}
 use Rattle.tal_types.specs.declared.signatures.Sig.{Sig}
 use Rattle.tal_types.specs.Types.{of_field}
+pub use Rattle.file_fields.specs.Parts.{EachAfter, Each}
 use Rattle.tal_image.specs.declared.parts.FunctionPart.{FunctionPart}
 use Rattle.tal_image.specs.declared.parts.MarkPart.{MarkPart}
 use Rattle.tal_image.specs.Image.{ImageParts, ArrayPart, BlockPart, tag_of, index_of, parent_number, FileOf}
@@ -16,15 +17,6 @@ use Rattle.tal_image.specs.Fields.{joined, code_bytes, after_function, after_blo
 -- the number has 32 bits
 abbrev pub IsWord : ℕ → Type 0
 IsWord n = n < 2 ^ 32
-
--- each row is as it must be after those before it, of which something is kept, and before so many others
-abbrev pub EachAfter : {S A : Type 0} → (S → A → S) → (ℕ → S → A → Type 0) → S → List A → Type 0
-EachAfter step Is kept [] = Unit {0}
-EachAfter step Is kept (x ∷ xs) = Is (length xs) kept x × EachAfter step Is (step kept x) xs
-
--- each row is as it must be
-abbrev pub Each : {A : Type 0} → (A → Type 0) → List A → Type 0
-Each Is xs = EachAfter {S = ℕ} (λ kept x. kept) (λ later kept x. Is x) 0 xs
 
 -- a type
 pub record IsType (t : Tables) (ty : Ty) : Type 0 where

@@ -1,7 +1,7 @@
 -- An image, and the bytes of its file.
 use Rattle.std.specs.Prelude.{ℕ, suc, List, [], ◌∷◌, ◌++◌, length, Option, Some, None}
 use Rattle.std.specs.List.{flat_map}
-use Rattle.std.specs.Int.{w32, to_le_bytes}
+pub use Rattle.file_fields.specs.Grammar.{number_bytes}
 use Rattle.object_layout.specs.declared.rows.FieldTy.{FieldTy}
 use Rattle.object_layout.specs.declared.rows.ClassRow.{ClassRow}
 use Rattle.object_layout.specs.declared.rows.KindRow.{KindRow}
@@ -28,10 +28,6 @@ pub record ImageParts : Type 0 where
   pub code : List ℕ
   pub blocks : List BlockPart
   pub marks : List MarkPart
-
--- a number is four bytes, the lowest first
-abbrev pub number_bytes : ℕ → List ℕ
-number_bytes n = to_le_bytes w32 n
 
 -- numbers one after another
 abbrev pub numbers : List ℕ → List ℕ

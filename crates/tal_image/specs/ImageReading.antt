@@ -1,5 +1,5 @@
 -- Reading a whole image file: the tables, then the code with what is said of it.
-use Rattle.std.specs.Prelude.{◌≡◌, ℕ, ◌+◌, ◌-◌, ◌*◌, ◌≤◌, ◌<◌, ◌⊎◌, List, [], ◌++◌, length, map, take, drop, Ok}
+use Rattle.std.specs.Prelude.{ℕ, ◌+◌, ◌-◌, ◌*◌, ◌≤◌, Bool, List, map, take, drop, Ok}
 use Rattle.std.specs.List.{sum_by}
 use Rattle.object_layout.specs.declared.rows.FieldTy.{FieldTy}
 use Rattle.object_layout.specs.declared.rows.ClassRow.{ClassRow}
@@ -14,10 +14,10 @@ use Rattle.tal_image.specs.declared.image_reader.CodeRows.{CodeRows}
 use Rattle.tal_image.specs.Image.{ImageParts, ArrayPart, BlockPart}
 use Rattle.object_layout.specs.Areas.{code_start, statics_start}
 use Rattle.tal_image.specs.Conditions.{fun_rows, array_places, array_room, most_code, most_words}
-use Rattle.tal_image.specs.Fields.{tables_of}
-use Rattle.tal_image.specs.Reading.{◌>>=◌, Read, header_at, sigs_at, functions_at, entries_at, kinds_at, statics_at, arrays_at}
-use Rattle.tal_image.specs.ClassReading.{classes_at}
-use Rattle.tal_image.specs.CodeReading.{function_starts, code_at, blocks_at, marks_at}
+use Rattle.file_fields.specs.Grammar.{Grammar, many}
+use Rattle.file_fields.specs.Reading.{◌▸◌, Reads, run}
+use Rattle.tal_image.specs.Fields.{tables_of, header_fields, sigs_part, functions_part, entries_part, classes_part, kinds_part, statics_part, arrays_part, block_where, mark_where, after_block, after_mark}
+use Rattle.tal_image.specs.CodeReading.{function_starts, code_at, place_fits, offset_fits, mark_says}
 
 -- what stands before the code
 pub record FrontParts : Type 0 where
@@ -53,29 +53,29 @@ abbrev pub behind_of : CodeRows → CodeParts
 behind_of r = record { code = r.code.items; blocks = r.blocks.items; marks = r.marks.items }
 
 -- what stands before the code
-unfoldable pub front_at : Read FrontParts
-front_at file at = do
-  h ← header_at file at
-  sigs ← sigs_at (tables_of h.0) h.0.sigs file h.1
-  functions ← functions_at (tables_of h.0) h.0.functions h.0.code file sigs.1
-  entries ← entries_at sigs.0 functions.0 h.0.stacks file functions.1
-  classes ← classes_at (tables_of h.0) functions.0 h.0.classes file entries.1
-  kinds ← kinds_at (tables_of h.0) h.0.kinds file classes.1
-  statics ← statics_at (tables_of h.0) h.0.statics file kinds.1
-  arrays ← arrays_at (tables_of h.0) kinds.0 h.0.arrays h.0.statics file statics.1
-  Ok (
-    record {
-      header = h.0;
-      sigs = sigs.0;
-      functions = functions.0;
-      entries = entries.0;
-      classes = classes.0;
-      kinds = kinds.0;
-      statics = statics.0;
-      arrays = arrays.0;
-    },
-    arrays.1,
-  )
+unfoldable pub front_at : Reads FrontParts
+front_at file at =
+    run header_fields file at ▸ λ h.
+    run (sigs_part h.0) file h.1 ▸ λ sigs.
+    run (functions_part h.0) file sigs.1 ▸ λ functions.
+    run (entries_part h.0 sigs.0 functions.0) file functions.1 ▸ λ entries.
+    run (classes_part h.0 functions.0) file entries.1 ▸ λ classes.
+    run (kinds_part h.0) file classes.1 ▸ λ kinds.
+    run (statics_part h.0) file kinds.1 ▸ λ statics.
+    run (arrays_part h.0 kinds.0) file statics.1 ▸ λ arrays.
+    Ok (
+      record {
+        header = h.0;
+        sigs = sigs.0;
+        functions = functions.0;
+        entries = entries.0;
+        classes = classes.0;
+        kinds = kinds.0;
+        statics = statics.0;
+        arrays = arrays.0;
+      },
+      arrays.1,
+    )
 
 -- the addresses of the functions, and of the data arrays
 abbrev pub addresses_of : FrontParts → List ℕ
@@ -84,13 +84,21 @@ addresses_of f = map (λ (row : FunRow). row.address) (fun_rows code_start f.fun
 abbrev pub places_of : FrontParts → List ℕ
 places_of f = array_places (statics_start + 4 * f.header.statics) f.arrays
 
+-- blocks where instructions begin and no function does, and marks of what stands in these bytes
+abbrev pub blocks_by : FrontParts → List Bool → Grammar (List BlockPart)
+blocks_by f starts = many f.header.blocks (λ later least. block_where (tables_of f.header) (place_fits starts (function_starts f.functions) least)) after_block 0
+
+abbrev pub marks_by : FrontParts → List ℕ → List Bool → Grammar (List MarkPart)
+marks_by f code starts =
+    many f.header.marks (λ later least. mark_where (offset_fits code starts least) (mark_says (tables_of f.header) (addresses_of f) (places_of f) code starts)) after_mark 0
+
 -- the code and what is said of it
-unfoldable pub behind_at : FrontParts → Read CodeParts
-behind_at f file at = do
-  starts ← code_at f.functions file at
-  blocks ← blocks_at (tables_of f.header) starts.0 (function_starts f.functions) f.header.blocks file starts.1
-  marks ← marks_at (tables_of f.header) (addresses_of f) (places_of f) (drop at file) starts.0 f.header.marks file blocks.1
-  Ok (record { code = take (starts.1 - at) (drop at file); blocks = blocks.0; marks = marks.0 }, marks.1)
+unfoldable pub behind_at : FrontParts → Reads CodeParts
+behind_at f file at =
+    code_at f.functions file at ▸ λ starts.
+    run (blocks_by f starts.0) file starts.1 ▸ λ blocks.
+    run (marks_by f (drop at file) starts.0) file blocks.1 ▸ λ marks.
+    Ok (record { code = take (starts.1 - at) (drop at file); blocks = blocks.0; marks = marks.0 }, marks.1)
 
 -- the image of these parts
 abbrev pub whole : FrontParts → CodeParts → ImageParts
@@ -110,11 +118,8 @@ whole f c = record {
 }
 
 -- an image
-unfoldable pub image_at : Read ImageParts
-image_at file at = do
-  front ← front_at file at
-  behind ← behind_at front.0 file front.1
-  Ok (whole front.0 behind.0, behind.1)
+unfoldable pub image_at : Reads ImageParts
+image_at file at = front_at file at ▸ λ front. behind_at front.0 file front.1 ▸ λ behind. Ok (whole front.0 behind.0, behind.1)
 
 -- the classes, the array kinds, the functions and the data arrays have room in memory
 pub record HasRoom (f : FrontParts) : Type 0 where
@@ -122,9 +127,3 @@ pub record HasRoom (f : FrontParts) : Type 0 where
   pub kinds : f.header.kinds ≤ 256
   pub code : sum_by (λ (row : FunctionPart). row.length) f.functions ≤ most_code
   pub arrays : f.header.statics + sum_by array_room f.arrays ≤ most_words
-
--- the bytes are the front of the file: all of it, or more than any image has
-pub record IsFront (front file : List ℕ) : Type 0 where
-  pub rest : List ℕ
-  pub parts : file ≡ front ++ rest
-  pub long : (rest ≡ []) ⊎ (67108864 < length front)

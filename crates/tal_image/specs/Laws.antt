@@ -1,10 +1,10 @@
 -- What holds of image files.
 use Rattle.std.specs.Prelude.{◌≡◌, ℕ, ◌<◌, ◌⊎◌, List, slice_index}
 use Rattle.object_layout.specs.Laws.{ClassLaws}
-use Rattle.tal_image.specs.declared.fault.ImageFault.{ImageFault}
+use Rattle.file_fields.specs.declared.fault.ImageFault.{ImageFault}
 use Rattle.tal_image.specs.Image.{ImageParts}
 use Rattle.tal_image.specs.Formed.{Formed, ImageOf}
-use Rattle.tal_image.specs.Grammar.{StandsFor}
+use Rattle.file_fields.specs.Grammar.{SoundFile}
 use Rattle.tal_image.specs.Fields.{image_fields}
 pub use Rattle.tal_image.specs.Fields.{FirstFault}
 use Rattle.tal_image.specs.Shown.{shapes_of}
@@ -17,7 +17,7 @@ pub record OneMeaning : Type 0 where
 
 -- bytes stand for an image exactly where they are sound fields that stand for it
 abbrev pub ReadAsFields : Type 0
-ReadAsFields = (bytes : List ℕ) (i : ImageParts) → (StandsFor image_fields bytes i → ImageOf bytes i) × (ImageOf bytes i → StandsFor image_fields bytes i)
+ReadAsFields = (bytes : List ℕ) (i : ImageParts) → (SoundFile image_fields bytes i → ImageOf bytes i) × (ImageOf bytes i → SoundFile image_fields bytes i)
 
 -- each file of bytes stands for an image, or has a first fault
 abbrev pub EachIsOne : Type 0

@@ -3,13 +3,14 @@
 ghost use Rattle.std.specs.Prelude.{◌≡◌, ◌≤◌, ◌+◌, ◌++◌, ◌∷◌, [], length, map, drop, IfOk, MatchOption, false, slice_get};
 ghost use Rattle.object_layout.specs.Classes.{ShapesView};
 ghost use Rattle.tal_image.specs.Conditions.{class_view, parent_fits, fields_fit, methods_fit, method_fits};
-ghost use Rattle.tal_image.specs.Fields.{parent_of, with_class};
-ghost use Rattle.tal_image.specs.Reading.{GivesAt, GivesView, checked_at};
-ghost use Rattle.tal_image.specs.ClassReading.{class_at, classes_at, methods_at, signature_in, above_methods, slot_fits, AreSizes, IsAbove, behind_parent_at};
+ghost use Rattle.file_fields.specs.Grammar.{checked, many};
+ghost use Rattle.file_fields.specs.Reading.{GivesAt, GivesView, run};
+ghost use Rattle.tal_image.specs.Fields.{parent_of, with_class, class_fields, method_list};
+ghost use Rattle.tal_image.specs.ClassReading.{behind_parent, signature_in, above_methods, slot_fits, AreSizes, IsAbove};
 
-use crate::fault::ImageFault;
 use crate::parts::{FunctionPart, Tables};
-use crate::reader::{Reader, require};
+use crate::row_reader::field_types;
+use file_fields::{ImageFault, Reader, require};
 use object_layout::{ClassRow, MethodList};
 use std::alloc::Global;
 
@@ -86,150 +87,160 @@ fn slot_fits(functions: &[FunctionPart], above: &[u32], slot: u32, function: u32
     }
 }
 
-impl Reader<'_> {
-    /// The next number, a class's parent, with the size of what stands above the class.
-    fn parent(&mut self, sizes: &[ClassSize]) -> Result<(u32, ClassSize), ImageFault>
-        ensures gives { (s : ShapesView) → AreSizes s sizes.now → GivesView (λ p. p.0) result (checked_at (parent_fits s) 16 self.old.file.now self.old.at) self.new.at }
-        ensures above { (s : ShapesView) → AreSizes s sizes.now → IfOk result (λ p. IsAbove s p.0 p.1) }
-        ensures file { self.new.file ≡ self.old.file }
-    {
-        let at = self.at as u32;
-        let number = self.number()?;
-        match size_above(sizes, number) {
-            Some(size) => Ok((number, size)),
-            None => Err(ImageFault::Bad { at, field: 16 }),
-        }
+/// The next number, a class's parent, with the size of what stands above the class.
+#[tactic(auto, using(file_fields::specs::Composed::checked_run))]
+fn parent(reader: &mut Reader<'_>, sizes: &[ClassSize]) -> Result<(u32, ClassSize), ImageFault>
+    ensures gives { (s : ShapesView) → AreSizes s sizes.now → GivesView (λ p. p.0) result (run (checked (parent_fits s) 16) reader.old.file.now reader.old.at) reader.new.at }
+    ensures above { (s : ShapesView) → AreSizes s sizes.now → IfOk result (λ p. IsAbove s p.0 p.1) }
+    ensures file { reader.new.file ≡ reader.old.file }
+{
+    let at = reader.at as u32;
+    let number = reader.number()?;
+    match size_above(sizes, number) {
+        Some(size) => Ok((number, size)),
+        None => Err(ImageFault::Bad { at, field: 16 }),
     }
+}
 
-    /// The next number, of a class's own fields, where it takes over so many.
-    fn own_fields(&mut self, above: u32) -> Result<u32, ImageFault>
-        ensures gives { GivesAt result (checked_at (fields_fit above) 17 self.old.file.now self.old.at) self.new.at }
-        ensures file { self.new.file ≡ self.old.file }
-        ensures fits { IfOk result (λ n. above + n ≤ 256) }
-    {
-        let at = self.at as u32;
-        let number = self.number()?;
-        require(u64::from(above) + u64::from(number) <= 256, at, 17)?;
-        Ok(number)
-    }
+/// The next number, of a class's own fields, where it takes over so many.
+#[tactic(auto, using(file_fields::specs::Composed::checked_run))]
+fn own_fields(reader: &mut Reader<'_>, above: u32) -> Result<u32, ImageFault>
+    ensures gives { GivesAt result (run (checked (fields_fit above) 17) reader.old.file.now reader.old.at) reader.new.at }
+    ensures file { reader.new.file ≡ reader.old.file }
+    ensures fits { IfOk result (λ n. above + n ≤ 256) }
+{
+    let at = reader.at as u32;
+    let number = reader.number()?;
+    require(u64::from(above) + u64::from(number) <= 256, at, 17)?;
+    Ok(number)
+}
 
-    /// The next number, of a class's methods, where it takes over so many.
-    fn method_count(&mut self, above: usize) -> Result<u32, ImageFault>
-        ensures gives { GivesAt result (checked_at (methods_fit above) 19 self.old.file.now self.old.at) self.new.at }
-        ensures file { self.new.file ≡ self.old.file }
-    {
-        let at = self.at as u32;
-        let number = self.number()?;
-        require(above <= number as usize && number <= 53, at, 19)?;
-        Ok(number)
-    }
+/// The next number, of a class's methods, where it takes over so many.
+#[tactic(auto, using(file_fields::specs::Composed::checked_run))]
+fn method_count(reader: &mut Reader<'_>, above: usize) -> Result<u32, ImageFault>
+    ensures gives { GivesAt result (run (checked (methods_fit above) 19) reader.old.file.now reader.old.at) reader.new.at }
+    ensures file { reader.new.file ≡ reader.old.file }
+{
+    let at = reader.at as u32;
+    let number = reader.number()?;
+    require(above <= number as usize && number <= 53, at, 19)?;
+    Ok(number)
+}
 
-    /// The next number, the function in a method slot, where these functions stand in the slots that are taken over.
-    #[tactic(auto, using(crate::proofs::ClassSizes::slot_is))]
-    fn method(
-        &mut self,
-        functions: &[FunctionPart],
-        above: &[u32],
-        slot: u32,
-    ) -> Result<u32, ImageFault>
-        ensures gives { GivesAt result (checked_at (method_fits functions.now (drop slot (map (signature_in functions.now) above.now))) 20 self.old.file.now self.old.at) self.new.at }
-        ensures file { self.new.file ≡ self.old.file }
-    {
-        let at = self.at as u32;
-        let function = self.number()?;
-        require(slot_fits(functions, above, slot, function), at, 20)?;
-        Ok(function)
-    }
+/// The next number, the function in a method slot, where these functions stand in the slots that are taken over.
+#[tactic(auto, using(crate::proofs::ClassSizes::slot_is, file_fields::specs::Composed::checked_run))]
+fn method(
+    reader: &mut Reader<'_>,
+    functions: &[FunctionPart],
+    above: &[u32],
+    slot: u32,
+) -> Result<u32, ImageFault>
+    ensures gives { GivesAt result (run (checked (method_fits functions.now (drop slot (map (signature_in functions.now) above.now))) 20) reader.old.file.now reader.old.at) reader.new.at }
+    ensures file { reader.new.file ≡ reader.old.file }
+{
+    let at = reader.at as u32;
+    let function = reader.number()?;
+    require(slot_fits(functions, above, slot, function), at, 20)?;
+    Ok(function)
+}
 
-    /// The functions in the next method slots, so many, where these stand in the slots that are taken over.
-    fn methods(
-        &mut self,
-        alloc: Global,
-        functions: &[FunctionPart],
-        above: &[u32],
-        count: u32,
-    ) -> Result<MethodList, ImageFault>
-        ensures gives { GivesAt result (methods_at functions.now count (map (signature_in functions.now) above.now) self.old.file.now self.old.at) self.new.at }
-        ensures file { self.new.file ≡ self.old.file }
-    {
-        let mut methods = MethodList::new(alloc);
-        for i in 0..count {
-            let one = self.method(functions, above, i)?;
-            methods.push(one)?;
-        }
-        Ok(methods)
+/// The functions in the next method slots, so many, where these stand in the slots that are taken over.
+fn methods(
+    alloc: Global,
+    reader: &mut Reader<'_>,
+    functions: &[FunctionPart],
+    above: &[u32],
+    count: u32,
+) -> Result<MethodList, ImageFault>
+    ensures gives { GivesAt result (run (method_list functions.now count (map (signature_in functions.now) above.now)) reader.old.file.now reader.old.at) reader.new.at }
+    ensures file { reader.new.file ≡ reader.old.file }
+{
+    let mut methods = MethodList::new(alloc);
+    for i in 0..count {
+        let one = method(reader, functions, above, i)?;
+        methods.push(one)?;
     }
+    Ok(methods)
+}
 
-    /// The rest of the next class behind its parent's number, where it takes over so many fields, and the slots of these
-    /// functions.
-    #[tactic(auto, unfolding(crate::specs::ClassReading::behind_parent_at))]
-    fn behind_parent(
-        &mut self,
-        alloc: Global,
-        tables: &Tables,
-        functions: &[FunctionPart],
-        number: u32,
-        above: u32,
-        taken: &[u32],
-    ) -> Result<ClassRow, ImageFault>
-        ensures gives { GivesAt result (behind_parent_at tables.now functions.now number above (map (signature_in functions.now) taken.now) self.old.file.now self.old.at) self.new.at }
-        ensures file { self.new.file ≡ self.old.file }
-        ensures parent { IfOk result (λ row. row.parent ≡ parent_of number) }
-        ensures fits { IfOk result (λ row. above + length row.fields ≤ 256) }
-    {
-        let own = self.own_fields(above)?;
-        let fields = self.field_types(alloc, tables, own)?;
-        let count = self.method_count(taken.len())?;
-        let methods = self.methods(alloc, functions, taken, count)?;
-        Ok(ClassRow {
-            parent: parent_of(number),
-            fields,
-            methods,
-        })
-    }
+/// The rest of the next class behind its parent's number, where it takes over so many fields, and the slots of these
+/// functions.
+#[tactic(auto, using(crate::proofs::ClassReadings::behind_parent_run))]
+fn behind_parent(
+    alloc: Global,
+    reader: &mut Reader<'_>,
+    tables: &Tables,
+    functions: &[FunctionPart],
+    number: u32,
+    above: u32,
+    taken: &[u32],
+) -> Result<ClassRow, ImageFault>
+    ensures gives { GivesAt result (run (behind_parent tables.now functions.now number above (map (signature_in functions.now) taken.now)) reader.old.file.now reader.old.at) reader.new.at }
+    ensures file { reader.new.file ≡ reader.old.file }
+    ensures parent { IfOk result (λ row. row.parent ≡ parent_of number) }
+    ensures fits { IfOk result (λ row. above + length row.fields ≤ 256) }
+{
+    let own = own_fields(reader, above)?;
+    let fields = field_types(alloc, reader, tables, own)?;
+    let count = method_count(reader, taken.len())?;
+    let methods = methods(alloc, reader, functions, taken, count)?;
+    Ok(ClassRow {
+        parent: parent_of(number),
+        fields,
+        methods,
+    })
+}
 
-    /// The next class, after these, whose sizes are these.
-    fn class(
-        &mut self,
-        alloc: Global,
-        tables: &Tables,
-        functions: &[FunctionPart],
-        classes: &[ClassRow],
-        sizes: &[ClassSize],
-    ) -> Result<SizedClass, ImageFault>
-        requires { AreSizes (class_view functions.now classes.now) sizes.now }
-        ensures gives { GivesView (λ c. c.row) result (class_at tables.now functions.now classes.now self.old.file.now self.old.at) self.new.at }
-        ensures file { self.new.file ≡ self.old.file }
-        ensures sized { IfOk result (λ c. AreSizes (class_view functions.now (with_class classes.now c.row)) (sizes.now ++ c.size ∷ [])) }
-    {
-        let (number, above) = self.parent(sizes)?;
-        let taken = methods_above(classes, number);
-        let row = self.behind_parent(alloc, tables, functions, number, above.fields, taken)?;
-        let size = ClassSize {
-            lineage: above.lineage + 1,
-            fields: above.fields + row.fields.items().len() as u32,
-        };
-        Ok(SizedClass { row, size })
-    }
+/// The next class, after these, whose sizes are these.
+fn class(
+    alloc: Global,
+    reader: &mut Reader<'_>,
+    tables: &Tables,
+    functions: &[FunctionPart],
+    classes: &[ClassRow],
+    sizes: &[ClassSize],
+) -> Result<SizedClass, ImageFault>
+    requires { AreSizes (class_view functions.now classes.now) sizes.now }
+    ensures gives { GivesView (λ c. c.row) result (run (class_fields tables.now functions.now classes.now) reader.old.file.now reader.old.at) reader.new.at }
+    ensures file { reader.new.file ≡ reader.old.file }
+    ensures sized { IfOk result (λ c. AreSizes (class_view functions.now (with_class classes.now c.row)) (sizes.now ++ c.size ∷ [])) }
+{
+    object_layout::laws::lineage_laws();
+    let (number, above) = parent(reader, sizes)?;
+    let taken = methods_above(classes, number);
+    let row = behind_parent(
+        alloc,
+        reader,
+        tables,
+        functions,
+        number,
+        above.fields,
+        taken,
+    )?;
+    let size = ClassSize {
+        lineage: above.lineage + 1,
+        fields: above.fields + row.fields.items().len() as u32,
+    };
+    Ok(SizedClass { row, size })
+}
 
-    /// The next classes, so many.
-    pub(crate) fn classes(
-        &mut self,
-        alloc: Global,
-        tables: &Tables,
-        functions: &[FunctionPart],
-        count: u32,
-    ) -> Result<Vec<ClassRow>, ImageFault>
-        ensures gives { GivesView (λ v. v.items) result (classes_at tables.now functions.now count self.old.file.now self.old.at) self.new.at }
-        ensures file { self.new.file ≡ self.old.file }
-    {
-        let mut classes = Vec::new(alloc);
-        let mut sizes = Vec::new(alloc);
-        for i in 0..count {
-            let one = self.class(alloc, tables, functions, &classes, &sizes)?;
-            classes.push(one.row)?;
-            sizes.push(one.size)?;
-        }
-        Ok(classes)
+/// The next classes, so many.
+pub(crate) fn classes(
+    alloc: Global,
+    reader: &mut Reader<'_>,
+    tables: &Tables,
+    functions: &[FunctionPart],
+    count: u32,
+) -> Result<Vec<ClassRow>, ImageFault>
+    ensures gives { GivesView (λ v. v.items) result (run (many count (λ later classes. class_fields tables.now functions.now classes) with_class []) reader.old.file.now reader.old.at) reader.new.at }
+    ensures file { reader.new.file ≡ reader.old.file }
+{
+    let mut classes = Vec::new(alloc);
+    let mut sizes = Vec::new(alloc);
+    for i in 0..count {
+        let one = class(alloc, reader, tables, functions, &classes, &sizes)?;
+        classes.push(one.row)?;
+        sizes.push(one.size)?;
     }
+    Ok(classes)
 }

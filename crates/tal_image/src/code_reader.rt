@@ -1,18 +1,20 @@
 // The readers of the code, and of the blocks and marks that say something of it. For each byte of the code it is kept
 // whether an instruction begins there, so that each block and mark is read in a time of its own.
-ghost use Rattle.std.specs.Prelude.{◌≡◌, ◌≤◌, ◌++◌, Some, IfOk, OnOk};
+ghost use Rattle.std.specs.Prelude.{◌≡◌, ◌≤◌, ◌++◌, Some, IfOk, OnOk, map};
 ghost use Rattle.tal_image.specs.Conditions.{immediate, marked_number};
-ghost use Rattle.tal_image.specs.Reading.{GivesAt, GivesView, checked_at, body_at};
-ghost use Rattle.tal_image.specs.CodeReading.{span, function_starts, starts_at, starts_behind, code_at, place_fits, block_at, blocks_at, number_of, number_in, offset_fits};
-ghost use Rattle.tal_image.specs.MarkReading.{mark_by, marks_by};
+ghost use Rattle.file_fields.specs.Reading.{GivesView};
+ghost use Rattle.tal_image.specs.CodeReading.{span, function_starts, starts_at, starts_behind, body_at, code_at, place_fits, number_of, number_in, offset_fits, mark_says};
+ghost use Rattle.tal_image.specs.Fields.{block_where, mark_where, after_block, after_mark};
+ghost use Rattle.tal_image.specs.Kept.{data_place};
 
-use crate::fault::ImageFault;
 use crate::mark_words::MarkWords;
 use crate::parts::{BlockPart, FunctionPart, MarkPart, Tables, TypeList};
-use crate::reader::{Reader, require};
+use crate::row_reader::seven;
+use file_fields::{ImageFault, Reader, RowAfter, require};
 use ia32_code::{Alu, Decoded, Inst, Operand, decode};
 use no_memory::NoMemory;
 use std::alloc::Global;
+use tal_types::Ty;
 
 /// Puts so many bytes behind others, of which the first begins something.
 #[tactic(auto, unfolding(crate::specs::CodeReading::span))]
@@ -98,180 +100,132 @@ fn number_in(code: &[u8], starts: &[bool], offset: u32) -> Option<u32>
     }
 }
 
-impl Reader<'_> {
-    /// The next instructions, of so many bytes in all; where they begin stands then behind `starts`.
-    fn body(&mut self, starts: &mut Vec<bool>, size: u32) -> Result<(), ImageFault>
-        ensures gives { GivesView (λ u. starts.new.items) result (starts_behind starts.old.items (body_at size self.old.file.now self.old.at)) self.new.at }
-        ensures file { self.new.file ≡ self.old.file }
-        ensures onward { self.old.at ≤ self.new.at }
-    {
-        let mut left = size;
-        while left > 0 {
-            let rest = &self.file[self.at..];
-            match decode(rest) {
-                Decoded::One { len, .. } => {
-                    let length = u32::from(len);
-                    if length > left {
-                        let at = self.at as u32;
-                        return Err(ImageFault::Bad { at, field: 23 });
-                    }
-                    put_span(starts, length)?;
-                    self.at += length as usize;
-                    left -= length;
-                }
-                Decoded::Short => {
-                    let at = self.file.len() as u32;
-                    return Err(ImageFault::Short { at });
-                }
-                Decoded::Unknown => {
-                    let at = self.at as u32;
+/// The next instructions, of so many bytes in all; where they begin stands then behind `starts`.
+fn body(reader: &mut Reader<'_>, starts: &mut Vec<bool>, size: u32) -> Result<(), ImageFault>
+    ensures gives { GivesView (λ u. starts.new.items) result (starts_behind starts.old.items (body_at size reader.old.file.now reader.old.at)) reader.new.at }
+    ensures file { reader.new.file ≡ reader.old.file }
+    ensures onward { reader.old.at ≤ reader.new.at }
+{
+    let mut left = size;
+    while left > 0 {
+        let rest = &reader.file[reader.at..];
+        match decode(rest) {
+            Decoded::One { len, .. } => {
+                let length = u32::from(len);
+                if length > left {
+                    let at = reader.at as u32;
                     return Err(ImageFault::Bad { at, field: 23 });
                 }
+                put_span(starts, length)?;
+                reader.at += length as usize;
+                left -= length;
+            }
+            Decoded::Short => {
+                let at = reader.file.len() as u32;
+                return Err(ImageFault::Short { at });
+            }
+            Decoded::Unknown => {
+                let at = reader.at as u32;
+                return Err(ImageFault::Bad { at, field: 23 });
             }
         }
-        Ok(())
     }
+    Ok(())
+}
 
-    /// The instructions of the functions: for each byte whether one begins there.
-    pub(crate) fn code(
-        &mut self,
+/// The instructions of the functions: for each byte whether one begins there.
+pub(crate) fn code(
+    alloc: Global,
+    reader: &mut Reader<'_>,
+    functions: &[FunctionPart],
+) -> Result<Vec<bool>, ImageFault>
+    ensures gives { GivesView (λ v. v.items) result (code_at functions.now reader.old.file.now reader.old.at) reader.new.at }
+    ensures file { reader.new.file ≡ reader.old.file }
+    ensures onward { reader.old.at ≤ reader.new.at }
+{
+    let mut starts = Vec::new(alloc);
+    for function in functions {
+        body(reader, &mut starts, function.length)?;
+    }
+    Ok(starts)
+}
+
+/// Where blocks may begin: for each byte of the code whether an instruction begins there, and whether a function does.
+#[derive(Drop)]
+pub(crate) struct BlockPlaces<'a> {
+    pub tables: Tables,
+    pub instructions: &'a [bool],
+    pub functions: &'a [bool],
+}
+
+impl<'a> RowAfter<BlockPlaces<'a>, u64> for BlockPart {
+    ghost fields = { λ p later least. block_where p.tables (place_fits p.instructions.now p.functions.now least) };
+
+    ghost after = { after_block };
+
+    #[tactic(auto, using(crate::proofs::CodeRowReadings::block_run))]
+    fn read(
         alloc: Global,
-        functions: &[FunctionPart],
-    ) -> Result<Vec<bool>, ImageFault>
-        ensures gives { GivesView (λ v. v.items) result (code_at functions.now self.old.file.now self.old.at) self.new.at }
-        ensures file { self.new.file ≡ self.old.file }
-        ensures onward { self.old.at ≤ self.new.at }
-    {
-        let mut starts = Vec::new(alloc);
-        for function in functions {
-            self.body(&mut starts, function.length)?;
-        }
-        Ok(starts)
-    }
-
-    /// The next number, where a block begins, at least this.
-    fn block_place(
-        &mut self,
-        instructions: &[bool],
-        functions: &[bool],
-        least: u64,
-    ) -> Result<u32, ImageFault>
-        ensures gives { GivesAt result (checked_at (place_fits instructions.now functions.now least) 24 self.old.file.now self.old.at) self.new.at }
-        ensures file { self.new.file ≡ self.old.file }
-    {
-        let at = self.at as u32;
-        let offset = self.number()?;
-        require(place_fits(instructions, functions, least, offset), at, 24)?;
-        Ok(offset)
-    }
-
-    /// The next block, which begins at least here.
-    #[tactic(auto, unfolding(crate::specs::CodeReading::block_at))]
-    fn block(
-        &mut self,
-        alloc: Global,
-        tables: &Tables,
-        instructions: &[bool],
-        functions: &[bool],
-        least: u64,
-    ) -> Result<BlockPart, ImageFault>
-        ensures gives { GivesAt result (block_at tables.now instructions.now functions.now least self.old.file.now self.old.at) self.new.at }
-        ensures file { self.new.file ≡ self.old.file }
-    {
-        let offset = self.block_place(instructions, functions, least)?;
-        let types = self.seven(tables)?;
-        let count = self.ranged(0, 64, 25)?;
-        let slots = self.rows(alloc, tables, count)?;
+        reader: &mut Reader<'_>,
+        places: &BlockPlaces<'a>,
+        _later: u32,
+        kept: &mut u64,
+    ) -> Result<BlockPart, ImageFault> {
+        let least = *kept;
+        let at = reader.at as u32;
+        let offset = reader.number()?;
+        require(
+            place_fits(places.instructions, places.functions, least, offset),
+            at,
+            24,
+        )?;
+        let types = seven(alloc, reader, &places.tables)?;
+        let count = reader.ranged(0, 64, 25)?;
+        let slots = reader.rows::<Tables, Ty>(alloc, &places.tables, count)?;
+        *kept = u64::from(offset) + 1;
         Ok(BlockPart {
             offset,
             types,
             slots: TypeList::of(slots),
         })
     }
+}
 
-    /// The next blocks, so many.
-    pub(crate) fn blocks(
-        &mut self,
-        alloc: Global,
-        tables: &Tables,
-        instructions: &[bool],
-        functions: &[bool],
-        count: u32,
-    ) -> Result<Vec<BlockPart>, ImageFault>
-        ensures gives { GivesView (λ v. v.items) result (blocks_at tables.now instructions.now functions.now count self.old.file.now self.old.at) self.new.at }
-        ensures file { self.new.file ≡ self.old.file }
-    {
-        let mut blocks = Vec::new(alloc);
-        let mut least = 0;
-        for i in 0..count {
-            let one = self.block(alloc, tables, instructions, functions, least)?;
-            least = u64::from(one.offset) + 1;
-            blocks.push(one)?;
-        }
-        Ok(blocks)
-    }
+/// Where marks may stand, and what they stand for: the bytes of the code, for each whether an instruction begins there, and
+/// the words of marks.
+#[derive(Drop)]
+pub(crate) struct MarkPlaces<'a> {
+    pub words: &'a MarkWords,
+    pub code: &'a [u8],
+    pub starts: &'a [bool],
+}
 
-    /// The next number, where a mark stands, at least here, with the immediate number there.
-    #[tactic(auto, unfolding(crate::specs::CodeReading::offset_fits))]
-    fn mark_offset(
-        &mut self,
-        code: &[u8],
-        starts: &[bool],
-        least: u64,
-    ) -> Result<(u32, u32), ImageFault>
-        ensures gives { GivesView (λ p. p.0) result (checked_at (offset_fits code.now starts.now least) 26 self.old.file.now self.old.at) self.new.at }
-        ensures number { IfOk result (λ p. number_in code.now starts.now p.0 ≡ Some p.1) }
-        ensures file { self.new.file ≡ self.old.file }
-    {
-        let at = self.at as u32;
-        let offset = self.number()?;
+impl<'a> RowAfter<MarkPlaces<'a>, u64> for MarkPart {
+    ghost fields = { λ p later least. mark_where (offset_fits p.code.now p.starts.now least) (mark_says p.words.now.tables p.words.now.starts.items (map (data_place p.words.now.statics) p.words.now.offsets.items) p.code.now p.starts.now) };
+
+    ghost after = { after_mark };
+
+    #[tactic(auto, using(crate::proofs::CodeRowReadings::mark_run), unfolding(crate::specs::CodeReading::offset_fits))]
+    fn read(
+        _alloc: Global,
+        reader: &mut Reader<'_>,
+        places: &MarkPlaces<'a>,
+        _later: u32,
+        kept: &mut u64,
+    ) -> Result<MarkPart, ImageFault> {
+        let least = *kept;
+        let at = reader.at as u32;
+        let offset = reader.number()?;
         if u64::from(offset) < least {
             return Err(ImageFault::Bad { at, field: 26 });
         }
-        match number_in(code, starts, offset) {
-            Some(number) => Ok((offset, number)),
-            None => Err(ImageFault::Bad { at, field: 26 }),
-        }
-    }
-
-    /// The next mark, at least here.
-    #[tactic(auto, unfolding(crate::specs::CodeReading::mark_at))]
-    fn mark(
-        &mut self,
-        words: &MarkWords,
-        code: &[u8],
-        starts: &[bool],
-        least: u64,
-    ) -> Result<MarkPart, ImageFault>
-        ensures gives { GivesAt result (mark_by words.now code.now starts.now least self.old.file.now self.old.at) self.new.at }
-        ensures file { self.new.file ≡ self.old.file }
-    {
-        let (offset, number) = self.mark_offset(code, starts, least)?;
-        let at = self.at as u32;
-        let (tag, index) = self.pair()?;
-        require(words.is_word(tag, index, number), at, 27)?;
+        let Some(number) = number_in(places.code, places.starts, offset) else {
+            return Err(ImageFault::Bad { at, field: 26 });
+        };
+        let at = reader.at as u32;
+        let (tag, index) = reader.pair()?;
+        require(places.words.is_word(tag, index, number), at, 27)?;
+        *kept = u64::from(offset) + 1;
         Ok(MarkPart { offset, tag, index })
-    }
-
-    /// The next marks, so many.
-    pub(crate) fn marks(
-        &mut self,
-        alloc: Global,
-        words: &MarkWords,
-        code: &[u8],
-        starts: &[bool],
-        count: u32,
-    ) -> Result<Vec<MarkPart>, ImageFault>
-        ensures gives { GivesView (λ v. v.items) result (marks_by words.now code.now starts.now count self.old.file.now self.old.at) self.new.at }
-        ensures file { self.new.file ≡ self.old.file }
-    {
-        let mut marks = Vec::new(alloc);
-        let mut least = 0;
-        for i in 0..count {
-            let one = self.mark(words, code, starts, least)?;
-            least = u64::from(one.offset) + 1;
-            marks.push(one)?;
-        }
-        Ok(marks)
     }
 }

@@ -1,16 +1,15 @@
 ghost use Rattle.std.specs.Prelude.{◌≡◌, ◌⊎◌, IfOk, IfErr, MatchResult};
-ghost use Rattle.tal_image.specs.declared.fault.ImageFault.{ImageFault};
+ghost use Rattle.file_fields.specs.declared.fault.ImageFault.{ImageFault};
 ghost use Rattle.tal_image.specs.Image.{ImageParts, FileOf, header};
 ghost use Rattle.tal_image.specs.Formed.{ImageOf};
 ghost use Rattle.tal_image.specs.Fields.{FirstFault};
 
-use crate::fault::ImageFault;
 use crate::image::Image;
 use crate::image_reader::image_rows;
 use crate::laws::one_meaning;
 use crate::parts::MAGIC;
 use crate::writing::ImageFile;
-use file_fields::put_all;
+use file_fields::{ImageFault, put_all};
 use no_memory::NoMemory;
 use std::alloc::Global;
 

@@ -1,20 +1,25 @@
-// The reader of a whole image file: the tables, then the code with what is said of it, then the end of the file.
-ghost use Rattle.std.specs.Prelude.{◌≡◌, ◌⊎◌, ◌≤◌, ◌-◌, ◌<◌, ◌^◌, length, take, drop, IfOk, IfErr};
-ghost use Rattle.tal_image.specs.declared.fault.ImageFault.TheVariants.{NoMemory as no_memory};
+// The reader of a whole image file: the tables, then the code with what is said of it.
+ghost use Rattle.std.specs.Prelude.{◌≡◌, ◌⊎◌, ◌≤◌, ◌-◌, take, drop, IfOk, IfErr};
+ghost use Rattle.file_fields.specs.declared.fault.ImageFault.TheVariants.{NoMemory as no_memory};
+ghost use Rattle.file_fields.specs.Grammar.{AreBytes};
+ghost use Rattle.file_fields.specs.Reading.{GivesView};
 ghost use Rattle.tal_image.specs.Formed.{ImageOf};
 ghost use Rattle.tal_image.specs.Fields.{FirstFault};
-ghost use Rattle.tal_image.specs.Reading.{GivesView};
-ghost use Rattle.tal_image.specs.ImageReading.{front_of, behind_of, front_at, behind_at, image_at, HasRoom, IsFront};
+ghost use Rattle.tal_image.specs.ImageReading.{front_of, behind_of, front_at, behind_at, image_at, HasRoom};
 ghost use Rattle.tal_image.specs.Kept.{parts_of};
 
-use crate::code_reader::function_starts;
-use crate::fault::ImageFault;
+use crate::class_reader::classes;
+use crate::code_reader::{BlockPlaces, MarkPlaces, code, function_starts};
+use crate::header_reader::header;
 use crate::image_rows::ImageRows;
+use crate::laws::{image_ends, read_as_fields};
 use crate::mark_words::MarkWords;
 use crate::parts::{ArrayPart, BlockPart, FunctionPart, Header, MarkPart, Tables};
-use crate::reader::Reader;
+use crate::row_reader::{Entries, Kinds, arrays, field_types, functions};
+use file_fields::{ImageFault, Reader, Row, read_whole};
 use object_layout::{ClassRow, FieldList, KindRow};
 use std::alloc::Global;
+use std::marker::Model;
 use tal_types::Sig;
 
 /// What stands before the code of an image file.
@@ -38,101 +43,155 @@ pub(crate) struct CodeRows {
     pub marks: Vec<MarkPart>,
 }
 
-impl Reader<'_> {
-    /// The tables.
-    #[tactic(auto, unfolding(crate::specs::ImageReading::front_at))]
-    fn table_rows(&mut self, alloc: Global) -> Result<TableRows, ImageFault>
-        ensures gives { GivesView front_of result (front_at self.old.file.now self.old.at) self.new.at }
-        ensures file { self.new.file ≡ self.old.file }
-        ensures room { IfOk result (λ rows. HasRoom (front_of rows)) }
-    {
-        let header = self.header()?;
-        let tables = Tables::of(&header);
-        let sigs = self.rows(alloc, &tables, header.sigs)?;
-        let functions = self.functions(alloc, &tables, header.functions, header.code)?;
-        let entries = self.entries(alloc, &sigs, &functions, header.stacks)?;
-        let classes = self.classes(alloc, &tables, &functions, header.classes)?;
-        let kinds = self.rows(alloc, &tables, header.kinds)?;
-        let statics = self.field_types(alloc, &tables, header.statics)?;
-        let arrays = self.arrays(alloc, &tables, &kinds, header.arrays, header.statics)?;
-        Ok(TableRows {
-            header,
-            sigs,
-            functions,
-            entries,
-            classes,
-            kinds,
-            statics,
-            arrays,
-        })
-    }
+/// An image file's rows. Contracts see them as the image's parts.
+#[derive(Drop)]
+pub(crate) struct FileRows {
+    pub rows: ImageRows,
+}
 
-    /// A whole image.
-    #[tactic(auto, unfolding(crate::specs::ImageReading::image_at))]
-    fn image(&mut self, alloc: Global) -> Result<ImageRows, ImageFault>
-        ensures { GivesView parts_of result (image_at self.old.file.now self.old.at) self.new.at }
-    {
-        let front = self.table_rows(alloc)?;
-        let behind = self.code_rows(alloc, &front)?;
-        Ok(ImageRows {
-            heap_words: front.header.heap_words,
-            stacks: front.header.stacks,
-            sigs: front.sigs,
-            functions: front.functions,
-            entries: front.entries,
-            classes: front.classes,
-            kinds: front.kinds,
-            statics: front.statics,
-            arrays: front.arrays,
-            code: behind.code,
-            blocks: behind.blocks,
-            marks: behind.marks,
-        })
-    }
+impl Model for FileRows {
+    ghost use Rattle.tal_image.specs.Image.{ImageParts};
+    ghost use Rattle.tal_image.specs.Kept.{parts_of};
 
-    /// The bytes that were read from a place on.
-    fn bytes_from(&self, alloc: Global, start: usize) -> Result<Vec<u8>, ImageFault>
-        requires { start ≤ self.now.at }
-        ensures bytes { IfOk result (λ bytes. bytes.items ≡ take (self.now.at - start) (drop start self.now.file.now)) }
-        ensures err { IfErr result (λ fault. fault ≡ no_memory) }
-    {
-        let bytes = Vec::from_slice(alloc, &self.file[start..self.at])?;
-        Ok(bytes)
-    }
+    ghost Value = { ImageParts };
 
-    /// The code and what is said of it, behind these tables.
-    #[tactic(auto, unfolding(crate::specs::ImageReading::behind_at))]
-    fn code_rows(&mut self, alloc: Global, front: &TableRows) -> Result<CodeRows, ImageFault>
-        requires { HasRoom (front_of front.now) }
-        ensures gives { GivesView behind_of result (behind_at (front_of front.now) self.old.file.now self.old.at) self.new.at }
-        ensures file { self.new.file ≡ self.old.file }
-    {
-        let tables = Tables::of(&front.header);
-        let words = MarkWords::behind(alloc, front)?;
-        let functions = function_starts(alloc, &front.functions)?;
-        let start = self.at;
-        let file = self.file;
-        let (_, rest) = file.split_at(start);
-        let starts = self.code(alloc, &front.functions)?;
-        let code = self.bytes_from(alloc, start)?;
-        let blocks = self.blocks(alloc, &tables, &starts, &functions, front.header.blocks)?;
-        let marks = self.marks(alloc, &words, rest, &starts, front.header.marks)?;
-        Ok(CodeRows {
-            code,
-            blocks,
-            marks,
-        })
+    ghost view = { λ file. parts_of file.rows };
+}
+
+/// The tables.
+#[tactic(auto, unfolding(crate::specs::ImageReading::front_at))]
+fn table_rows(alloc: Global, reader: &mut Reader<'_>) -> Result<TableRows, ImageFault>
+    ensures gives { GivesView front_of result (front_at reader.old.file.now reader.old.at) reader.new.at }
+    ensures file { reader.new.file ≡ reader.old.file }
+    ensures room { IfOk result (λ rows. HasRoom (front_of rows)) }
+{
+    let header = header(reader)?;
+    let tables = Tables::of(&header);
+    let sigs = reader.rows::<Tables, Sig>(alloc, &tables, header.sigs)?;
+    let functions = functions(alloc, reader, &tables, header.functions, header.code)?;
+    let places = Entries {
+        sigs: &sigs,
+        functions: &functions,
+    };
+    let entries = reader.rows::<Entries<'_>, u32>(alloc, &places, header.stacks)?;
+    let classes = classes(alloc, reader, &tables, &functions, header.classes)?;
+    let kinds = reader.rows::<Tables, KindRow>(alloc, &tables, header.kinds)?;
+    let statics = field_types(alloc, reader, &tables, header.statics)?;
+    let rows = Kinds {
+        tables,
+        rows: &kinds,
+    };
+    let arrays = arrays(alloc, reader, &rows, header.arrays, header.statics)?;
+    Ok(TableRows {
+        header,
+        sigs,
+        functions,
+        entries,
+        classes,
+        kinds,
+        statics,
+        arrays,
+    })
+}
+
+/// The bytes that were read from a place on.
+fn bytes_from(alloc: Global, reader: &Reader<'_>, start: usize) -> Result<Vec<u8>, ImageFault>
+    requires { start ≤ reader.now.at }
+    ensures bytes { IfOk result (λ bytes. bytes.items ≡ take (reader.now.at - start) (drop start reader.now.file.now)) }
+    ensures err { IfErr result (λ fault. fault ≡ no_memory) }
+{
+    let bytes = Vec::from_slice(alloc, &reader.file[start..reader.at])?;
+    Ok(bytes)
+}
+
+/// The code and what is said of it, behind these tables.
+#[tactic(auto, unfolding(crate::specs::ImageReading::behind_at))]
+fn code_rows(
+    alloc: Global,
+    reader: &mut Reader<'_>,
+    front: &TableRows,
+) -> Result<CodeRows, ImageFault>
+    requires { HasRoom (front_of front.now) }
+    ensures gives { GivesView behind_of result (behind_at (front_of front.now) reader.old.file.now reader.old.at) reader.new.at }
+    ensures file { reader.new.file ≡ reader.old.file }
+{
+    let tables = Tables::of(&front.header);
+    let words = MarkWords::behind(alloc, front)?;
+    let firsts = function_starts(alloc, &front.functions)?;
+    let start = reader.at;
+    let file = reader.file;
+    let (_, rest) = file.split_at(start);
+    let starts = code(alloc, reader, &front.functions)?;
+    let code = bytes_from(alloc, reader, start)?;
+    let places = BlockPlaces {
+        tables,
+        instructions: &starts,
+        functions: &firsts,
+    };
+    let blocks = reader.rows_after::<BlockPlaces<'_>, u64, BlockPart>(
+        alloc,
+        &places,
+        front.header.blocks,
+        0,
+    )?;
+    let places = MarkPlaces {
+        words: &words,
+        code: rest,
+        starts: &starts,
+    };
+    let marks = reader.rows_after::<MarkPlaces<'_>, u64, MarkPart>(
+        alloc,
+        &places,
+        front.header.marks,
+        0,
+    )?;
+    Ok(CodeRows {
+        code,
+        blocks,
+        marks,
+    })
+}
+
+/// The numbers of a file are bytes. It computes nothing.
+fn are_bytes(file: &[u8])
+    ensures { AreBytes file.now }
+{}
+
+impl Row<()> for FileRows {
+    ghost use Rattle.tal_image.specs.Fields.{image_fields};
+
+    ghost fields = { λ _. image_fields };
+
+    fn read(alloc: Global, reader: &mut Reader<'_>, _context: &()) -> Result<FileRows, ImageFault> {
+        ia32_code::laws::decoded_law();
+        are_bytes(reader.file);
+        let rows = image(alloc, reader)?;
+        Ok(FileRows { rows })
     }
 }
 
-/// The front of a file, as far as 32 bits count its bytes. No image has more than 64 MiB, so that a longer file has its first
-/// fault there.
-fn front(file: &[u8]) -> &[u8]
-    ensures front { IsFront result.now file.now }
-    ensures small { length result.now < 2 ^ 32 }
+/// A whole image.
+#[tactic(auto, unfolding(crate::specs::ImageReading::image_at))]
+fn image(alloc: Global, reader: &mut Reader<'_>) -> Result<ImageRows, ImageFault>
+    ensures gives { GivesView parts_of result (image_at reader.old.file.now reader.old.at) reader.new.at }
+    ensures file { reader.new.file ≡ reader.old.file }
 {
-    let (front, _) = file.split_at(file.len().min(u32::MAX as usize));
-    front
+    let front = table_rows(alloc, reader)?;
+    let behind = code_rows(alloc, reader, &front)?;
+    Ok(ImageRows {
+        heap_words: front.header.heap_words,
+        stacks: front.header.stacks,
+        sigs: front.sigs,
+        functions: front.functions,
+        entries: front.entries,
+        classes: front.classes,
+        kinds: front.kinds,
+        statics: front.statics,
+        arrays: front.arrays,
+        code: behind.code,
+        blocks: behind.blocks,
+        marks: behind.marks,
+    })
 }
 
 /// The rows of the image for which the bytes stand; else their first fault, or want of memory.
@@ -140,14 +199,8 @@ pub(crate) fn image_rows(alloc: Global, bytes: &[u8]) -> Result<ImageRows, Image
     ensures ok { IfOk result (λ rows. ImageOf bytes.now (parts_of rows)) }
     ensures fault { IfErr result (λ fault. (fault ≡ no_memory) ⊎ FirstFault bytes.now fault) }
 {
-    ia32_code::laws::prefix_law();
-    ia32_code::laws::decoded_law();
-    ia32_code::laws::spelling_length();
-    let mut reader = Reader::new(front(bytes));
-    let rows = reader.image(alloc)?;
-    if reader.at < bytes.len() {
-        let at = reader.at as u32;
-        return Err(ImageFault::Rest { at });
-    }
+    read_as_fields();
+    image_ends();
+    let FileRows { rows } = read_whole::<(), FileRows>(alloc, bytes, &())?;
     Ok(rows)
 }

@@ -1,12 +1,17 @@
 // What holds of the definitions alone: each law is a function with nothing to do, whose clause is the law.
+ghost use Rattle.std.specs.Prelude.{◌^◌};
+ghost use Rattle.file_fields.specs.Laws.{EndsBy};
+ghost use Rattle.tal_image.specs.Fields.{image_fields};
 ghost use Rattle.tal_image.specs.Laws.{OneMeaning, ReadAsFields, EachIsOne, FormedShapes};
+
+use crate::image_reader::FileRows;
 
 /// What a file stands for is one thing: one image, or one first fault, and not both.
 pub fn one_meaning()
     ensures { OneMeaning }
 {
-    ia32_code::laws::prefix_law();
-    ia32_code::laws::spelling_length();
+    read_as_fields();
+    file_fields::laws::one_meaning::<FileRows>();
 }
 
 /// The file of an image is its fields one after another: whoever reads fields that are sound to the end of a file has read
@@ -15,6 +20,7 @@ pub fn read_as_fields()
     ensures { ReadAsFields }
 {
     ia32_code::laws::spelling_length();
+    file_fields::laws::number_meanings();
 }
 
 /// Each file stands for an image or has a first fault, so that by the law of one meaning what a file is told to be is
@@ -22,9 +28,8 @@ pub fn read_as_fields()
 pub fn each_is_one()
     ensures { EachIsOne }
 {
-    ia32_code::laws::prefix_law();
-    ia32_code::laws::spelling_length();
-    ia32_code::laws::decoded_law();
+    read_as_fields();
+    file_fields::laws::each_is_one::<FileRows>();
 }
 
 /// The classes and array kinds of an image are a table without a fault, and keep the laws of classes.
@@ -32,4 +37,11 @@ pub fn formed_shapes()
     ensures { FormedShapes }
 {
     object_layout::laws::class_laws();
+}
+
+/// A file that ends inside a field of an image has no more than 64 MiB.
+pub(crate) fn image_ends()
+    ensures { EndsBy image_fields (2 ^ 31) }
+{
+    ia32_code::laws::spelling_length();
 }

@@ -5,12 +5,15 @@
 // every image keeps, by the numbers of the conditions, and `ImageOf` both together. `FirstFault` is what is wrong with a
 // file: the first of its fields that breaks a condition, or in which the file ends. The module `laws` has what holds of
 // them; `ImageFault` is a fault.
+//
+// A new field of the format stands in its grammar (specs/Fields.antt), in its row's reader (`header_reader`, `row_reader`,
+// `class_reader`, `code_reader`) and in its writer (`writing`), and nowhere else.
 #![tactic(auto)]
 
 mod class_reader;
 mod code_reader;
-mod fault;
 mod files;
+mod header_reader;
 mod image;
 mod image_reader;
 mod image_rows;
@@ -19,16 +22,14 @@ mod look_ups;
 mod mark_words;
 mod parts;
 mod placement;
-mod reader;
+mod row_reader;
 mod type_codes;
 mod writing;
 
-pub use fault::ImageFault;
+pub use file_fields::ImageFault;
 pub use image::Image;
 pub use parts::{BlockPart, DataRow, MarkPart, TypeList};
 
-#[cfg(test)]
-mod fault_tests;
 #[cfg(test)]
 mod image_tests;
 #[cfg(test)]

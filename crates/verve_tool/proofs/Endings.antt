@@ -4,7 +4,7 @@ use Rattle.std.proofs.Common.{◌≡◌, ◌≢◌, ◌⊎◌, ◌≤◌, ◌<�
 use Rattle.outside.specs.Faults.{Faulted}
 use Rattle.outside.specs.Sinks.{Gained, GainedFront}
 use Rattle.tal_image.specs.Image.{ImageParts}
-use Rattle.tal_image.specs.declared.fault.ImageFault.TheVariants as fault
+use Rattle.file_fields.specs.declared.fault.ImageFault.TheVariants as fault
 use Rattle.kernel_machine.specs.Machine.{MachineView, Follows, end_of}
 use Rattle.kernel_machine.specs.Report.{ReportText}
 use Rattle.kernel_machine.specs.declared.ending.Ending.{Ending}

@@ -6,8 +6,8 @@ use Rattle.tal_image.specs.Image.{ImageParts}
 use Rattle.tal_image.specs.Formed.{ImageOf}
 use Rattle.tal_image.specs.Laws.{OneMeaning}
 use Rattle.tal_image.specs.Fields.{FirstFault}
-use Rattle.tal_image.specs.declared.fault.ImageFault.{ImageFault}
-use Rattle.tal_image.specs.declared.fault.ImageFault.TheVariants as fault
+use Rattle.file_fields.specs.declared.fault.ImageFault.{ImageFault}
+use Rattle.file_fields.specs.declared.fault.ImageFault.TheVariants as fault
 use Rattle.tal_checker.specs.WellTyped.{WellTyped, FirstRefusal, OneRefusal}
 use Rattle.tal_checker.specs.declared.answer.CheckAnswer.{CheckAnswer}
 use Rattle.tal_checker.specs.declared.answer.CheckAnswer.TheVariants as answer

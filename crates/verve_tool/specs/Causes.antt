@@ -4,8 +4,8 @@ use Rattle.outside.specs.FileMaps.{FileMap, Gives, Lacks}
 use Rattle.tal_image.specs.Image.{ImageParts}
 use Rattle.tal_image.specs.Formed.{ImageOf}
 use Rattle.tal_image.specs.Fields.{FirstFault}
-use Rattle.tal_image.specs.declared.fault.ImageFault.{ImageFault}
-use Rattle.tal_image.specs.declared.fault.ImageFault.TheVariants.{NoMemory}
+use Rattle.file_fields.specs.declared.fault.ImageFault.{ImageFault}
+use Rattle.file_fields.specs.declared.fault.ImageFault.TheVariants.{NoMemory}
 use Rattle.tal_checker.specs.WellTyped.{WellTyped, FirstRefusal}
 use Rattle.kernel_machine.specs.Built.{FirstOutside}
 use Rattle.verve_tool.specs.Lines.{read_line, long_line, fault_line, refused_line, not_built_line}

@@ -3,8 +3,8 @@ use Rattle.std.specs.Prelude.{◌≤◌, ℕ, List, ◌++◌, Option, codes, dec
 use Rattle.outside.specs.Faults.{Quiet}
 use Rattle.outside.specs.Sinks.{Gained, GainedFront}
 use Rattle.kernel_machine.specs.Report.{word_text}
-use Rattle.tal_image.specs.declared.fault.ImageFault.{ImageFault}
-use Rattle.tal_image.specs.declared.fault.ImageFault.TheVariants as fault
+use Rattle.file_fields.specs.declared.fault.ImageFault.{ImageFault}
+use Rattle.file_fields.specs.declared.fault.ImageFault.TheVariants as fault
 
 -- the image is accepted
 abbrev pub accepted_text : List ℕ

@@ -7,8 +7,8 @@ use Rattle.outside.specs.Sinks.{Gained, GainedFront}
 use Rattle.kernel_machine.specs.Machine.{MachineView, end_of}
 use Rattle.kernel_machine.specs.Report.{ReportText}
 use Rattle.kernel_machine.specs.declared.run_end.RunEnd.{RunEnd}
-use Rattle.tal_image.specs.declared.fault.ImageFault.{ImageFault}
-use Rattle.tal_image.specs.declared.fault.ImageFault.TheVariants as fault
+use Rattle.file_fields.specs.declared.fault.ImageFault.{ImageFault}
+use Rattle.file_fields.specs.declared.fault.ImageFault.TheVariants as fault
 use Rattle.tal_checker.specs.declared.answer.CheckAnswer.{CheckAnswer}
 use Rattle.tal_checker.specs.declared.answer.CheckAnswer.TheVariants as answer
 use Rattle.verve_tool.specs.Words.{RunWords, Request, Run, Check, Listing}

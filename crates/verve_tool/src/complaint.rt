@@ -2,7 +2,7 @@
 ghost use Rattle.std.specs.Prelude.{◌≡◌, ◌<◌, [], ◌∷◌, ◌++◌};
 ghost use Rattle.std.specs.List.{flat_map};
 ghost use Rattle.kernel_machine.specs.Report.{word_text};
-ghost use Rattle.tal_image.specs.declared.fault.ImageFault.{ImageFault};
+ghost use Rattle.file_fields.specs.declared.fault.ImageFault.{ImageFault};
 ghost use Rattle.verve_tool.specs.Lines.{Says, file_line, bad_line, not_built_line, fault_line, refused_line};
 ghost use Rattle.verve_tool.specs.Stops.{line_of};
 

@@ -1,8 +1,9 @@
-use Rattle.tal_image.proofs.Bodies.{SomeText}
-use Rattle.tal_image.proofs.EachFile.{each_file}
+use Rattle.std.proofs.Common.{inl, inr}
+use Rattle.tal_image.specs.Fields.{image_fields}
 use Rattle.tal_image.proofs.laws.each_is_one.Goals as goal
 
 pub returns : goal.returns
-returns c =
-    let some : SomeText = λ text i s. (c.spelling_length.ensures text i s).0 in
-    λ bytes fits. each_file c.decoded_law.ensures c.prefix_law.ensures some bytes fits
+returns c = λ bytes fits. elim (c.each_is_one.ensures image_fields bytes fits) [
+  | inl k ↦ inl (k.0, (c.read_as_fields.ensures bytes k.0).0 k.1)
+  | inr k ↦ inr k
+]

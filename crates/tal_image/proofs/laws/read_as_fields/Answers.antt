@@ -5,4 +5,5 @@ use Rattle.tal_image.proofs.laws.read_as_fields.Goals as goal
 pub returns : goal.returns
 returns c =
     let some : SomeText = λ text i s. (c.spelling_length.ensures text i s).0 in
-    λ bytes i. (read some bytes i, stands some bytes i)
+    let numbers = c.number_meanings.ensures in
+    λ bytes i. (read numbers some bytes i, stands numbers some bytes i)
