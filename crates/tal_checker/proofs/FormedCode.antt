@@ -15,8 +15,8 @@ use Rattle.tal_image.specs.declared.parts.FunctionPart.{FunctionPart}
 use Rattle.object_layout.specs.Areas.{code_start}
 use Rattle.tal_image.specs.declared.parts.Tables.{Tables}
 use Rattle.tal_image.specs.Conditions.{Spelled, begins_at, function_begins, block_fits, entry_fits, starts_stack}
-use Rattle.tal_image.specs.Fields.{joined, code_bytes, after_function, after_block}
-use Rattle.tal_image.specs.Formed.{EachAfter, Each, IsFunction, IsEntry, IsBlock, IsBody, AreBodies, Formed, tables}
+use Rattle.tal_image.specs.Fields.{all_instructions, code_bytes, after_function, after_block}
+use Rattle.tal_image.specs.Formed.{EachAfter, Each, IsFunction, IsEntry, IsBlockPart, IsBody, AreBodies, Formed, tables}
 use Rattle.tal_image.specs.Image.{ImageParts}
 use Rattle.tal_image.specs.Shown.{spans, begun_by, block_in}
 use Rattle.tal_checker.specs.Instructions.{instructions}
@@ -53,40 +53,40 @@ module _ (front : FrontLaw) (long : SpellingLength) where
       ((spelled-text front long s h.1, t.0), omega arith)
 
   -- those of all functions
-  bodies-texts : (fs : List FunctionPart) (bodies : List (List Spelled)) → AreBodies fs bodies → AreTexts (joined bodies) × (length (code_bytes (joined bodies)) ≡ total fs)
+  bodies-texts : (fs : List FunctionPart) (bodies : List (List Spelled)) → AreBodies fs bodies → AreTexts (all_instructions bodies) × (length (code_bytes (all_instructions bodies)) ≡ total fs)
   bodies-texts [] [] h = (tt, refl)
   bodies-texts [] (body ∷ bodies) h = absurd h
   bodies-texts (f ∷ fs) [] h = absurd h
   bodies-texts (f ∷ fs) (body ∷ bodies) h =
       let a = body-texts body f.length h.0 in
       let b = bodies-texts fs bodies h.1 in
-      let l = append-length body (joined bodies) in
+      let l = append-length body (all_instructions bodies) in
       let m = a.1 in
       let n = b.1 in
-      (append-texts body (joined bodies) a.0 b.0, omega arith)
+      (append-texts body (all_instructions bodies) a.0 b.0, omega arith)
 
   -- where a function begins an instruction begins
   function-there : (fs : List FunctionPart) (bodies : List (List Spelled)) (a sigs pc g : ℕ) → AreFunctions sigs fs → AreBodies fs bodies
-      → begun_by pc (spans a fs) ≡ Some g → (x : Placed) × (placed_at (placed_spelled a (joined bodies)) pc ≡ Some x)
+      → begun_by pc (spans a fs) ≡ Some g → (x : Placed) × (placed_at (placed_spelled a (all_instructions bodies)) pc ≡ Some x)
   unfolding spans begun_by
   function-there [] bodies a sigs pc g h b e = absurd cc
   function-there (f ∷ fs) [] a sigs pc g h b e = absurd b
   function-there (f ∷ fs) (body ∷ bodies) a sigs pc g h b e = go (a == pc) refl e (λ k. function-there fs bodies (a + f.length) sigs pc g h.2 b.1 k)
     where
       go : (t : Bool) → (a == pc) ≡ t → (if t then Some f.sig else begun_by pc (spans (a + f.length) fs)) ≡ Some g
-          → (begun_by pc (spans (a + f.length) fs) ≡ Some g → (x : Placed) × (placed_at (placed_spelled (a + f.length) (joined bodies)) pc ≡ Some x))
-          → (x : Placed) × (placed_at (placed_spelled a (body ++ joined bodies)) pc ≡ Some x)
+          → (begun_by pc (spans (a + f.length) fs) ≡ Some g → (x : Placed) × (placed_at (placed_spelled (a + f.length) (all_instructions bodies)) pc ≡ Some x))
+          → (x : Placed) × (placed_at (placed_spelled a (body ++ all_instructions bodies)) pc ≡ Some x)
       go true p e later =
           let q : a ≡ pc = grind (arith, nat_tests) in
           let m = (body-texts body f.length b.0).1 in
-          let l = append-length body (joined bodies) in
+          let l = append-length body (all_instructions bodies) in
           let some = h.0 in
-          let t = first_there (body ++ joined bodies) a (omega arith) in
-          (t.0, subst (λ (n : ℕ). placed_at (placed_spelled a (body ++ joined bodies)) n ≡ Some t.0) q t.1)
+          let t = first_there (body ++ all_instructions bodies) a (omega arith) in
+          (t.0, subst (λ (n : ℕ). placed_at (placed_spelled a (body ++ all_instructions bodies)) n ≡ Some t.0) q t.1)
       go false p e later =
           let t = later e in
           let m = body-texts body f.length b.0 in
-          (t.0, there-after body (joined bodies) a pc t.0 m.0 (subst (λ (n : ℕ). placed_at (placed_spelled (a + n) (joined bodies)) pc ≡ Some t.0) (sym m.1) t.1))
+          (t.0, there-after body (all_instructions bodies) a pc t.0 m.0 (subst (λ (n : ℕ). placed_at (placed_spelled (a + n) (all_instructions bodies)) pc ≡ Some t.0) (sym m.1) t.1))
 
 -- a block's place in the code
 record IsPlace (functions : List FunctionPart) (code : List Spelled) (pc : ℕ) : Type 0 where
@@ -97,7 +97,7 @@ record IsPlace (functions : List FunctionPart) (code : List Spelled) (pc : ℕ) 
 
 -- a block stands where an instruction begins and no function does
 block-place : (t : Tables) (functions : List FunctionPart) (code : List Spelled) (bs : List BlockPart) (least pc : ℕ) (c : ContextView)
-    → EachAfter after_block (λ later least b. IsBlock t functions code least b) least bs → block_in pc bs ≡ Some c → IsPlace functions code pc
+    → EachAfter after_block (λ later least b. IsBlockPart t functions code least b) least bs → block_in pc bs ≡ Some c → IsPlace functions code pc
 unfolding block_in block_fits
 block-place t functions code [] least pc c h e = absurd cc
 block-place t functions code (b ∷ bs) least pc c h e = go ((code_start + b.offset) == pc) refl e (λ k. block-place t functions code bs (b.offset + 1) pc c h.1 k)
@@ -161,7 +161,7 @@ pub record HasCode (image : ImageParts) : Type 0 where
 pub has_code : FrontLaw → SpellingLength → (image : ImageParts) → Formed image → HasCode image
 unfolding instructions
 has_code front long image f =
-    let code = joined f.bodies in
+    let code = all_instructions f.bodies in
     let t = bodies-texts front long image.functions f.bodies f.condition_23 in
     let functions = are_functions (tables image) (length image.code) image.functions f.functions in
     let limit = f.condition_9 in

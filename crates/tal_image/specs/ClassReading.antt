@@ -19,12 +19,12 @@ behind_parent t functions number above slots =
     done (record { parent = parent_of number; fields = fields; methods = methods })))))
 
 -- the signature of a function, or 0 where there is none
-unfoldable pub signature_in : List FunctionPart → ℕ → ℕ
-signature_in functions f = option_map_or (λ (row : FunctionPart). row.sig) (slice_get functions f) 0
+unfoldable pub function_signature : List FunctionPart → ℕ → ℕ
+function_signature functions f = option_map_or (λ (row : FunctionPart). row.sig) (slice_get functions f) 0
 
 -- whether a function may stand in a method slot, where this one stands in the slot that is taken over, if any does
 unfoldable pub slot_fits : List FunctionPart → Option ℕ → ℕ → Bool
-slot_fits functions above f = option_map_or (λ (row : FunctionPart). option_map_or (λ taken. row.sig == signature_in functions taken) above true) (slice_get functions f) false
+slot_fits functions above f = option_map_or (λ (row : FunctionPart). option_map_or (λ taken. row.sig == function_signature functions taken) above true) (slice_get functions f) false
 
 -- the functions in the slots that a class takes over from the parent with this number
 unfoldable pub above_methods : ShapesView → ℕ → List ℕ

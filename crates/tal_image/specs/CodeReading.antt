@@ -8,9 +8,8 @@ use Rattle.ia32_code.specs.Decoding.{decoded}
 use Rattle.object_layout.specs.Areas.{table_address, descriptor_address}
 use Rattle.file_fields.specs.declared.fault.ImageFault.{ImageFault}
 use Rattle.tal_image.specs.declared.parts.FunctionPart.{FunctionPart}
-use Rattle.tal_image.specs.Image.{ArrayPart}
 use Rattle.tal_image.specs.Conditions.{Tables, Spelled, marked_number, same_number}
-use Rattle.tal_image.specs.Fields.{instructions, bodies, joined}
+use Rattle.tal_image.specs.Fields.{instructions, bodies, all_instructions}
 use Rattle.file_fields.specs.Reading.{◌▸◌, Reads, run}
 
 -- for each byte of so many, whether it is the first
@@ -36,7 +35,7 @@ body_at n file at = run (instructions n n) file at
 
 -- the instructions of functions one after another
 abbrev pub bodies_at : List FunctionPart → Reads (List Spelled)
-bodies_at functions file at = run (bodies functions) file at ▸ λ x. Ok (joined x.0, x.1)
+bodies_at functions file at = run (bodies functions) file at ▸ λ x. Ok (all_instructions x.0, x.1)
 
 -- where instructions begin, behind those before them
 abbrev pub starts_behind : List Bool → Result (List Spelled × ℕ) ImageFault → Result (List Bool × ℕ) ImageFault
@@ -51,22 +50,22 @@ unfoldable pub place_fits : List Bool → List Bool → ℕ → ℕ → Bool
 place_fits instructions functions least offset = nat_le least offset && starts_at instructions offset && not (starts_at functions offset)
 
 -- the immediate number of an instruction that was decoded
-unfoldable pub number_of : Decoded → Option ℕ
-number_of (answer.One i len) = marked_number i
-number_of answer.Short = None
-number_of answer.Unknown = None
+unfoldable pub marked_number_of : Decoded → Option ℕ
+marked_number_of (answer.One i len) = marked_number i
+marked_number_of answer.Short = None
+marked_number_of answer.Unknown = None
 
 -- the immediate number of the instruction that begins at an offset of the code
-unfoldable pub number_in : List ℕ → List Bool → ℕ → Option ℕ
-number_in code starts offset = if starts_at starts offset then number_of (decoded (drop offset code)) else None
+unfoldable pub marked_number_in : List ℕ → List Bool → ℕ → Option ℕ
+marked_number_in code starts offset = if starts_at starts offset then marked_number_of (decoded (drop offset code)) else None
 
 -- whether a mark may stand at an offset
 unfoldable pub offset_fits : List ℕ → List Bool → ℕ → ℕ → Bool
-offset_fits code starts least offset = nat_le least offset && is_some (number_in code starts offset)
+offset_fits code starts least offset = nat_le least offset && is_some (marked_number_in code starts offset)
 
 -- the word that a mark stands for, by the addresses of functions and the places of data arrays
-unfoldable pub word_of : Tables → List ℕ → List ℕ → ℕ → ℕ → Option ℕ
-word_of t addresses places tag index =
+unfoldable pub mark_word_by : Tables → List ℕ → List ℕ → ℕ → ℕ → Option ℕ
+mark_word_by t addresses places tag index =
     if tag == 1 then (if nat_lt index t.classes then Some 0 else None)
     else if tag == 3 then (if nat_lt index t.kinds then Some 0 else None)
     else if tag == 5 then (if nat_lt index t.sigs then Some 0 else None)
@@ -78,14 +77,4 @@ word_of t addresses places tag index =
 
 -- whether a mark at an offset may have a tag and an index
 abbrev pub mark_says : Tables → List ℕ → List ℕ → List ℕ → List Bool → ℕ → ℕ → ℕ → Bool
-mark_says t addresses places code starts offset tag index = same_number (word_of t addresses places tag index) (number_in code starts offset)
-
--- how many bytes functions have
-unfoldable pub code_length : List FunctionPart → ℕ
-code_length [] = 0
-code_length (f ∷ fs) = f.length + code_length fs
-
--- how many words data arrays have, each with the two before its elements
-unfoldable pub array_space : List ArrayPart → ℕ
-array_space [] = 0
-array_space (a ∷ arrays) = 2 + a.size + array_space arrays
+mark_says t addresses places code starts offset tag index = same_number (mark_word_by t addresses places tag index) (marked_number_in code starts offset)

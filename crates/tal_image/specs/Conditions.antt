@@ -18,7 +18,7 @@ use Rattle.tal_types.specs.Types.{of_field}
 pub use Rattle.file_fields.specs.Grammar.{between}
 pub use Rattle.tal_image.specs.declared.parts.Tables.{Tables}
 use Rattle.tal_image.specs.declared.parts.FunctionPart.{FunctionPart}
-use Rattle.tal_image.specs.Image.{ArrayPart, tag_of}
+use Rattle.tal_image.specs.Image.{ArrayPart, type_tag}
 
 -- the most bytes of code, and the most words of statics and data arrays
 abbrev pub most_code : ℕ
@@ -81,7 +81,7 @@ sig_fits t s = nat_lt s t.sigs
 
 -- a signature of seven times junk, with a number as its result
 unfoldable pub starts_stack : Sig → Bool
-starts_stack s = list_all (λ t. tag_of t == 9) s.params && tag_of s.result == 0
+starts_stack s = list_all (λ t. type_tag t == 9) s.params && type_tag s.result == 0
 
 -- 15: the function at which a stack begins is there, and its signature is seven times junk with a number as its result
 unfoldable pub entry_fits : List Sig → List FunctionPart → ℕ → Bool
@@ -142,7 +142,7 @@ with_array used a = used + 2 + a.size
 
 -- the numbers that the file has for a data array of a kind: all where its elements are numbers, else none
 unfoldable pub numbers_given : List KindRow → ℕ → ℕ → ℕ
-numbers_given kinds k n = if option_map_or (λ (row : KindRow). tag_of (of_field row.element) == 0) (slice_get kinds k) false then n else 0
+numbers_given kinds k n = if option_map_or (λ (row : KindRow). type_tag (of_field row.element) == 0) (slice_get kinds k) false then n else 0
 
 -- an instruction and the bytes that spell it
 pub record Spelled : Type 0 where
@@ -187,12 +187,12 @@ marked_number (inst.Alu op dst src) = compared op src
 marked_number _ = None
 
 -- the immediate number of the instruction that begins at an offset
-unfoldable pub number_at : ℕ → List Spelled → Option ℕ
-number_at offset code = option_map_or marked_number (begins_at offset code) None
+unfoldable pub marked_number_at : ℕ → List Spelled → Option ℕ
+marked_number_at offset code = option_map_or marked_number (begins_at offset code) None
 
 -- 26: the offsets of marks rise, and at each a MOV, PUSH or CMP with an immediate begins; the least is the offset of the mark before plus 1
 unfoldable pub mark_fits : List Spelled → ℕ → ℕ → Bool
-mark_fits code least offset = nat_le least offset && is_some (number_at offset code)
+mark_fits code least offset = nat_le least offset && is_some (marked_number_at offset code)
 
 -- how many words a data array takes, with the two before its elements
 abbrev pub array_room : ArrayPart → ℕ

@@ -14,7 +14,7 @@ use Rattle.tal_image.specs.declared.parts.Header.{Header}
 use Rattle.tal_image.specs.declared.parts.FunctionPart.{FunctionPart}
 use Rattle.tal_image.specs.declared.parts.MarkPart.{MarkPart}
 use Rattle.tal_image.specs.Image.{ImageParts, ArrayPart, BlockPart, magic_number}
-use Rattle.tal_image.specs.Conditions.{Tables, heap_fits, stacks_fit, sigs_fit, functions_fit, classes_fit, kinds_fit, statics_fit, arrays_fit, code_fits, blocks_fit, marks_fit, type_fits, length_fits, sig_fits, entry_fits, class_view, parent_fits, inherited_fields, inherited_methods, fields_fit, is_field_tag, methods_fit, method_fits, kind_fits, array_fits, with_array, numbers_given, Spelled, block_fits, slots_fit, number_at, mark_fits, word_fits}
+use Rattle.tal_image.specs.Conditions.{Tables, heap_fits, stacks_fit, sigs_fit, functions_fit, classes_fit, kinds_fit, statics_fit, arrays_fit, code_fits, blocks_fit, marks_fit, type_fits, length_fits, sig_fits, entry_fits, class_view, parent_fits, inherited_fields, inherited_methods, fields_fit, is_field_tag, methods_fit, method_fits, kind_fits, array_fits, with_array, numbers_given, Spelled, block_fits, slots_fit, marked_number_at, mark_fits, word_fits}
 use Rattle.file_fields.specs.Grammar.{Grammar, done, pair, instruction, field, checked, each, then_with, many, FaultOf}
 
 -- the tables to which types refer
@@ -52,8 +52,8 @@ header_fields =
     }))))))))))))))
 
 -- the type with a tag and an index
-unfoldable pub type_of : ℕ → ℕ → Ty
-type_of tag index =
+unfoldable pub type_with : ℕ → ℕ → Ty
+type_with tag index =
     if tag == 0 then Num
     else if tag == 1 then Ref index
     else if tag == 2 then Obj index
@@ -66,8 +66,8 @@ type_of tag index =
     else Junk
 
 -- the type of a field, a static or an element with a tag and an index
-unfoldable pub field_type_of : ℕ → ℕ → FieldTy
-field_type_of tag index =
+unfoldable pub field_type_with : ℕ → ℕ → FieldTy
+field_type_with tag index =
     if tag == 1 then RefField index
     else if tag == 3 then ArrRefField index
     else if tag == 5 then FunField index
@@ -75,13 +75,13 @@ field_type_of tag index =
 
 -- a type
 unfoldable pub type_field : Tables → Grammar Ty
-type_field t = pair (type_fits t) (λ tag index at. Bad at 12) (λ tag index. done (type_of tag index))
+type_field t = pair (type_fits t) (λ tag index at. Bad at 12) (λ tag index. done (type_with tag index))
 
 -- the type of a field, a static or an element: condition 12 comes before 18
 unfoldable pub field_type_field : Tables → Grammar FieldTy
 field_type_field t =
     pair (λ tag index. type_fits t tag index && is_field_tag tag) (λ tag index at. Bad at (if type_fits t tag index then 18 else 12))
-    (λ tag index. done (field_type_of tag index))
+    (λ tag index. done (field_type_with tag index))
 
 -- a signature
 unfoldable pub sig_fields : Tables → Grammar Sig
@@ -148,8 +148,8 @@ bodies [] = done []
 bodies (f ∷ fs) = then_with (instructions f.length f.length) (λ body. then_with (bodies fs) (λ more. done (body ∷ more)))
 
 -- the instructions of all functions
-abbrev pub joined : List (List Spelled) → List Spelled
-joined code = flat_map (λ body. body) code
+abbrev pub all_instructions : List (List Spelled) → List Spelled
+all_instructions code = flat_map (λ body. body) code
 
 -- the bytes of instructions
 abbrev pub code_bytes : List Spelled → List ℕ
@@ -184,7 +184,7 @@ mark_where place word =
 
 -- a mark, where its offset is at least this
 abbrev pub mark_fields : Tables → List FunctionPart → ℕ → List ArrayPart → List Spelled → ℕ → Grammar MarkPart
-mark_fields t functions statics arrays code least = mark_where (mark_fits code least) (λ offset. word_fits t functions statics arrays (number_at offset code))
+mark_fields t functions statics arrays code least = mark_where (mark_fits code least) (λ offset. word_fits t functions statics arrays (marked_number_at offset code))
 
 -- the image of these parts
 abbrev pub image_of : Header → List Sig → List FunctionPart → List ℕ → List ClassRow → List KindRow → List FieldTy → List ArrayPart → List (List Spelled) → List BlockPart → List MarkPart → ImageParts
@@ -198,7 +198,7 @@ image_of h sigs functions entries classes kinds statics arrays code blocks marks
   kinds = kinds;
   statics = statics;
   arrays = arrays;
-  code = code_bytes (joined code);
+  code = code_bytes (all_instructions code);
   blocks = blocks;
   marks = marks;
 }
@@ -258,8 +258,8 @@ coded_fields =
     then_with (statics_part h) (λ statics.
     then_with (arrays_part h kinds) (λ arrays.
     then_with (bodies functions) (λ code.
-    then_with (blocks_part h functions (joined code)) (λ blocks.
-    then_with (marks_part h functions arrays (joined code)) (λ marks.
+    then_with (blocks_part h functions (all_instructions code)) (λ blocks.
+    then_with (marks_part h functions arrays (all_instructions code)) (λ marks.
     done (coded h sigs functions entries classes kinds statics arrays code blocks marks))))))))))))
 
 -- the fields of an image file

@@ -10,9 +10,9 @@ use Rattle.tal_types.specs.Types.{of_field}
 pub use Rattle.file_fields.specs.Parts.{EachAfter, Each}
 use Rattle.tal_image.specs.declared.parts.FunctionPart.{FunctionPart}
 use Rattle.tal_image.specs.declared.parts.MarkPart.{MarkPart}
-use Rattle.tal_image.specs.Image.{ImageParts, ArrayPart, BlockPart, tag_of, index_of, parent_number, FileOf}
-use Rattle.tal_image.specs.Conditions.{Tables, heap_fits, stacks_fit, sigs_fit, functions_fit, classes_fit, kinds_fit, statics_fit, arrays_fit, code_fits, blocks_fit, marks_fit, type_fits, length_fits, sig_fits, entry_fits, class_view, parent_fits, inherited_fields, inherited_methods, fields_fit, methods_fit, method_fits, kind_fits, array_fits, with_array, numbers_given, Spelled, block_fits, slots_fit, number_at, mark_fits, word_fits}
-use Rattle.tal_image.specs.Fields.{joined, code_bytes, after_function, after_block, after_mark, with_class}
+use Rattle.tal_image.specs.Image.{ImageParts, ArrayPart, BlockPart, type_tag, type_index, parent_number, FileOf}
+use Rattle.tal_image.specs.Conditions.{Tables, heap_fits, stacks_fit, sigs_fit, functions_fit, classes_fit, kinds_fit, statics_fit, arrays_fit, code_fits, blocks_fit, marks_fit, type_fits, length_fits, sig_fits, entry_fits, class_view, parent_fits, inherited_fields, inherited_methods, fields_fit, methods_fit, method_fits, kind_fits, array_fits, with_array, numbers_given, Spelled, block_fits, slots_fit, marked_number_at, mark_fits, word_fits}
+use Rattle.tal_image.specs.Fields.{all_instructions, code_bytes, after_function, after_block, after_mark, with_class}
 
 -- the number has 32 bits
 abbrev pub IsWord : ℕ → Type 0
@@ -20,8 +20,8 @@ IsWord n = n < 2 ^ 32
 
 -- a type
 pub record IsType (t : Tables) (ty : Ty) : Type 0 where
-  pub word : IsWord (index_of ty)
-  pub condition_12 : type_fits t (tag_of ty) (index_of ty) ≡ true
+  pub word : IsWord (type_index ty)
+  pub condition_12 : type_fits t (type_tag ty) (type_index ty) ≡ true
 
 -- the type of a field, a static or an element: these types alone meet condition 18
 abbrev pub IsFieldType : Tables → FieldTy → Type 0
@@ -83,7 +83,7 @@ AreBodies (f ∷ fs) [] = ⊥
 AreBodies (f ∷ fs) (body ∷ bodies) = IsBody f.length body × AreBodies fs bodies
 
 -- a block, where its offset is at least this
-pub record IsBlock (t : Tables) (functions : List FunctionPart) (code : List Spelled) (least : ℕ) (b : BlockPart) : Type 0 where
+pub record IsBlockPart (t : Tables) (functions : List FunctionPart) (code : List Spelled) (least : ℕ) (b : BlockPart) : Type 0 where
   pub offset_word : IsWord b.offset
   pub condition_24 : block_fits functions code least b.offset ≡ true
   pub seven : length b.types ≡ 7
@@ -98,7 +98,7 @@ pub record IsMark (t : Tables) (functions : List FunctionPart) (statics : ℕ) (
   pub condition_26 : mark_fits code least m.offset ≡ true
   pub tag_word : IsWord m.tag
   pub index_word : IsWord m.index
-  pub condition_27 : word_fits t functions statics arrays (number_at m.offset code) m.tag m.index ≡ true
+  pub condition_27 : word_fits t functions statics arrays (marked_number_at m.offset code) m.tag m.index ≡ true
 
 -- the tables to which an image's types refer
 abbrev pub tables : ImageParts → Tables
@@ -134,11 +134,11 @@ pub record Formed (i : ImageParts) : Type 0 where
   -- condition 23
   pub bodies : List (List Spelled)
   pub condition_23 : AreBodies i.functions bodies
-  pub code : i.code ≡ code_bytes (joined bodies)
+  pub code : i.code ≡ code_bytes (all_instructions bodies)
   -- conditions 24 and 25
-  pub blocks : EachAfter after_block (λ later least b. IsBlock (tables i) i.functions (joined bodies) least b) 0 i.blocks
+  pub blocks : EachAfter after_block (λ later least b. IsBlockPart (tables i) i.functions (all_instructions bodies) least b) 0 i.blocks
   -- conditions 26 and 27
-  pub marks : EachAfter after_mark (λ later least m. IsMark (tables i) i.functions (length i.statics) i.arrays (joined bodies) least m) 0 i.marks
+  pub marks : EachAfter after_mark (λ later least m. IsMark (tables i) i.functions (length i.statics) i.arrays (all_instructions bodies) least m) 0 i.marks
 
 -- the bytes stand for the image
 pub record ImageOf (bytes : List ℕ) (i : ImageParts) : Type 0 where

@@ -13,6 +13,7 @@ pub use Rattle.tal_image.specs.declared.parts.ArrayPart.{ArrayPart}
 pub use Rattle.tal_image.specs.declared.parts.BlockPart.{BlockPart}
 use Rattle.tal_image.specs.declared.parts.FunctionPart.{FunctionPart}
 use Rattle.tal_image.specs.declared.parts.MarkPart.{MarkPart}
+use Rattle.tal_image.specs.declared.image_rows.ImageRows.{ImageRows}
 
 -- an image: the heap's words, the stacks, the rows of its tables in their order, the code, and what is said of the code
 pub record ImageParts : Type 0 where
@@ -29,39 +30,56 @@ pub record ImageParts : Type 0 where
   pub blocks : List BlockPart
   pub marks : List MarkPart
 
+-- the image of these rows
+abbrev pub parts_of : ImageRows → ImageParts
+parts_of r = record {
+  heap_words = r.heap_words;
+  stacks = r.stacks;
+  sigs = r.sigs.items;
+  functions = r.functions.items;
+  entries = r.entries.items;
+  classes = r.classes.items;
+  kinds = r.kinds.items;
+  statics = r.statics;
+  arrays = r.arrays.items;
+  code = r.code.items;
+  blocks = r.blocks.items;
+  marks = r.marks.items;
+}
+
 -- numbers one after another
 abbrev pub numbers : List ℕ → List ℕ
 numbers ns = flat_map number_bytes ns
 
 -- the tag of a type
-unfoldable pub tag_of : Ty → ℕ
-tag_of Num = 0
-tag_of (Ref c) = 1
-tag_of (Obj c) = 2
-tag_of (ArrRef k) = 3
-tag_of (Arr k) = 4
-tag_of (Fun s) = 5
-tag_of (Code s) = 6
-tag_of (Tab c) = 7
-tag_of (Desc k) = 8
-tag_of Junk = 9
+unfoldable pub type_tag : Ty → ℕ
+type_tag Num = 0
+type_tag (Ref c) = 1
+type_tag (Obj c) = 2
+type_tag (ArrRef k) = 3
+type_tag (Arr k) = 4
+type_tag (Fun s) = 5
+type_tag (Code s) = 6
+type_tag (Tab c) = 7
+type_tag (Desc k) = 8
+type_tag Junk = 9
 
 -- the index of a type: its class, array kind or signature, and 0 where it has none
-unfoldable pub index_of : Ty → ℕ
-index_of Num = 0
-index_of (Ref c) = c
-index_of (Obj c) = c
-index_of (ArrRef k) = k
-index_of (Arr k) = k
-index_of (Fun s) = s
-index_of (Code s) = s
-index_of (Tab c) = c
-index_of (Desc k) = k
-index_of Junk = 0
+unfoldable pub type_index : Ty → ℕ
+type_index Num = 0
+type_index (Ref c) = c
+type_index (Obj c) = c
+type_index (ArrRef k) = k
+type_index (Arr k) = k
+type_index (Fun s) = s
+type_index (Code s) = s
+type_index (Tab c) = c
+type_index (Desc k) = k
+type_index Junk = 0
 
 -- a type is two numbers, its tag and its index
 abbrev pub type_bytes : Ty → List ℕ
-type_bytes t = number_bytes (tag_of t) ++ number_bytes (index_of t)
+type_bytes t = number_bytes (type_tag t) ++ number_bytes (type_index t)
 
 -- types one after another
 abbrev pub types_bytes : List Ty → List ℕ

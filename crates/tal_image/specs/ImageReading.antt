@@ -37,8 +37,8 @@ pub record CodeParts : Type 0 where
   pub marks : List MarkPart
 
 -- these rows
-abbrev pub front_of : TableRows → FrontParts
-front_of r = record {
+abbrev pub front_parts_of : TableRows → FrontParts
+front_parts_of r = record {
   header = r.header;
   sigs = r.sigs.items;
   functions = r.functions.items;
@@ -101,8 +101,8 @@ behind_at f file at =
     Ok (record { code = take (starts.1 - at) (drop at file); blocks = blocks.0; marks = marks.0 }, marks.1)
 
 -- the image of these parts
-abbrev pub whole : FrontParts → CodeParts → ImageParts
-whole f c = record {
+abbrev pub image_from : FrontParts → CodeParts → ImageParts
+image_from f c = record {
   heap_words = f.header.heap_words;
   stacks = f.header.stacks;
   sigs = f.sigs;
@@ -119,10 +119,10 @@ whole f c = record {
 
 -- an image
 unfoldable pub image_at : Reads ImageParts
-image_at file at = front_at file at ▸ λ front. behind_at front.0 file front.1 ▸ λ behind. Ok (whole front.0 behind.0, behind.1)
+image_at file at = front_at file at ▸ λ front. behind_at front.0 file front.1 ▸ λ behind. Ok (image_from front.0 behind.0, behind.1)
 
 -- the classes, the array kinds, the functions and the data arrays have room in memory
-pub record HasRoom (f : FrontParts) : Type 0 where
+pub record FitsMemory (f : FrontParts) : Type 0 where
   pub classes : f.header.classes ≤ 1024
   pub kinds : f.header.kinds ≤ 256
   pub code : sum_by (λ (row : FunctionPart). row.length) f.functions ≤ most_code

@@ -1,32 +1,14 @@
--- What the readers' values stand for, and what an image keeps beside its rows.
+-- What an image keeps beside its rows.
 use Rattle.std.specs.Prelude.{◌≡◌, ◌≢◌, ℕ, ◌+◌, ◌*◌, ◌^◌, ◌<◌, ◌≤◌, List, [], ◌∷◌, length, map, Option, MatchOption, slice_index, slice_index_or}
 use Rattle.object_layout.specs.declared.rows.ClassRow.{ClassRow}
 use Rattle.tal_types.specs.declared.views.Span.{Span}
 use Rattle.tal_image.specs.declared.parts.ArrayPart.{ArrayPart}
-use Rattle.tal_image.specs.declared.image_rows.ImageRows.{ImageRows}
 use Rattle.tal_image.specs.declared.image.Image.TheInside.{Inside}
-use Rattle.tal_image.specs.Image.{ImageParts, parent_number}
+use Rattle.tal_image.specs.Image.{parent_number, parts_of}
 use Rattle.object_layout.specs.Areas.{code_start, statics_start}
 use Rattle.tal_image.specs.Conditions.{array_room}
 use Rattle.tal_image.specs.Formed.{Formed}
 use Rattle.tal_image.specs.Shown.{spans, shapes_of}
-
--- the image of these rows
-abbrev pub parts_of : ImageRows → ImageParts
-parts_of r = record {
-  heap_words = r.heap_words;
-  stacks = r.stacks;
-  sigs = r.sigs.items;
-  functions = r.functions.items;
-  entries = r.entries.items;
-  classes = r.classes.items;
-  kinds = r.kinds.items;
-  statics = r.statics;
-  arrays = r.arrays.items;
-  code = r.code.items;
-  blocks = r.blocks.items;
-  marks = r.marks.items;
-}
 
 -- the address of a data array that begins so many words behind so many statics
 abbrev pub data_place : ℕ → ℕ → ℕ
@@ -39,7 +21,7 @@ array_offsets at (a ∷ arrays) = at ∷ array_offsets (at + array_room a) array
 
 -- the rows are an image's, and beside them are the table of its classes, where its functions begin, and where its data
 -- arrays begin
-pub record IsKept (a : Inside) : Type 0 where
+pub record KeepsImage (a : Inside) : Type 0 where
   pub formed : Formed (parts_of a.rows)
   pub shapes : a.shapes ≡ shapes_of (parts_of a.rows)
   pub starts : a.starts.items ≡ map (λ (s : Span). s.start) (spans code_start a.rows.functions.items)

@@ -1,10 +1,12 @@
+-- what image files are: an image and its bytes, the conditions, what an image keeps, its fields, and what holds of them; what
+-- is shown of an image. These are what public clauses speak of
 pub mod Image
 pub mod Conditions
 pub mod Formed
 pub mod Fields
 pub mod Laws
 pub mod Shown
--- how files are read, and what values keep
+-- what an image keeps beside its rows, and how files are read: these are the crate's own
 pub mod Kept
 pub mod ClassReading
 pub mod CodeReading

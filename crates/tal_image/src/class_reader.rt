@@ -6,7 +6,7 @@ ghost use Rattle.tal_image.specs.Conditions.{class_view, parent_fits, fields_fit
 ghost use Rattle.file_fields.specs.Grammar.{checked, many};
 ghost use Rattle.file_fields.specs.Reading.{GivesAt, GivesView, run};
 ghost use Rattle.tal_image.specs.Fields.{parent_of, with_class, class_fields, method_list};
-ghost use Rattle.tal_image.specs.ClassReading.{behind_parent, signature_in, above_methods, slot_fits, AreSizes, IsAbove};
+ghost use Rattle.tal_image.specs.ClassReading.{behind_parent, function_signature, above_methods, slot_fits, AreSizes, IsAbove};
 
 use crate::parts::{FunctionPart, Tables};
 use crate::row_reader::field_types;
@@ -66,9 +66,9 @@ fn methods_above(classes: &[ClassRow], number: u32) -> &[u32]
 }
 
 /// The signature of a function, or 0 where there is none.
-#[tactic(auto, unfolding(crate::specs::ClassReading::signature_in))]
+#[tactic(auto, unfolding(crate::specs::ClassReading::function_signature))]
 fn signature(functions: &[FunctionPart], function: u32) -> u32
-    ensures { result ≡ signature_in functions.now function }
+    ensures { result ≡ function_signature functions.now function }
 {
     functions.get(function as usize).map_or(0, |row| row.sig)
 }
@@ -128,14 +128,14 @@ fn method_count(reader: &mut Reader<'_>, above: usize) -> Result<u32, ImageFault
 }
 
 /// The next number, the function in a method slot, where these functions stand in the slots that are taken over.
-#[tactic(auto, using(crate::proofs::ClassSizes::slot_is, file_fields::specs::Composed::checked_run))]
+#[tactic(auto, using(crate::proofs::Classes::Sizes::slot_is, file_fields::specs::Composed::checked_run))]
 fn method(
     reader: &mut Reader<'_>,
     functions: &[FunctionPart],
     above: &[u32],
     slot: u32,
 ) -> Result<u32, ImageFault>
-    ensures gives { GivesAt result (run (checked (method_fits functions.now (drop slot (map (signature_in functions.now) above.now))) 20) reader.old.file.now reader.old.at) reader.new.at }
+    ensures gives { GivesAt result (run (checked (method_fits functions.now (drop slot (map (function_signature functions.now) above.now))) 20) reader.old.file.now reader.old.at) reader.new.at }
     ensures file { reader.new.file ≡ reader.old.file }
 {
     let at = reader.at as u32;
@@ -152,7 +152,7 @@ fn methods(
     above: &[u32],
     count: u32,
 ) -> Result<MethodList, ImageFault>
-    ensures gives { GivesAt result (run (method_list functions.now count (map (signature_in functions.now) above.now)) reader.old.file.now reader.old.at) reader.new.at }
+    ensures gives { GivesAt result (run (method_list functions.now count (map (function_signature functions.now) above.now)) reader.old.file.now reader.old.at) reader.new.at }
     ensures file { reader.new.file ≡ reader.old.file }
 {
     let mut methods = MethodList::new(alloc);
@@ -165,7 +165,7 @@ fn methods(
 
 /// The rest of the next class behind its parent's number, where it takes over so many fields, and the slots of these
 /// functions.
-#[tactic(auto, using(crate::proofs::ClassReadings::behind_parent_run))]
+#[tactic(auto, using(crate::proofs::Classes::Readings::behind_parent_run))]
 fn behind_parent(
     alloc: Global,
     reader: &mut Reader<'_>,
@@ -175,7 +175,7 @@ fn behind_parent(
     above: u32,
     taken: &[u32],
 ) -> Result<ClassRow, ImageFault>
-    ensures gives { GivesAt result (run (behind_parent tables.now functions.now number above (map (signature_in functions.now) taken.now)) reader.old.file.now reader.old.at) reader.new.at }
+    ensures gives { GivesAt result (run (behind_parent tables.now functions.now number above (map (function_signature functions.now) taken.now)) reader.old.file.now reader.old.at) reader.new.at }
     ensures file { reader.new.file ≡ reader.old.file }
     ensures parent { IfOk result (λ row. row.parent ≡ parent_of number) }
     ensures fits { IfOk result (λ row. above + length row.fields ≤ 256) }

@@ -3,7 +3,7 @@
 ghost use Rattle.std.specs.Prelude.{◌≡◌, ◌≤◌, ◌++◌, Some, IfOk, OnOk, map};
 ghost use Rattle.tal_image.specs.Conditions.{immediate, marked_number};
 ghost use Rattle.file_fields.specs.Reading.{GivesView};
-ghost use Rattle.tal_image.specs.CodeReading.{span, function_starts, starts_at, starts_behind, body_at, code_at, place_fits, number_of, number_in, offset_fits, mark_says};
+ghost use Rattle.tal_image.specs.CodeReading.{span, function_starts, starts_at, starts_behind, body_at, code_at, place_fits, marked_number_of, marked_number_in, offset_fits, mark_says};
 ghost use Rattle.tal_image.specs.Fields.{block_where, mark_where, after_block, after_mark};
 ghost use Rattle.tal_image.specs.Kept.{data_place};
 
@@ -86,9 +86,9 @@ fn marked_number(inst: Inst) -> Option<u32>
 }
 
 /// The immediate number of the instruction that begins at an offset of the code, if one does.
-#[tactic(auto, using(crate::proofs::CodeTails::drop_min), unfolding(crate::specs::CodeReading::number_in, crate::specs::CodeReading::number_of))]
-fn number_in(code: &[u8], starts: &[bool], offset: u32) -> Option<u32>
-    ensures { result ≡ number_in code.now starts.now offset }
+#[tactic(auto, using(crate::proofs::Reading::CodeRows::drop_min), unfolding(crate::specs::CodeReading::marked_number_in, crate::specs::CodeReading::marked_number_of))]
+fn marked_number_in(code: &[u8], starts: &[bool], offset: u32) -> Option<u32>
+    ensures { result ≡ marked_number_in code.now starts.now offset }
 {
     if !starts_at(starts, offset) {
         return None;
@@ -163,7 +163,7 @@ impl<'a> RowAfter<BlockPlaces<'a>, u64> for BlockPart {
 
     ghost after = { after_block };
 
-    #[tactic(auto, using(crate::proofs::CodeRowReadings::block_run))]
+    #[tactic(auto, using(crate::proofs::Reading::CodeRows::block_run))]
     fn read(
         alloc: Global,
         reader: &mut Reader<'_>,
@@ -205,7 +205,7 @@ impl<'a> RowAfter<MarkPlaces<'a>, u64> for MarkPart {
 
     ghost after = { after_mark };
 
-    #[tactic(auto, using(crate::proofs::CodeRowReadings::mark_run), unfolding(crate::specs::CodeReading::offset_fits))]
+    #[tactic(auto, using(crate::proofs::Reading::CodeRows::mark_run), unfolding(crate::specs::CodeReading::offset_fits))]
     fn read(
         _alloc: Global,
         reader: &mut Reader<'_>,
@@ -219,7 +219,7 @@ impl<'a> RowAfter<MarkPlaces<'a>, u64> for MarkPart {
         if u64::from(offset) < least {
             return Err(ImageFault::Bad { at, field: 26 });
         }
-        let Some(number) = number_in(places.code, places.starts, offset) else {
+        let Some(number) = marked_number_in(places.code, places.starts, offset) else {
             return Err(ImageFault::Bad { at, field: 26 });
         };
         let at = reader.at as u32;

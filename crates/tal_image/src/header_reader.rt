@@ -25,7 +25,7 @@ fn heap_words(reader: &mut Reader<'_>) -> Result<u32, ImageFault>
 }
 
 /// The header.
-#[tactic(auto, using(crate::proofs::RowReadings::header_run))]
+#[tactic(auto, using(crate::proofs::Reading::RowReadings::header_run))]
 pub(crate) fn header(reader: &mut Reader<'_>) -> Result<Header, ImageFault>
     ensures gives { GivesAt result (run header_fields reader.old.file.now reader.old.at) reader.new.at }
     ensures file { reader.new.file ≡ reader.old.file }

@@ -2,7 +2,7 @@ ghost use Rattle.std.specs.Prelude.{◌≡◌, ◌≤◌, length, slice_get, IfO
 ghost use Rattle.object_layout.specs.Areas.{code_start};
 ghost use Rattle.tal_image.specs.Conditions.{fun_rows};
 ghost use Rattle.tal_image.specs.Formed.{Formed};
-ghost use Rattle.tal_image.specs.Kept.{parts_of};
+ghost use Rattle.tal_image.specs.Image.{parts_of};
 ghost use Rattle.tal_image.specs.Shown.{shapes_of};
 
 use crate::image_rows::ImageRows;
@@ -28,14 +28,14 @@ pub struct Image {
 }
 
 impl Model for Image {
-    ghost use Rattle.tal_image.specs.Image.{ImageParts};
-    ghost use Rattle.tal_image.specs.Kept.{parts_of, IsKept};
+    ghost use Rattle.tal_image.specs.Image.{ImageParts, parts_of};
+    ghost use Rattle.tal_image.specs.Kept.{KeepsImage};
 
     ghost Value = { ImageParts };
 
     ghost view = { λ i. parts_of i.rows };
 
-    ghost invariant = { IsKept };
+    ghost invariant = { KeepsImage };
 }
 
 /// The classes and the array kinds of an image whose functions have these addresses.
@@ -60,8 +60,8 @@ fn shapes(alloc: Global, rows: &ImageRows, funs: &[FunRow]) -> Result<Shapes, No
 }
 
 impl Image {
-    /// The image of these rows.
-    pub(crate) fn of(alloc: Global, rows: ImageRows) -> Result<Image, NoMemory>
+    /// The image of these rows, which keep the conditions of image files: whoever puts an image together needs no file of it.
+    pub fn of(alloc: Global, rows: ImageRows) -> Result<Image, NoMemory>
         requires { Formed (parts_of rows) }
         ensures { IfOk result (λ i. i ≡ parts_of rows) }
     {

@@ -5,8 +5,8 @@ ghost use Rattle.file_fields.specs.Grammar.{AreBytes};
 ghost use Rattle.file_fields.specs.Reading.{GivesView};
 ghost use Rattle.tal_image.specs.Formed.{ImageOf};
 ghost use Rattle.tal_image.specs.Fields.{FirstFault};
-ghost use Rattle.tal_image.specs.ImageReading.{front_of, behind_of, front_at, behind_at, image_at, HasRoom};
-ghost use Rattle.tal_image.specs.Kept.{parts_of};
+ghost use Rattle.tal_image.specs.ImageReading.{front_parts_of, behind_of, front_at, behind_at, image_at, FitsMemory};
+ghost use Rattle.tal_image.specs.Image.{parts_of};
 
 use crate::class_reader::classes;
 use crate::code_reader::{BlockPlaces, MarkPlaces, code, function_starts};
@@ -50,8 +50,7 @@ pub(crate) struct FileRows {
 }
 
 impl Model for FileRows {
-    ghost use Rattle.tal_image.specs.Image.{ImageParts};
-    ghost use Rattle.tal_image.specs.Kept.{parts_of};
+    ghost use Rattle.tal_image.specs.Image.{ImageParts, parts_of};
 
     ghost Value = { ImageParts };
 
@@ -61,9 +60,9 @@ impl Model for FileRows {
 /// The tables.
 #[tactic(auto, unfolding(crate::specs::ImageReading::front_at))]
 fn table_rows(alloc: Global, reader: &mut Reader<'_>) -> Result<TableRows, ImageFault>
-    ensures gives { GivesView front_of result (front_at reader.old.file.now reader.old.at) reader.new.at }
+    ensures gives { GivesView front_parts_of result (front_at reader.old.file.now reader.old.at) reader.new.at }
     ensures file { reader.new.file ≡ reader.old.file }
-    ensures room { IfOk result (λ rows. HasRoom (front_of rows)) }
+    ensures room { IfOk result (λ rows. FitsMemory (front_parts_of rows)) }
 {
     let header = header(reader)?;
     let tables = Tables::of(&header);
@@ -111,8 +110,8 @@ fn code_rows(
     reader: &mut Reader<'_>,
     front: &TableRows,
 ) -> Result<CodeRows, ImageFault>
-    requires { HasRoom (front_of front.now) }
-    ensures gives { GivesView behind_of result (behind_at (front_of front.now) reader.old.file.now reader.old.at) reader.new.at }
+    requires { FitsMemory (front_parts_of front.now) }
+    ensures gives { GivesView behind_of result (behind_at (front_parts_of front.now) reader.old.file.now reader.old.at) reader.new.at }
     ensures file { reader.new.file ≡ reader.old.file }
 {
     let tables = Tables::of(&front.header);

@@ -2,9 +2,9 @@ use crate::parts::{ArrayPart, BlockPart, FunctionPart, MarkPart};
 use object_layout::{ClassRow, FieldList, KindRow};
 use tal_types::Sig;
 
-/// The rows of an image as they are read, in the order of the file.
+/// The rows of an image, in the order of its file.
 #[derive(Drop)]
-pub(crate) struct ImageRows {
+pub struct ImageRows {
     pub heap_words: u32,
     pub stacks: u32,
     pub sigs: Vec<Sig>,

@@ -1,9 +1,9 @@
 // What marks stand for: the words of null, of functions, of class tables, of descriptors and of data arrays.
 ghost use Rattle.std.specs.Prelude.{◌≡◌, ◌≤◌, ◌+◌, Some, IfOk, All, map, slice_get};
 ghost use Rattle.tal_image.specs.Conditions.{same_number, most_words};
-ghost use Rattle.tal_image.specs.CodeReading.{word_of};
+ghost use Rattle.tal_image.specs.CodeReading.{mark_word_by};
 ghost use Rattle.tal_image.specs.Fields.{tables_of};
-ghost use Rattle.tal_image.specs.ImageReading.{front_of, HasRoom, addresses_of, places_of};
+ghost use Rattle.tal_image.specs.ImageReading.{front_parts_of, FitsMemory, addresses_of, places_of};
 ghost use Rattle.tal_image.specs.Kept.{data_place};
 
 use crate::image_reader::TableRows;
@@ -29,10 +29,10 @@ pub(crate) struct MarkWords {
 impl MarkWords {
     /// What marks stand for behind these tables.
     pub(crate) fn behind(alloc: Global, front: &TableRows) -> Result<MarkWords, NoMemory>
-        requires { HasRoom (front_of front.now) }
+        requires { FitsMemory (front_parts_of front.now) }
         ensures tables { IfOk result (λ words. words.tables ≡ tables_of front.now.header) }
-        ensures addresses { IfOk result (λ words. words.starts.items ≡ addresses_of (front_of front.now)) }
-        ensures places { IfOk result (λ words. map (data_place words.statics) words.offsets.items ≡ places_of (front_of front.now)) }
+        ensures addresses { IfOk result (λ words. words.starts.items ≡ addresses_of (front_parts_of front.now)) }
+        ensures places { IfOk result (λ words. map (data_place words.statics) words.offsets.items ≡ places_of (front_parts_of front.now)) }
     {
         let funs = fun_rows(alloc, &front.functions)?;
         let starts = addresses(alloc, &funs)?;
@@ -54,9 +54,9 @@ impl MarkWords {
     }
 
     /// The word that a mark with a tag and an index stands for, if there is such a mark.
-    #[tactic(auto, unfolding(crate::specs::CodeReading::word_of))]
+    #[tactic(auto, unfolding(crate::specs::CodeReading::mark_word_by))]
     fn word(&self, tag: u32, index: u32) -> Option<u32>
-        ensures { result ≡ word_of self.now.tables self.now.starts.items (map (data_place self.now.statics) self.now.offsets.items) tag index }
+        ensures { result ≡ mark_word_by self.now.tables self.now.starts.items (map (data_place self.now.statics) self.now.offsets.items) tag index }
     {
         match tag {
             1 if index < self.tables.classes => Some(0),
@@ -73,7 +73,7 @@ impl MarkWords {
     /// Whether a mark with a tag and an index may stand at a number.
     #[tactic(auto, unfolding(crate::specs::Conditions::same_number))]
     pub(crate) fn is_word(&self, tag: u32, index: u32, number: u32) -> bool
-        ensures { result ≡ same_number (word_of self.now.tables self.now.starts.items (map (data_place self.now.statics) self.now.offsets.items) tag index) (Some number) }
+        ensures { result ≡ same_number (mark_word_by self.now.tables self.now.starts.items (map (data_place self.now.statics) self.now.offsets.items) tag index) (Some number) }
     {
         match self.word(tag, index) {
             Some(word) => word == number,

@@ -67,7 +67,7 @@ impl NumberList {
     ghost use Rattle.std.specs.Prelude.{◌≡◌};
 
     /// These numbers.
-    pub(crate) fn of(numbers: Vec<u32>) -> NumberList
+    pub fn of(numbers: Vec<u32>) -> NumberList
         ensures { result ≡ numbers.items }
     {
         NumberList { numbers }
@@ -109,7 +109,7 @@ impl TypeList {
     ghost use Rattle.std.specs.Prelude.{◌≡◌};
 
     /// These types.
-    pub(crate) fn of(types: Vec<Ty>) -> TypeList
+    pub fn of(types: Vec<Ty>) -> TypeList
         ensures { result ≡ types.items }
     {
         TypeList { types }

@@ -6,10 +6,10 @@ ghost use Rattle.file_fields.specs.Grammar.{Grammar, checked, each, many};
 ghost use Rattle.file_fields.specs.Reading.{GivesAt, GivesView, run};
 ghost use Rattle.tal_image.specs.Conditions.{type_fits, length_fits, entry_fits, starts_stack, kind_fits, array_fits, array_room, with_array, most_words, numbers_given};
 ghost use Rattle.tal_image.specs.Fields.{tables_of, type_field, field_type_field, sig_fields, function_fields, kind_fields, any_number, array_fields, after_function};
-ghost use Rattle.tal_image.specs.Image.{tag_of};
+ghost use Rattle.tal_image.specs.Image.{type_tag};
 
 use crate::parts::{ArrayPart, FunctionPart, Header, NumberList, Tables};
-use crate::type_codes::{field_type_of, tag_and_index, type_of};
+use crate::type_codes::{field_type_with, tag_and_index, type_with};
 use file_fields::{ImageFault, Reader, Row, RowAfter, require};
 use object_layout::{FieldList, FieldTy, KindRow};
 use std::alloc::Global;
@@ -53,7 +53,7 @@ impl Tables {
 
 /// Whether all types are junk.
 fn all_junk(types: &[Ty]) -> bool
-    ensures { result ≡ list_all (λ t. tag_of t == 9) types.now }
+    ensures { result ≡ list_all (λ t. type_tag t == 9) types.now }
 {
     types.iter().all(|t| tag_and_index(*t).0 == 9)
 }
@@ -81,7 +81,7 @@ fn entry_fits(sigs: &[Sig], functions: &[FunctionPart], function: u32) -> bool
 }
 
 /// How many numbers the file has for a data array of a kind and a length.
-#[tactic(auto, unfolding(crate::specs::Conditions::numbers_given, tal_types::specs::Types::of_field, crate::specs::Image::tag_of))]
+#[tactic(auto, unfolding(crate::specs::Conditions::numbers_given, tal_types::specs::Types::of_field, crate::specs::Image::type_tag))]
 fn numbers_given(kinds: &[KindRow], kind: u32, size: u32) -> u32
     ensures { result ≡ numbers_given kinds.now kind size }
 {
@@ -97,17 +97,17 @@ fn numbers_given(kinds: &[KindRow], kind: u32, size: u32) -> u32
 impl Row<Tables> for Ty {
     ghost fields = { λ t. type_field t };
 
-    #[tactic(auto, using(crate::proofs::RowReadings::type_run))]
+    #[tactic(auto, using(crate::proofs::Reading::RowReadings::type_run))]
     fn read(_alloc: Global, reader: &mut Reader<'_>, tables: &Tables) -> Result<Ty, ImageFault> {
         let at = reader.at as u32;
         let (tag, index) = reader.pair()?;
         require(tables.type_fits(tag, index), at, 12)?;
-        Ok(type_of(tag, index))
+        Ok(type_with(tag, index))
     }
 }
 
 /// The next type, of a field, a static or an element.
-#[tactic(auto, using(crate::proofs::RowReadings::field_type_run))]
+#[tactic(auto, using(crate::proofs::Reading::RowReadings::field_type_run))]
 fn field_type(reader: &mut Reader<'_>, tables: &Tables) -> Result<FieldTy, ImageFault>
     ensures gives { GivesAt result (run (field_type_field tables.now) reader.old.file.now reader.old.at) reader.new.at }
     ensures file { reader.new.file ≡ reader.old.file }
@@ -116,7 +116,7 @@ fn field_type(reader: &mut Reader<'_>, tables: &Tables) -> Result<FieldTy, Image
     let (tag, index) = reader.pair()?;
     require(tables.type_fits(tag, index), at, 12)?;
     require(tag == 0 || tag == 1 || tag == 3 || tag == 5, at, 18)?;
-    Ok(field_type_of(tag, index))
+    Ok(field_type_with(tag, index))
 }
 
 /// The next types of fields or statics, so many.
@@ -139,7 +139,7 @@ pub(crate) fn field_types(
 }
 
 /// The next types, one for each register but ESP.
-#[tactic(auto, using(crate::proofs::RowReadings::seven_run))]
+#[tactic(auto, using(crate::proofs::Reading::RowReadings::seven_run))]
 pub(crate) fn seven(
     alloc: Global,
     reader: &mut Reader<'_>,
@@ -162,7 +162,7 @@ pub(crate) fn seven(
 impl Row<Tables> for Sig {
     ghost fields = { λ t. sig_fields t };
 
-    #[tactic(auto, using(crate::proofs::RowReadings::sig_run))]
+    #[tactic(auto, using(crate::proofs::Reading::RowReadings::sig_run))]
     fn read(alloc: Global, reader: &mut Reader<'_>, tables: &Tables) -> Result<Sig, ImageFault> {
         let params = seven(alloc, reader, tables)?;
         let result = Ty::read(alloc, reader, tables)?;
@@ -173,7 +173,7 @@ impl Row<Tables> for Sig {
 impl Row<Tables> for KindRow {
     ghost fields = { λ t. kind_fields t };
 
-    #[tactic(auto, using(crate::proofs::RowReadings::kind_run))]
+    #[tactic(auto, using(crate::proofs::Reading::RowReadings::kind_run))]
     fn read(
         _alloc: Global,
         reader: &mut Reader<'_>,
@@ -199,7 +199,7 @@ impl RowAfter<Tables, u32> for FunctionPart {
 
     ghost after = { after_function };
 
-    #[tactic(auto, using(crate::proofs::RowReadings::function_run))]
+    #[tactic(auto, using(crate::proofs::Reading::RowReadings::function_run))]
     fn read(
         _alloc: Global,
         reader: &mut Reader<'_>,
@@ -303,7 +303,7 @@ impl<'a> RowAfter<Kinds<'a>, u32> for ArrayPart {
 
     ghost after = { with_array };
 
-    #[tactic(auto, using(crate::proofs::RowReadings::array_run))]
+    #[tactic(auto, using(crate::proofs::Reading::RowReadings::array_run))]
     fn read(
         alloc: Global,
         reader: &mut Reader<'_>,

@@ -1,15 +1,15 @@
 // The codes of types in image files, both ways: a tag and an index.
 ghost use Rattle.std.specs.Prelude.{◌≡◌};
-ghost use Rattle.tal_image.specs.Fields.{type_of, field_type_of};
-ghost use Rattle.tal_image.specs.Image.{tag_of, index_of};
+ghost use Rattle.tal_image.specs.Fields.{type_with, field_type_with};
+ghost use Rattle.tal_image.specs.Image.{type_tag, type_index};
 
 use object_layout::FieldTy;
 use tal_types::Ty;
 
 /// The type with a tag and an index.
-#[tactic(auto, unfolding(crate::specs::Fields::type_of))]
-pub(crate) fn type_of(tag: u32, index: u32) -> Ty
-    ensures { result ≡ type_of tag index }
+#[tactic(auto, unfolding(crate::specs::Fields::type_with))]
+pub(crate) fn type_with(tag: u32, index: u32) -> Ty
+    ensures { result ≡ type_with tag index }
 {
     match tag {
         0 => Ty::Num,
@@ -26,9 +26,9 @@ pub(crate) fn type_of(tag: u32, index: u32) -> Ty
 }
 
 /// The type of a field, a static or an element with a tag and an index.
-#[tactic(auto, unfolding(crate::specs::Fields::field_type_of))]
-pub(crate) fn field_type_of(tag: u32, index: u32) -> FieldTy
-    ensures { result ≡ field_type_of tag index }
+#[tactic(auto, unfolding(crate::specs::Fields::field_type_with))]
+pub(crate) fn field_type_with(tag: u32, index: u32) -> FieldTy
+    ensures { result ≡ field_type_with tag index }
 {
     match tag {
         1 => FieldTy::Ref(index),
@@ -39,9 +39,9 @@ pub(crate) fn field_type_of(tag: u32, index: u32) -> FieldTy
 }
 
 /// The tag of a type, and its index, which is 0 where it has none.
-#[tactic(auto, unfolding(crate::specs::Image::tag_of, crate::specs::Image::index_of))]
+#[tactic(auto, unfolding(crate::specs::Image::type_tag, crate::specs::Image::type_index))]
 pub(crate) fn tag_and_index(ty: Ty) -> (u32, u32)
-    ensures { result ≡ (tag_of ty, index_of ty) }
+    ensures { result ≡ (type_tag ty, type_index ty) }
 {
     match ty {
         Ty::Num => (0, 0),

@@ -9,7 +9,7 @@ use Rattle.ia32_code.specs.Spells.{Spells}
 use Rattle.object_layout.specs.Areas.{code_start}
 use Rattle.tal_image.specs.declared.parts.FunctionPart.{FunctionPart}
 use Rattle.tal_image.specs.Conditions.{Spelled}
-use Rattle.tal_image.specs.Fields.{joined, code_bytes}
+use Rattle.tal_image.specs.Fields.{all_instructions, code_bytes}
 use Rattle.tal_image.specs.Formed.{IsBody, AreBodies, Formed}
 use Rattle.tal_image.specs.Image.{ImageParts}
 use Rattle.tal_image.specs.Shown.{spans}
@@ -65,7 +65,7 @@ module _ (front : FrontLaw) (long : (text : List ℕ) (i : Inst) → Spells text
 
   -- The lines of functions have theirs.
   functions_have : (address : ℕ) (fs : List FunctionPart) (bodies : List (List Spelled)) → AreBodies fs bodies
-      → HaveBytes (code_bytes (joined bodies)) (functions_lines (code_bytes (joined bodies)) (spans address fs))
+      → HaveBytes (code_bytes (all_instructions bodies)) (functions_lines (code_bytes (all_instructions bodies)) (spans address fs))
   unfolding spans functions_lines
   functions_have address [] [] h = none_have
   functions_have address [] (body ∷ bodies) h = absurd h
@@ -73,10 +73,10 @@ module _ (front : FrontLaw) (long : (text : List ℕ) (i : Inst) → Spells text
   functions_have address (f ∷ fs) (body ∷ bodies) h =
       let own = body_length f.length body h.0 in
       let n : (address + f.length) - address ≡ length (code_bytes body) = omega arith in
-      let parts = flat_map-append (λ (s : Spelled). s.text) body (joined bodies) in
-      let t = take-front (code_bytes body) (code_bytes (joined bodies)) _ n in
-      let d = drop-front (code_bytes body) (code_bytes (joined bodies)) _ n in
-      rw (parts, t, d) (both_have (code_bytes body) (code_bytes (joined bodies)) _ _ (body_lines address f.length body h.0)
+      let parts = flat_map-append (λ (s : Spelled). s.text) body (all_instructions bodies) in
+      let t = take-front (code_bytes body) (code_bytes (all_instructions bodies)) _ n in
+      let d = drop-front (code_bytes body) (code_bytes (all_instructions bodies)) _ n in
+      rw (parts, t, d) (both_have (code_bytes body) (code_bytes (all_instructions bodies)) _ _ (body_lines address f.length body h.0)
       (functions_have (address + f.length) fs bodies h.1))
 
   -- So the lines of an image have all its code.

@@ -9,7 +9,7 @@ use Rattle.object_layout.specs.Areas.{code_start}
 use Rattle.tal_types.specs.declared.views.Span.{Span}
 use Rattle.tal_image.specs.declared.parts.FunctionPart.{FunctionPart}
 use Rattle.tal_image.specs.Conditions.{Spelled}
-use Rattle.tal_image.specs.Fields.{joined, code_bytes}
+use Rattle.tal_image.specs.Fields.{all_instructions, code_bytes}
 use Rattle.tal_image.specs.Formed.{IsBody, AreBodies, Formed}
 use Rattle.tal_image.specs.Image.{ImageParts}
 use Rattle.tal_image.specs.Shown.{spans, function_in}
@@ -28,15 +28,15 @@ body_length room (s ∷ more) h = omega (arith, length-append s.text (code_bytes
 
 -- The functions of a file's rows have room in their code.
 rows_have_room : (address : ℕ) (fs : List FunctionPart) (bodies : List (List Spelled)) → AreBodies fs bodies
-    → HasFunctions (length (code_bytes (joined bodies))) (spans address fs)
+    → HasFunctions (length (code_bytes (all_instructions bodies))) (spans address fs)
 unfolding spans
 rows_have_room address [] bodies h = tt
 rows_have_room address (f ∷ fs) [] h = absurd h
 rows_have_room address (f ∷ fs) (body ∷ bodies) h =
     let own = body_length f.length body h.0 in
-    let all : length (code_bytes (body ++ joined bodies)) ≡ length (code_bytes body) + length (code_bytes (joined bodies)) =
-    ap length (flat_map-append (λ (s : Spelled). s.text) body (joined bodies)) ∙ length-append (code_bytes body) (code_bytes (joined bodies)) in
-    let rest : length (code_bytes (body ++ joined bodies)) - ((address + f.length) - address) ≡ length (code_bytes (joined bodies)) = omega arith in
+    let all : length (code_bytes (body ++ all_instructions bodies)) ≡ length (code_bytes body) + length (code_bytes (all_instructions bodies)) =
+    ap length (flat_map-append (λ (s : Spelled). s.text) body (all_instructions bodies)) ∙ length-append (code_bytes body) (code_bytes (all_instructions bodies)) in
+    let rest : length (code_bytes (body ++ all_instructions bodies)) - ((address + f.length) - address) ≡ length (code_bytes (all_instructions bodies)) = omega arith in
     (omega arith, omega arith, subst (λ (n : ℕ). HasFunctions n (spans (address + f.length) fs)) (sym rest) (rows_have_room (address + f.length) fs bodies h.1))
 
 -- So have those of an image.

@@ -1,6 +1,6 @@
 use Rattle.std.proofs.Common.{◌∙◌}
 use Rattle.std.proofs.lemmas.Result.{err_from_is_err_and}
-use Rattle.tal_image.proofs.Steps.{no_count, no_methods, class_read}
+use Rattle.tal_image.proofs.Reading.Steps.{no_count, no_methods, class_read}
 use Rattle.tal_image.proofs.class_reader.behind_parent.Goals as goal
 
 pub returns-in_err-count-clause-gives : goal.returns-in_err-count-clause-gives

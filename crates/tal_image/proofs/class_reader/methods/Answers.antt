@@ -1,7 +1,7 @@
 use Rattle.std.proofs.Common.{◌≡◌, ◌∙◌, ◌-◌, ◌+◌, suc, arith, map}
 use Rattle.std.proofs.lemmas.List.{drop-drop}
 use Rattle.std.proofs.lemmas.Result.{err_from_is_err_and}
-use Rattle.tal_image.specs.ClassReading.{signature_in}
+use Rattle.tal_image.specs.ClassReading.{function_signature}
 use Rattle.file_fields.specs.Composed.{goes_on, ends, is_done}
 use Rattle.tal_image.proofs.class_reader.methods.Goals as goal
 
@@ -14,7 +14,7 @@ returns-in_err-one-clause-gives c =
 pub loop-i-preserved : goal.loop-i-preserved
 loop-i-preserved c =
     let e : c.args.count - c.loop-i.i ≡ suc (c.args.count - (c.loop-i.i + 1)) = omega arith in
-    let slots = map (signature_in c.args.functions.now) c.args.above.now in
+    let slots = map (function_signature c.args.functions.now) c.args.above.now in
     record {
       read = rw (c.in_ok-push.ensures.ok, c.in_ok-one.ensures.file, ← drop-drop 1 c.loop-i.i slots) (goes_on c.loop-i.invariant.read e c.in_ok-one.ensures.gives);
       file = c.in_ok-one.ensures.file ∙ c.loop-i.invariant.file;

@@ -2,7 +2,7 @@ use Rattle.std.proofs.Common.{length, refl, sym, ◌∙◌}
 use Rattle.std.proofs.lemmas.Option.{slice_get_read, slice_get_past}
 use Rattle.object_layout.specs.Classes.{Methods}
 use Rattle.tal_image.specs.ClassReading.{above_methods}
-use Rattle.tal_image.proofs.ClassSizes.{root_number, child_number}
+use Rattle.tal_image.proofs.Classes.Sizes.{root_number, child_number}
 use Rattle.tal_image.proofs.class_reader.methods_above.Goals as goal
 
 pub returns-in-None : goal.returns-in-None

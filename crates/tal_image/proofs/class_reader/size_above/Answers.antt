@@ -2,7 +2,7 @@ use Rattle.std.proofs.Common.{◌≡◌, ℕ, false, length, refl, sym, subst}
 use Rattle.std.proofs.lemmas.Option.{slice_get_read, slice_get_past}
 use Rattle.tal_image.specs.Conditions.{parent_fits}
 use Rattle.tal_image.specs.ClassReading.{IsAbove}
-use Rattle.tal_image.proofs.ClassSizes.{root_number, child_number, root_above, class_above, deep_above, none_above}
+use Rattle.tal_image.proofs.Classes.Sizes.{root_number, child_number, root_above, class_above, deep_above, none_above}
 use Rattle.tal_image.proofs.class_reader.size_above.Goals as goal
 
 pub returns-in-None : goal.returns-in-None

@@ -1,6 +1,6 @@
 use Rattle.std.proofs.Common.{◌<◌, ◌≤◌, arith}
 use Rattle.tal_image.specs.CodeReading.{body_at}
-use Rattle.tal_image.proofs.BodyReading.{tail_is, body_on, body_short, body_unknown, body_past, body_done}
+use Rattle.tal_image.proofs.Reading.Bodies.{tail_is, body_on, body_short, body_unknown, body_past, body_done}
 use Rattle.tal_image.proofs.code_reader.body.Goals as goal
 
 pub returns-then-length-left-clause-gives : goal.returns-then-length-left-clause-gives

@@ -1,6 +1,6 @@
 use Rattle.std.proofs.Common.{◌≡◌, ◌≤◌}
 use Rattle.tal_image.specs.CodeReading.{body_at}
-use Rattle.tal_image.proofs.BodyReading.{BodyLeft}
+use Rattle.tal_image.proofs.Reading.Bodies.{BodyLeft}
 use Rattle.tal_image.proofs.code_reader.body.Given as goal
 
 abbrev pub invariant-loop-left : goal.invariant-loop-left

@@ -1,10 +1,9 @@
 use Rattle.std.proofs.Common.{◌∙◌, ◌+◌, ap, sym, List, drop, get_or, arith}
 use Rattle.std.proofs.lemmas.Result.{err_from_is_err_and}
 use Rattle.tal_image.specs.declared.parts.FunctionPart.{FunctionPart}
-use Rattle.tal_image.specs.CodeReading.{body_at}
-use Rattle.tal_image.specs.CodeReading.{bodies_at, starts_behind, code_at}
+use Rattle.tal_image.specs.CodeReading.{body_at, bodies_at, starts_behind, code_at}
 use Rattle.file_fields.specs.Composed.{passed_on}
-use Rattle.tal_image.proofs.BodyReading.{function_on, function_fails, functions_done}
+use Rattle.tal_image.proofs.Reading.Bodies.{function_on, function_fails, functions_done}
 use Rattle.std.proofs.lemmas.List.{drop_more, drop_all}
 use Rattle.tal_image.proofs.code_reader.code.Goals as goal
 

@@ -1,5 +1,5 @@
 use Rattle.std.proofs.Common.{rules}
-use Rattle.tal_image.proofs.RowReadings.{header_run}
+use Rattle.tal_image.proofs.Reading.RowReadings.{header_run}
 use Rattle.tal_image.proofs.header_reader.header.Goals as goal
 
 pub returns-in_err-ranged-clause-gives : goal.returns-in_err-ranged-clause-gives

@@ -1,9 +1,9 @@
 use Rattle.std.proofs.Common.{◌≡◌, length, ◌∙◌, ap, None, inl, inr, refl, arith}
 use Rattle.object_layout.specs.Classes.{ShapesView}
 use Rattle.object_layout.specs.Faults.{first_fault}
-use Rattle.tal_image.specs.Kept.{parts_of}
+use Rattle.tal_image.specs.Image.{parts_of}
 use Rattle.tal_image.specs.Shown.{shapes_of}
-use Rattle.tal_image.proofs.ClassTables.{no_fault}
+use Rattle.tal_image.proofs.Classes.ClassTables.{no_fault}
 use Rattle.tal_image.proofs.image.shapes.Goals as goal
 use Rattle.tal_image.proofs.image.shapes.Goals.{in-NoMemory, in_default}
 

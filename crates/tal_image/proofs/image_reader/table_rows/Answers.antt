@@ -1,6 +1,6 @@
 use Rattle.std.proofs.Common.{◌∙◌}
 use Rattle.std.proofs.lemmas.Result.{err_from_is_err_and}
-use Rattle.tal_image.proofs.Steps.{no_kinds, no_statics, no_arrays, tables_read}
+use Rattle.tal_image.proofs.Reading.Steps.{no_kinds, no_statics, no_arrays, tables_read}
 use Rattle.tal_image.proofs.image_reader.table_rows.Goals as goal
 
 pub returns-in_err-kinds-clause-gives : goal.returns-in_err-kinds-clause-gives

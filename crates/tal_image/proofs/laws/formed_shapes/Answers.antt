@@ -1,5 +1,5 @@
 use Rattle.tal_image.specs.Shown.{shapes_of}
-use Rattle.tal_image.proofs.ClassTables.{no_fault}
+use Rattle.tal_image.proofs.Classes.ClassTables.{no_fault}
 use Rattle.tal_image.proofs.laws.formed_shapes.Goals as goal
 
 pub returns : goal.returns

@@ -1,5 +1,5 @@
 use Rattle.std.proofs.Common.{arith}
-use Rattle.tal_image.proofs.FileEnds.{FewBytes, short_file}
+use Rattle.tal_image.proofs.Meaning.Ends.{FewBytes, short_file}
 use Rattle.tal_image.proofs.laws.image_ends.Goals as goal
 
 pub returns : goal.returns

@@ -1,5 +1,5 @@
-use Rattle.tal_image.proofs.Bodies.{SomeText}
-use Rattle.tal_image.proofs.WholeFiles.{stands, read}
+use Rattle.tal_image.proofs.Meaning.Bodies.{SomeText}
+use Rattle.tal_image.proofs.Meaning.Files.{stands, read}
 use Rattle.tal_image.proofs.laws.read_as_fields.Goals as goal
 
 pub returns : goal.returns

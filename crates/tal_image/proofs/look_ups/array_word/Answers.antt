@@ -1,6 +1,6 @@
 use Rattle.std.proofs.Common.{◌≤◌, ◌-◌, ◌∙◌, sym, refl, arith}
 use Rattle.tal_image.specs.Shown.{array_words}
-use Rattle.tal_image.proofs.DataArrays.{padded-within, padded-past, array_words-element}
+use Rattle.tal_image.proofs.Finding.DataArrays.{padded-within, padded-past, array_words-element}
 use Rattle.tal_image.proofs.look_ups.array_word.Goals as goal
 
 pub returns-in-0 : goal.returns-in-0

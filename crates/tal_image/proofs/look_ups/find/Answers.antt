@@ -1,4 +1,4 @@
-use Rattle.tal_image.proofs.KeyedRows.{halved}
+use Rattle.tal_image.proofs.Finding.KeyedRows.{halved}
 use Rattle.tal_image.proofs.look_ups.find.Goals as goal
 
 pub returns : goal.returns

@@ -1,7 +1,7 @@
 use Rattle.std.proofs.Common.{rules}
 use Rattle.std.proofs.lemmas.List.Sorted.{answers_always}
 use Rattle.tal_image.specs.declared.parts.BlockPart.{BlockPart}
-use Rattle.tal_image.proofs.KeyedRows.{halved}
+use Rattle.tal_image.proofs.Finding.KeyedRows.{halved}
 use Rattle.tal_image.proofs.look_ups.find_block.Goals as goal
 
 pub returns : goal.returns

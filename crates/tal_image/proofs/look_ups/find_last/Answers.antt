@@ -1,6 +1,6 @@
 use Rattle.std.proofs.Common.{Err}
 use Rattle.std.proofs.lemmas.List.Sorted.{searched}
-use Rattle.tal_image.proofs.KeyedRows.{never_falls, last_before}
+use Rattle.tal_image.proofs.Finding.KeyedRows.{never_falls, last_before}
 use Rattle.tal_image.proofs.look_ups.find_last.Goals as goal
 
 pub returns-in-Err : goal.returns-in-Err

@@ -2,7 +2,7 @@ use Rattle.std.proofs.Common.{ℕ, refl}
 use Rattle.tal_image.specs.declared.parts.ArrayPart.{ArrayPart}
 use Rattle.tal_image.specs.Conditions.{array_room}
 use Rattle.tal_image.specs.Kept.{array_offsets}
-use Rattle.tal_image.proofs.RunningRows.{one_more, no_more, room_more}
+use Rattle.tal_image.proofs.Finding.RunningRows.{one_more, no_more, room_more}
 use Rattle.tal_image.proofs.placement.array_offsets.Goals as goal
 
 pub loop-array-preserved : goal.loop-array-preserved

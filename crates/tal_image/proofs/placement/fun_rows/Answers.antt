@@ -3,7 +3,7 @@ use Rattle.object_layout.specs.declared.rows.FunRow.{FunRow}
 use Rattle.tal_image.specs.declared.parts.FunctionPart.{FunctionPart}
 use Rattle.object_layout.specs.Areas.{code_start}
 use Rattle.tal_image.specs.Conditions.{fun_rows}
-use Rattle.tal_image.proofs.RunningRows.{one_more, no_more, room_more}
+use Rattle.tal_image.proofs.Finding.RunningRows.{one_more, no_more, room_more}
 use Rattle.tal_image.proofs.placement.fun_rows.Goals as goal
 
 pub loop-function-preserved : goal.loop-function-preserved

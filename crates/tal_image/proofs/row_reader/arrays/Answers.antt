@@ -1,6 +1,6 @@
 use Rattle.std.proofs.Common.{◌≡◌}
-use Rattle.tal_image.proofs.DataArrays.{array_space-sum}
-use Rattle.tal_image.proofs.Rooms.{arrays_fit}
+use Rattle.tal_image.proofs.Finding.DataArrays.{array_space-sum}
+use Rattle.tal_image.proofs.Reading.Limits.{arrays_fit}
 use Rattle.tal_image.proofs.row_reader.arrays.Goals as goal
 
 pub returns-clause-room : goal.returns-clause-room

@@ -1,6 +1,6 @@
 use Rattle.std.proofs.Common.{◌≡◌}
-use Rattle.tal_image.proofs.Rooms.{functions_fit}
-use Rattle.tal_image.proofs.Spans.{code_length-sum}
+use Rattle.tal_image.proofs.Reading.Limits.{functions_fit}
+use Rattle.tal_image.proofs.Finding.Spans.{code_length-sum}
 use Rattle.tal_image.proofs.row_reader.functions.Goals as goal
 
 pub returns-clause-room : goal.returns-clause-room

@@ -1,5 +1,5 @@
 use Rattle.std.proofs.Common.{rules}
-use Rattle.tal_image.proofs.RowReadings.{seven_run}
+use Rattle.tal_image.proofs.Reading.RowReadings.{seven_run}
 use Rattle.tal_image.proofs.row_reader.seven.Goals as goal
 
 pub returns-in_err-read-clause-gives : goal.returns-in_err-read-clause-gives

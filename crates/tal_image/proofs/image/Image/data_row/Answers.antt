@@ -1,9 +1,9 @@
 use Rattle.std.proofs.Common.{◌≡◌, ◌<◌, ◌≤◌, List, length, get_or, refl, sym, ap, subst, ◌∙◌, arith}
 use Rattle.std.proofs.lemmas.Option.{slice_get_read}
 use Rattle.object_layout.specs.declared.rows.FieldTy.{FieldTy}
-use Rattle.tal_image.specs.Kept.{parts_of}
-use Rattle.tal_image.proofs.KeptRows.{length-offsets, place_within}
-use Rattle.tal_image.proofs.DataArrays.{data_row-at, data_row-nowhere}
+use Rattle.tal_image.specs.Image.{parts_of}
+use Rattle.tal_image.proofs.Finding.KeptRows.{length-offsets, place_within}
+use Rattle.tal_image.proofs.Finding.DataArrays.{data_row-at, data_row-nowhere}
 use Rattle.tal_image.proofs.image.Image.data_row.Goals as goal
 
 pub returns-in_err-array : goal.returns-in_err-array

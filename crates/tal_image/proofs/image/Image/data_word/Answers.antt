@@ -1,10 +1,11 @@
 use Rattle.std.proofs.Common.{ℕ, refl, ◌≡◌, ◌<◌, ◌≤◌, length, get_or, sym, subst, ◌∙◌, arith}
 use Rattle.std.proofs.lemmas.Option.{slice_get_read}
 use Rattle.std.proofs.lemmas.List.{get_or_read}
-use Rattle.tal_image.specs.Kept.{parts_of, array_offsets}
+use Rattle.tal_image.specs.Image.{parts_of}
+use Rattle.tal_image.specs.Kept.{array_offsets}
 use Rattle.tal_image.specs.Shown.{data_words}
-use Rattle.tal_image.proofs.KeptRows.{upto, length-offsets, offsets_in_order, have_kinds, have_few_numbers}
-use Rattle.tal_image.proofs.DataArrays.{length-array_offsets, data_words-from_first, data_words-none}
+use Rattle.tal_image.proofs.Finding.KeptRows.{upto, length-offsets, offsets_in_order, have_kinds, have_few_numbers}
+use Rattle.tal_image.proofs.Finding.DataArrays.{length-array_offsets, data_words-from_first, data_words-none}
 use Rattle.tal_image.proofs.image.Image.data_word.Goals as goal
 
 pub find_last-requires : goal.find_last-requires

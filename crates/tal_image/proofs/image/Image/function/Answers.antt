@@ -2,7 +2,7 @@ use Rattle.std.proofs.Common.{sym, arith}
 use Rattle.std.proofs.lemmas.Option.{slice_get_past}
 use Rattle.object_layout.specs.Areas.{code_start}
 use Rattle.tal_image.specs.Shown.{spans, function_in}
-use Rattle.tal_image.proofs.Spans.{length-spans}
+use Rattle.tal_image.proofs.Finding.Spans.{length-spans}
 use Rattle.tal_image.proofs.image.Image.function.Goals as goal
 
 pub returns-then-f-len : goal.returns-then-f-len

@@ -1,8 +1,8 @@
 use Rattle.std.proofs.Common.{◌∙◌, arith}
 use Rattle.object_layout.specs.Areas.{code_start}
-use Rattle.tal_image.specs.Kept.{parts_of}
-use Rattle.tal_image.proofs.KeptRows.{functions_hold, arrays_hold}
-use Rattle.tal_image.proofs.Spans.{addresses-spans}
+use Rattle.tal_image.specs.Image.{parts_of}
+use Rattle.tal_image.proofs.Finding.KeptRows.{functions_hold, arrays_hold}
+use Rattle.tal_image.proofs.Finding.Spans.{addresses-spans}
 use Rattle.tal_image.proofs.image.Image.of.Goals as goal
 
 pub fun_rows-requires : goal.fun_rows-requires

@@ -1,6 +1,6 @@
 use Rattle.std.proofs.Common.{rules, sym, subst, Ok}
 use Rattle.tal_image.specs.Formed.{ImageOf}
-use Rattle.tal_image.proofs.OneAnswer.{whole, first}
+use Rattle.tal_image.proofs.Meaning.Answered.{whole, first}
 use Rattle.tal_image.proofs.image.Image.read.Goals as goal
 
 pub returns-in_err-rows-clause-whole : goal.returns-in_err-rows-clause-whole

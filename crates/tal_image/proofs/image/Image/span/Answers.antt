@@ -1,9 +1,8 @@
 use Rattle.std.proofs.Common.{length, sym, subst, ◌<◌, arith}
 use Rattle.object_layout.specs.Areas.{code_start}
-use Rattle.tal_image.specs.Image.{ImageParts}
-use Rattle.tal_image.specs.Kept.{parts_of}
-use Rattle.tal_image.proofs.Spans.{span_at, span_within}
-use Rattle.tal_image.proofs.KeptRows.{length-starts, functions_hold}
+use Rattle.tal_image.specs.Image.{ImageParts, parts_of}
+use Rattle.tal_image.proofs.Finding.Spans.{span_at, span_within}
+use Rattle.tal_image.proofs.Finding.KeptRows.{length-starts, functions_hold}
 use Rattle.tal_image.proofs.image.Image.span.Goals as goal
 
 pub index-start-requires : goal.index-start-requires

@@ -1,9 +1,8 @@
 use Rattle.std.proofs.Common.{◌≡◌, subst, arith}
-use Rattle.tal_image.specs.Image.{FileOf}
+use Rattle.tal_image.specs.Image.{FileOf, parts_of}
 use Rattle.tal_image.specs.Formed.{Formed}
-use Rattle.tal_image.specs.Kept.{parts_of}
-use Rattle.tal_image.proofs.KeptRows.{classes_have_words, have_few_slots}
-use Rattle.tal_image.proofs.FileParts.{written}
+use Rattle.tal_image.proofs.Finding.KeptRows.{classes_have_words, have_few_slots}
+use Rattle.tal_image.proofs.Meaning.Answered.{written}
 use Rattle.tal_image.proofs.image.Image.write.Goals as goal
 
 pub put_all-requires-5 : goal.put_all-requires-5

@@ -1,11 +1,11 @@
 use Rattle.std.proofs.Common.{◌<◌, length, None, Some, sym, ap, ◌∙◌, arith}
 use Rattle.tal_types.specs.Contexts.{plain}
-use Rattle.tal_image.specs.Image.{BlockPart}
+use Rattle.tal_image.specs.Image.{BlockPart, parts_of}
 use Rattle.object_layout.specs.Areas.{code_start}
-use Rattle.tal_image.specs.Kept.{IsAtKey, parts_of}
+use Rattle.tal_image.specs.Kept.{IsAtKey}
 use Rattle.tal_image.specs.Shown.{shown}
-use Rattle.tal_image.proofs.KeptRows.{blocks_rise, have_few_slots}
-use Rattle.tal_image.proofs.Annotations.{block_in-before, block_in-at, block_in-nowhere}
+use Rattle.tal_image.proofs.Finding.KeptRows.{blocks_rise, have_few_slots}
+use Rattle.tal_image.proofs.Finding.Annotations.{block_in-before, block_in-at, block_in-nowhere}
 use Rattle.tal_image.proofs.look_ups.ImageImageView.block_at.Goals as goal
 
 pub returns-in_err-offset : goal.returns-in_err-offset

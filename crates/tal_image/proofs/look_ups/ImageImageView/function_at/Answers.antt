@@ -1,11 +1,11 @@
 use Rattle.std.proofs.Common.{sym, ◌∙◌, None, Some, arith}
 use Rattle.tal_types.specs.declared.views.Span.{Span}
 use Rattle.object_layout.specs.Areas.{code_start}
-use Rattle.tal_image.specs.Kept.{parts_of}
+use Rattle.tal_image.specs.Image.{parts_of}
 use Rattle.tal_image.specs.Shown.{shown, spans}
-use Rattle.tal_image.proofs.KeyedRows.{at-map}
-use Rattle.tal_image.proofs.KeptRows.{starts_in_order, length-starts, have_bytes}
-use Rattle.tal_image.proofs.Spans.{begins-at, begins-nowhere}
+use Rattle.tal_image.proofs.Finding.KeyedRows.{at-map}
+use Rattle.tal_image.proofs.Finding.KeptRows.{starts_in_order, length-starts, have_bytes}
+use Rattle.tal_image.proofs.Finding.Spans.{begins-at, begins-nowhere}
 use Rattle.tal_image.proofs.look_ups.ImageImageView.function_at.Goals as goal
 
 pub find-requires : goal.find-requires

@@ -1,10 +1,9 @@
 use Rattle.std.proofs.Common.{ℕ, ◌≡◌, ◌<◌, length, get_or, slice_get, sym, subst, ◌∙◌, Some, arith}
 use Rattle.object_layout.specs.Areas.{code_start}
-use Rattle.tal_image.specs.Image.{ImageParts}
-use Rattle.tal_image.specs.Kept.{parts_of}
+use Rattle.tal_image.specs.Image.{ImageParts, parts_of}
 use Rattle.tal_image.specs.Shown.{shown, spans}
-use Rattle.tal_image.proofs.KeptRows.{starts_in_order, length-starts, have_bytes}
-use Rattle.tal_image.proofs.Spans.{holds-at, holds-nowhere, holds-before}
+use Rattle.tal_image.proofs.Finding.KeptRows.{starts_in_order, length-starts, have_bytes}
+use Rattle.tal_image.proofs.Finding.Spans.{holds-at, holds-nowhere, holds-before}
 use Rattle.tal_image.proofs.look_ups.ImageImageView.function_of.Goals as goal
 
 pub find_last-requires : goal.find_last-requires

@@ -1,10 +1,11 @@
 use Rattle.std.proofs.Common.{◌<◌, None, Some, sym, ◌∙◌, arith}
 use Rattle.tal_image.specs.declared.parts.MarkPart.{MarkPart}
 use Rattle.object_layout.specs.Areas.{code_start}
-use Rattle.tal_image.specs.Kept.{IsAtKey, parts_of}
+use Rattle.tal_image.specs.Image.{parts_of}
+use Rattle.tal_image.specs.Kept.{IsAtKey}
 use Rattle.tal_image.specs.Shown.{shown}
-use Rattle.tal_image.proofs.KeptRows.{marks_rise}
-use Rattle.tal_image.proofs.Annotations.{mark_in-before, mark_in-at, mark_in-nowhere}
+use Rattle.tal_image.proofs.Finding.KeptRows.{marks_rise}
+use Rattle.tal_image.proofs.Finding.Annotations.{mark_in-before, mark_in-at, mark_in-nowhere}
 use Rattle.tal_image.proofs.look_ups.ImageImageView.mark_at.Goals as goal
 
 pub returns-in_err-offset : goal.returns-in_err-offset

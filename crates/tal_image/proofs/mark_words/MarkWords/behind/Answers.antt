@@ -1,6 +1,6 @@
 use Rattle.std.proofs.Common.{◌≤◌, sym, subst}
 use Rattle.tal_image.specs.Conditions.{Tables, most_words}
-use Rattle.tal_image.proofs.DataArrays.{places-behind, offsets-few}
+use Rattle.tal_image.proofs.Finding.DataArrays.{places-behind, offsets-few}
 use Rattle.tal_image.proofs.mark_words.MarkWords.behind.Goals as goal
 
 pub invariant_of-result : goal.invariant_of-result

@@ -13,7 +13,7 @@ use Rattle.tal_image.specs.Image.{ImageParts}
 use Rattle.object_layout.specs.Areas.{statics_start}
 use Rattle.tal_image.specs.Conditions.{Tables, array_room, array_places, array_fits, with_array, numbers_given}
 use Rattle.tal_image.specs.Formed.{EachAfter, IsArray}
-use Rattle.tal_image.specs.CodeReading.{array_space}
+use Rattle.tal_image.proofs.Reading.Lengths.{array_space}
 use Rattle.tal_image.specs.Kept.{RisesBy, array_offsets, data_place}
 use Rattle.tal_image.specs.Shown.{array_words, data_row_in}
 

@@ -12,14 +12,14 @@ use Rattle.ia32_code.specs.Decoding.{Answers, DecodedLaw, decoded}
 use Rattle.file_fields.specs.declared.fault.ImageFault.{ImageFault}
 use Rattle.file_fields.specs.declared.fault.ImageFault.TheVariants.{Bad}
 use Rattle.tal_image.specs.declared.parts.FunctionPart.{FunctionPart}
-use Rattle.tal_image.specs.Conditions.{Spelled, begins_at, function_begins, number_at, marked_number}
+use Rattle.tal_image.specs.Conditions.{Spelled, begins_at, function_begins, marked_number_at, marked_number}
 use Rattle.file_fields.specs.Grammar.{done, then_with, AreBytes}
-use Rattle.tal_image.specs.Fields.{instructions, bodies, joined, code_bytes}
+use Rattle.tal_image.specs.Fields.{instructions, bodies, all_instructions, code_bytes}
 use Rattle.file_fields.specs.Reading.{◌▸◌, after_decoding, run}
-use Rattle.tal_image.specs.CodeReading.{span, instruction_starts, function_starts, starts_at, number_of, number_in}
-use Rattle.tal_image.proofs.Bodies.{joined_bytes}
+use Rattle.tal_image.specs.CodeReading.{span, instruction_starts, function_starts, starts_at, marked_number_of, marked_number_in}
+use Rattle.tal_image.proofs.Meaning.Bodies.{joined_bytes}
 use Rattle.file_fields.specs.Composed.{run-then_with}
-use Rattle.tal_image.proofs.Rooms.{AllPositive, bind_inverse, ok_pair}
+use Rattle.tal_image.proofs.Reading.Limits.{AllPositive, bind_inverse, ok_pair}
 
 -- the bytes behind some are bytes
 bytes_after : (n : ℕ) (bytes : List ℕ) → AreBytes bytes → AreBytes (drop n bytes)
@@ -46,8 +46,8 @@ passed true x f y e = e
 passed false x f y e = absurd cc
 
 -- how many bytes the instructions of functions have
-joined_length : (body : List Spelled) (more : List (List Spelled)) → length (code_bytes (joined (body ∷ more))) ≡ length (code_bytes body) + length (code_bytes (joined more))
-joined_length body more = ap (λ (z : List ℕ). length z) (joined_bytes body more) ∙ length-append (code_bytes body) (code_bytes (joined more))
+joined_length : (body : List Spelled) (more : List (List Spelled)) → length (code_bytes (all_instructions (body ∷ more))) ≡ length (code_bytes body) + length (code_bytes (all_instructions more))
+joined_length body more = ap (λ (z : List ℕ). length z) (joined_bytes body more) ∙ length-append (code_bytes body) (code_bytes (all_instructions more))
 
 -- what was read ends behind these instructions
 abbrev Read_to : List ℕ → ℕ → List Spelled → ℕ → Type 0
@@ -97,12 +97,12 @@ module _ (law : DecodedLaw) (file : List ℕ) (fits : AreBytes file) where
       one_more n r at xs end (decoded (drop at file)) refl (law (drop at file) (bytes_after at file fits)) e (λ room next ys last h. instructions_stand n room next ys last h)
 
   -- those of all functions
-  pub bodies_stand : (functions : List FunctionPart) (at : ℕ) (xs : List (List Spelled)) (end : ℕ) → run (bodies functions) file at ≡ Ok (xs, end) → Read_to file at (joined xs) end
+  pub bodies_stand : (functions : List FunctionPart) (at : ℕ) (xs : List (List Spelled)) (end : ℕ) → run (bodies functions) file at ≡ Ok (xs, end) → Read_to file at (all_instructions xs) end
   unfolding bodies
   bodies_stand [] at xs end e =
       let k = ok_pair [] xs at end e in
       let p : end ≡ at + 0 = let q = k.1 in omega arith in
-      subst (λ (z : List (List Spelled)). Read_to file at (joined z) end) k.0 (tt, p)
+      subst (λ (z : List (List Spelled)). Read_to file at (all_instructions z) end) k.0 (tt, p)
   bodies_stand (f ∷ functions) at xs end e =
       let one = bind_inverse (run (instructions f.length f.length) file at) (λ x. run (then_with (bodies functions) (λ more. done (x.0 ∷ more))) file x.1) (xs, end) (sym (run-then_with (instructions f.length f.length) (λ body. then_with (bodies functions) (λ more. done (body ∷ more))) file at) ∙ e) in
       let body = one.0 in
@@ -111,9 +111,9 @@ module _ (law : DecodedLaw) (file : List ℕ) (fits : AreBytes file) where
       let rest = bodies_stand functions body.1 two.0.0 two.0.1 two.1 in
       let k = ok_pair (body.0 ∷ two.0.0) xs two.0.1 end two.2 in
       let sum = joined_length body.0 two.0.0 in
-      let last : end ≡ at + length (code_bytes (joined (body.0 ∷ two.0.0))) = let q = rest.1 in let q2 = k.1 in let q3 = first.1 in omega arith in
-      subst (λ (z : List (List Spelled)). Read_to file at (joined z) end) k.0
-      (stand_both file at body.0 (joined two.0.0) first.0 (subst (λ (m : ℕ). StandAt file m (joined two.0.0)) first.1 rest.0), last)
+      let last : end ≡ at + length (code_bytes (all_instructions (body.0 ∷ two.0.0))) = let q = rest.1 in let q2 = k.1 in let q3 = first.1 in omega arith in
+      subst (λ (z : List (List Spelled)). Read_to file at (all_instructions z) end) k.0
+      (stand_both file at body.0 (all_instructions two.0.0) first.0 (subst (λ (m : ℕ). StandAt file m (all_instructions two.0.0)) first.1 rest.0), last)
 
 -- ---- the bytes
 
@@ -220,16 +220,16 @@ starts_same file at (s ∷ code) h k =
 
 -- the number of the instruction that is decoded at a byte
 abbrev decoded_number : List ℕ → ℕ → Bool → Option ℕ
-decoded_number file at b = if b then number_of (decoded (drop at file)) else None
+decoded_number file at b = if b then marked_number_of (decoded (drop at file)) else None
 
 -- the immediate number of the instruction that begins at a byte
-number_is : (k : ℕ) (code : List Spelled) (o : Option Inst) → begins_at k code ≡ o → number_at k code ≡ option_map_or marked_number o None
-unfolding number_at
+number_is : (k : ℕ) (code : List Spelled) (o : Option Inst) → begins_at k code ≡ o → marked_number_at k code ≡ option_map_or marked_number o None
+unfolding marked_number_at
 number_is k code o e = ap (λ (x : Option Inst). option_map_or marked_number x None) e
 
 -- is that of the one that is decoded there
-number_stands : (file : List ℕ) (at : ℕ) (code : List Spelled) → StandAt file at code → (k : ℕ) → number_at k code ≡ decoded_number file (at + k) (starts_at (instruction_starts code) k)
-unfolding number_of
+number_stands : (file : List ℕ) (at : ℕ) (code : List Spelled) → StandAt file at code → (k : ℕ) → marked_number_at k code ≡ decoded_number file (at + k) (starts_at (instruction_starts code) k)
+unfolding marked_number_of
 number_stands file at [] h k = number_is k [] None (begins_nowhere k)
 number_stands file at (s ∷ code) h k =
     let n = length s.text in
@@ -238,8 +238,8 @@ number_stands file at (s ∷ code) h k =
     ⊎_elim
     (λ (z : k ≡ 0).
     let place : at ≡ at + k = omega arith in
-    ap (λ (m : ℕ). number_at m (s ∷ code)) z ∙ number_is 0 (s ∷ code) (Some s.means) (begins_first s code)
-    ∙ sym (ap (λ (m : ℕ). decoded_number file m (starts_at (span n ++ rest) k)) (sym place) ∙ ap (decoded_number file at) (ap (starts_at (span n ++ rest)) z ∙ first_starts n rest pos) ∙ ap number_of h.0))
+    ap (λ (m : ℕ). marked_number_at m (s ∷ code)) z ∙ number_is 0 (s ∷ code) (Some s.means) (begins_first s code)
+    ∙ sym (ap (λ (m : ℕ). decoded_number file m (starts_at (span n ++ rest) k)) (sym place) ∙ ap (decoded_number file at) (ap (starts_at (span n ++ rest)) z ∙ first_starts n rest pos) ∙ ap marked_number_of h.0))
     (λ later. ⊎_elim
     (λ (w : (0 < k) × (k < n)). number_is k (s ∷ code) None (begins_within s code k w.0 w.1) ∙ sym (ap (decoded_number file (at + k)) (none_starts n rest k w.0 w.1)))
     (λ (w : (0 < k) × (n ≤ k)).
@@ -251,10 +251,10 @@ number_stands file at (s ∷ code) h k =
     (places k n)
 
 -- the number at a byte of the code is read there again
-pub number_same : (file : List ℕ) (at : ℕ) (code : List Spelled) → StandAt file at code → (k : ℕ) → number_at k code ≡ number_in (drop at file) (instruction_starts code) k
-unfolding number_in
+pub number_same : (file : List ℕ) (at : ℕ) (code : List Spelled) → StandAt file at code → (k : ℕ) → marked_number_at k code ≡ marked_number_in (drop at file) (instruction_starts code) k
+unfolding marked_number_in
 number_same file at code h k =
-    number_stands file at code h k ∙ ap (λ (bytes : List ℕ). if starts_at (instruction_starts code) k then number_of (decoded bytes) else None) (sym (drop-drop k at file))
+    number_stands file at code h k ∙ ap (λ (bytes : List ℕ). if starts_at (instruction_starts code) k then marked_number_of (decoded bytes) else None) (sym (drop-drop k at file))
 
 -- a function begins where one is marked
 pub functions_same : (functions : List FunctionPart) → AllPositive functions → (k : ℕ) → function_begins k functions ≡ starts_at (function_starts functions) k

@@ -9,14 +9,14 @@ use Rattle.file_fields.specs.declared.fault.ImageFault.TheVariants.{Bad}
 use Rattle.tal_image.specs.declared.parts.FunctionPart.{FunctionPart}
 use Rattle.tal_image.specs.declared.parts.MarkPart.{MarkPart}
 use Rattle.tal_image.specs.Image.{ArrayPart, BlockPart, number_bytes, numbers, types_bytes, field_bytes, sig_bytes, function_bytes, parent_number, class_bytes, kind_bytes, array_bytes, block_bytes, mark_bytes}
-use Rattle.tal_image.specs.Conditions.{Tables, length_fits, sig_fits, class_view, parent_fits, inherited_fields, inherited_methods, fields_fit, methods_fit, method_fits, kind_fits, array_fits, numbers_given, Spelled, block_fits, slots_fit, number_at, mark_fits, word_fits}
+use Rattle.tal_image.specs.Conditions.{Tables, length_fits, sig_fits, class_view, parent_fits, inherited_fields, inherited_methods, fields_fit, methods_fit, method_fits, kind_fits, array_fits, numbers_given, Spelled, block_fits, slots_fit, marked_number_at, mark_fits, word_fits}
 use Rattle.file_fields.specs.Grammar.{Grammar, done, pair, checked, each, then_with, fields_text}
 use Rattle.file_fields.specs.Laws.{NumberMeanings}
 use Rattle.file_fields.specs.Parts.{FieldsOf, Means, Checked, Counted}
 use Rattle.file_fields.specs.Composed.{many_means, each_means, means_as, put_part, put_last, take_part, take_last, given}
 use Rattle.tal_image.specs.Fields.{type_field, field_type_field, sig_fields, function_fields, parent_of, method_list, class_fields, kind_fields, array_fields, block_where, block_fields, mark_where, mark_fields}
-use Rattle.tal_image.specs.Formed.{IsWord, EachAfter, Each, IsType, IsFieldType, IsSig, IsFunction, IsMethod, IsClass, IsArray, IsBlock, IsMark}
-use Rattle.tal_image.proofs.TypeFields.{type_means, field_type_means}
+use Rattle.tal_image.specs.Formed.{IsWord, EachAfter, Each, IsType, IsFieldType, IsSig, IsFunction, IsMethod, IsClass, IsArray, IsBlockPart, IsMark}
+use Rattle.tal_image.proofs.Meaning.Types.{type_means, field_type_means}
 
 -- ---- what comes behind the first fields of a row
 
@@ -122,7 +122,7 @@ module _ (meanings : NumberMeanings) where
   module _ (t : Tables) (functions : List FunctionPart) (statics : ℕ) (arrays : List ArrayPart) (code : List Spelled) where
     -- whether a mark at this offset may have this tag and index
     abbrev fits_at : ℕ → ℕ → ℕ → Bool
-    fits_at offset = word_fits t functions statics arrays (number_at offset code)
+    fits_at offset = word_fits t functions statics arrays (marked_number_at offset code)
 
     -- the mark of an offset, a tag and an index
     abbrev marked : ℕ → ℕ × ℕ → MarkPart
@@ -158,7 +158,7 @@ module _ (meanings : NumberMeanings) where
 
   -- a block
   pub block_means : (t : Tables) (functions : List FunctionPart) (code : List Spelled) (least : ℕ)
-      → Means (block_fields t functions code least) (IsBlock t functions code least) block_bytes
+      → Means (block_fields t functions code least) (IsBlockPart t functions code least) block_bytes
   unfolding block_where
   block_means t functions code least = record {
     whole = λ b h.
@@ -173,7 +173,7 @@ module _ (meanings : NumberMeanings) where
         given (take_last (types_means t count.value) _ count.rest b count.more) (λ slots.
         let Count : ℕ → Type 0 = λ n. Checked slots_fit n × (fields_text types.rest ≡ number_bytes n ++ types_bytes slots.value) in
         given (subst Count (sym slots.is.0) (count.is, count.bytes _ slots.bytes)) (λ counted.
-        subst (λ (z : BlockPart). IsBlock t functions code least z × (fields_text fs ≡ block_bytes z)) slots.same (
+        subst (λ (z : BlockPart). IsBlockPart t functions code least z × (fields_text fs ≡ block_bytes z)) slots.same (
           record {
             offset_word = offset.is.0;
             condition_24 = offset.is.1;

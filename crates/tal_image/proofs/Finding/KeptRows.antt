@@ -9,16 +9,16 @@ use Rattle.tal_types.specs.declared.views.Span.{Span}
 use Rattle.tal_image.specs.declared.image.Image.TheInside.{Inside}
 use Rattle.tal_image.specs.declared.parts.FunctionPart.{FunctionPart}
 use Rattle.tal_image.specs.declared.parts.MarkPart.{MarkPart}
-use Rattle.tal_image.specs.Image.{ImageParts, BlockPart}
+use Rattle.tal_image.specs.Image.{ImageParts, BlockPart, parts_of}
 use Rattle.object_layout.specs.Areas.{code_start}
 use Rattle.tal_image.specs.Conditions.{between, array_room, block_fits, mark_fits}
-use Rattle.tal_image.specs.Fields.{after_block, after_mark, with_class, joined}
-use Rattle.tal_image.specs.Formed.{Formed, EachAfter, IsBlock, IsClass, IsMark, tables}
-use Rattle.tal_image.specs.Kept.{ClassHasWords, IsKept, RisesBy, parts_of, array_offsets}
+use Rattle.tal_image.specs.Fields.{after_block, after_mark, with_class, all_instructions}
+use Rattle.tal_image.specs.Formed.{Formed, EachAfter, IsBlockPart, IsClass, IsMark, tables}
+use Rattle.tal_image.specs.Kept.{ClassHasWords, KeepsImage, RisesBy, array_offsets}
 use Rattle.tal_image.specs.Shown.{spans}
-use Rattle.tal_image.proofs.KeyedRows.{rises, rises-map}
-use Rattle.tal_image.proofs.Spans.{has_bytes, code_holds, starts_rise, length-spans}
-use Rattle.tal_image.proofs.DataArrays.{arrays_fit, few_numbers, kinds_there, offsets_rise, offsets_within, length-array_offsets}
+use Rattle.tal_image.proofs.Finding.KeyedRows.{rises, rises-map}
+use Rattle.tal_image.proofs.Finding.Spans.{has_bytes, code_holds, starts_rise, length-spans}
+use Rattle.tal_image.proofs.Finding.DataArrays.{arrays_fit, few_numbers, kinds_there, offsets_rise, offsets_within, length-array_offsets}
 
 -- a number between two others
 pub upto : (low high n : ℕ) → between low high n ≡ true → n ≤ high
@@ -51,16 +51,16 @@ module _ (i : ImageParts) (f : Formed i) where
   -- blocks and marks stand by rising offsets
   pub blocks_rise : RisesBy (λ (b : BlockPart). b.offset) i.blocks
   unfolding block_fits
-  blocks_rise = rises (λ (b : BlockPart). b.offset) after_block (λ later least b. IsBlock (tables i) i.functions (joined f.bodies) least b) (λ least b. refl) (λ later least b is. lowest least b is.condition_24) 0 i.blocks f.blocks
+  blocks_rise = rises (λ (b : BlockPart). b.offset) after_block (λ later least b. IsBlockPart (tables i) i.functions (all_instructions f.bodies) least b) (λ least b. refl) (λ later least b is. lowest least b is.condition_24) 0 i.blocks f.blocks
     where
-      lowest : (least : ℕ) (b : BlockPart) → block_fits i.functions (joined f.bodies) least b.offset ≡ true → least ≤ b.offset
+      lowest : (least : ℕ) (b : BlockPart) → block_fits i.functions (all_instructions f.bodies) least b.offset ≡ true → least ≤ b.offset
       lowest least b holds = grind (arith, nat_tests)
 
   -- each block has few slots
   pub have_few_slots : All (λ b. length b.slots ≤ 64) i.blocks
   have_few_slots = few i.blocks 0 f.blocks
     where
-      few : (bs : List BlockPart) (least : ℕ) → EachAfter after_block (λ later least b. IsBlock (tables i) i.functions (joined f.bodies) least b) least bs → All (λ b. length b.slots ≤ 64) bs
+      few : (bs : List BlockPart) (least : ℕ) → EachAfter after_block (λ later least b. IsBlockPart (tables i) i.functions (all_instructions f.bodies) least b) least bs → All (λ b. length b.slots ≤ 64) bs
       few [] least each k d within = absurd (omega arith)
       few (b ∷ bs) least each zero d within = upto 0 64 (length b.slots) each.0.condition_25
       few (b ∷ bs) least each (suc k) d within = few bs (after_block least b) each.1 k d (omega arith)
@@ -77,12 +77,12 @@ module _ (i : ImageParts) (f : Formed i) where
   -- marks stand by rising offsets
   pub marks_rise : RisesBy (λ (m : MarkPart). m.offset) i.marks
   unfolding mark_fits
-  marks_rise = rises (λ (m : MarkPart). m.offset) after_mark (λ later least m. IsMark (tables i) i.functions (length i.statics) i.arrays (joined f.bodies) least m) (λ least m. refl) (λ later least m is. lowest least m is.condition_26) 0 i.marks f.marks
+  marks_rise = rises (λ (m : MarkPart). m.offset) after_mark (λ later least m. IsMark (tables i) i.functions (length i.statics) i.arrays (all_instructions f.bodies) least m) (λ least m. refl) (λ later least m is. lowest least m is.condition_26) 0 i.marks f.marks
     where
-      lowest : (least : ℕ) (m : MarkPart) → mark_fits (joined f.bodies) least m.offset ≡ true → least ≤ m.offset
+      lowest : (least : ℕ) (m : MarkPart) → mark_fits (all_instructions f.bodies) least m.offset ≡ true → least ≤ m.offset
       lowest least m holds = grind (arith, nat_tests)
 
-module _ (a : Inside) (k : IsKept a) where
+module _ (a : Inside) (k : KeepsImage a) where
   -- functions begin at rising addresses
   pub starts_in_order : RisesBy (λ (n : ℕ). n) a.starts.items
   starts_in_order = subst (λ l. RisesBy (λ (n : ℕ). n) l) (sym k.starts) (rises-map (λ (s : Span). s.start) (spans code_start a.rows.functions.items) (starts_rise code_start a.rows.functions.items (have_bytes (parts_of a.rows) k.formed)))

@@ -10,12 +10,12 @@ use Rattle.tal_image.specs.Conditions.{Tables, Spelled}
 use Rattle.file_fields.specs.Grammar.{Grammar, done, then_with, Field, Chunk, Instruction, fields_text, Sound}
 use Rattle.file_fields.specs.Parts.{Means}
 use Rattle.file_fields.specs.Composed.{at_end, split, join, texts}
-use Rattle.tal_image.specs.Fields.{instructions, bodies, joined, code_bytes, after_function}
+use Rattle.tal_image.specs.Fields.{instructions, bodies, all_instructions, code_bytes, after_function}
 use Rattle.tal_image.specs.Formed.{IsBody, AreBodies, EachAfter, IsFunction}
 
 -- the bytes of the instructions of functions
-pub joined_bytes : (body : List Spelled) (more : List (List Spelled)) → code_bytes (joined (body ∷ more)) ≡ code_bytes body ++ code_bytes (joined more)
-joined_bytes body more = flat_map-append (λ (s : Spelled). s.text) body (joined more)
+pub joined_bytes : (body : List Spelled) (more : List (List Spelled)) → code_bytes (all_instructions (body ∷ more)) ≡ code_bytes body ++ code_bytes (all_instructions more)
+joined_bytes body more = flat_map-append (λ (s : Spelled). s.text) body (all_instructions more)
 
 -- no spelling is empty
 abbrev pub SomeText : Type 0
@@ -63,7 +63,7 @@ module _ (some : SomeText) where
       ((omega arith, s.1.0, s.1.1, more.0), ap (λ (t : List ℕ). text ++ t) rest)
 
   -- those of all functions are sound fields
-  bodies_whole : (functions : List FunctionPart) (xs : List (List Spelled)) → AreBodies functions xs → (fs : List Field) × Sound (bodies functions) fs (done xs) × (fields_text fs ≡ code_bytes (joined xs))
+  bodies_whole : (functions : List FunctionPart) (xs : List (List Spelled)) → AreBodies functions xs → (fs : List Field) × Sound (bodies functions) fs (done xs) × (fields_text fs ≡ code_bytes (all_instructions xs))
   unfolding bodies
   bodies_whole [] [] h = ([], refl, refl)
   bodies_whole [] (x ∷ xs) h = absurd h
@@ -73,26 +73,26 @@ module _ (some : SomeText) where
       let more = bodies_whole functions xs h.1 in
       let rest = join (bodies functions) (λ ys. done (x ∷ ys)) more.0 [] xs (done (x ∷ xs)) more.1 refl in
       let all = join (instructions f.length f.length) (λ z. then_with (bodies functions) (λ ys. done (z ∷ ys))) one.0 (more.0 ++ []) x (done (x ∷ xs)) one.1 rest in
-      (one.0 ++ (more.0 ++ []), all, texts one.0 (more.0 ++ []) (code_bytes x) (code_bytes (joined xs)) one.2 (ap fields_text (append-nil more.0) ∙ more.2) ∙ sym (joined_bytes x xs))
+      (one.0 ++ (more.0 ++ []), all, texts one.0 (more.0 ++ []) (code_bytes x) (code_bytes (all_instructions xs)) one.2 (ap fields_text (append-nil more.0) ∙ more.2) ∙ sym (joined_bytes x xs))
 
   -- sound fields are those of all functions
-  bodies_back : (functions : List FunctionPart) (fs : List Field) (xs : List (List Spelled)) → Sound (bodies functions) fs (done xs) → AreBodies functions xs × (fields_text fs ≡ code_bytes (joined xs))
+  bodies_back : (functions : List FunctionPart) (fs : List Field) (xs : List (List Spelled)) → Sound (bodies functions) fs (done xs) → AreBodies functions xs × (fields_text fs ≡ code_bytes (all_instructions xs))
   unfolding bodies
   bodies_back [] fs xs s =
       let k = at_end [] xs fs s in
-      subst (λ (z : List (List Spelled)). AreBodies [] z × (fields_text fs ≡ code_bytes (joined z))) k.1 (tt, ap fields_text k.0)
+      subst (λ (z : List (List Spelled)). AreBodies [] z × (fields_text fs ≡ code_bytes (all_instructions z))) k.1 (tt, ap fields_text k.0)
   bodies_back (f ∷ functions) fs xs s =
       let a = split (instructions f.length f.length) (λ z. then_with (bodies functions) (λ ys. done (z ∷ ys))) fs xs s in
       let b = split (bodies functions) (λ ys. done (a.value ∷ ys)) a.second xs a.more in
       let k = at_end (a.value ∷ b.value) xs b.second b.more in
       let one = body_back f.length f.length (omega arith) a.first a.value a.one in
       let more = bodies_back functions b.first b.value b.one in
-      let second : fields_text a.second ≡ code_bytes (joined b.value) = ap fields_text (b.parts ∙ ap (λ (t : List Field). b.first ++ t) k.0 ∙ append-nil b.first) ∙ more.1 in
-      let all : fields_text fs ≡ code_bytes (joined (a.value ∷ b.value)) = ap fields_text a.parts ∙ texts a.first a.second (code_bytes a.value) (code_bytes (joined b.value)) one.1 second ∙ sym (joined_bytes a.value b.value) in
-      subst (λ (z : List (List Spelled)). AreBodies (f ∷ functions) z × (fields_text fs ≡ code_bytes (joined z))) k.1 ((one.0, more.0), all)
+      let second : fields_text a.second ≡ code_bytes (all_instructions b.value) = ap fields_text (b.parts ∙ ap (λ (t : List Field). b.first ++ t) k.0 ∙ append-nil b.first) ∙ more.1 in
+      let all : fields_text fs ≡ code_bytes (all_instructions (a.value ∷ b.value)) = ap fields_text a.parts ∙ texts a.first a.second (code_bytes a.value) (code_bytes (all_instructions b.value)) one.1 second ∙ sym (joined_bytes a.value b.value) in
+      subst (λ (z : List (List Spelled)). AreBodies (f ∷ functions) z × (fields_text fs ≡ code_bytes (all_instructions z))) k.1 ((one.0, more.0), all)
 
   -- the instructions of functions in a file
-  pub bodies_means : (functions : List FunctionPart) → Means (bodies functions) (AreBodies functions) (λ xs. code_bytes (joined xs))
+  pub bodies_means : (functions : List FunctionPart) → Means (bodies functions) (AreBodies functions) (λ xs. code_bytes (all_instructions xs))
   bodies_means functions = record { whole = bodies_whole functions; back = bodies_back functions }
 
 -- ---- how many bytes the instructions have
@@ -107,7 +107,7 @@ body_length room (x ∷ xs) h =
     omega arith
 
 -- the instructions of functions fill the code
-pub code_length : (t : Tables) (left : ℕ) (f : FunctionPart) (functions : List FunctionPart) (xs : List (List Spelled)) → EachAfter after_function (λ later room g. IsFunction t later room g) left (f ∷ functions) → AreBodies (f ∷ functions) xs → length (code_bytes (joined xs)) ≡ left
+pub code_length : (t : Tables) (left : ℕ) (f : FunctionPart) (functions : List FunctionPart) (xs : List (List Spelled)) → EachAfter after_function (λ later room g. IsFunction t later room g) left (f ∷ functions) → AreBodies (f ∷ functions) xs → length (code_bytes (all_instructions xs)) ≡ left
 code_length t left f functions [] h b = absurd b
 code_length t left f [] (x ∷ []) h b =
     let one = body_length f.length x b.0 in
@@ -121,5 +121,5 @@ code_length t left f (g ∷ functions) (x ∷ xs) h b =
     let more = code_length t (left - f.length) g functions xs h.1 b.1 in
     let c = h.0.condition_13 in
     let fits : f.length ≤ left = grind (arith, nat_tests) in
-    let l = ap length (joined_bytes x xs) ∙ length-append (code_bytes x) (code_bytes (joined xs)) in
+    let l = ap length (joined_bytes x xs) ∙ length-append (code_bytes x) (code_bytes (all_instructions xs)) in
     omega arith

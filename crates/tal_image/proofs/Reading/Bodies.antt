@@ -13,7 +13,7 @@ use Rattle.file_fields.specs.declared.fault.ImageFault.TheVariants.{Short, Bad}
 use Rattle.tal_image.specs.Conditions.{Spelled}
 use Rattle.file_fields.specs.Grammar.{done, then_with}
 use Rattle.tal_image.specs.declared.parts.FunctionPart.{FunctionPart}
-use Rattle.tal_image.specs.Fields.{instructions, bodies, joined}
+use Rattle.tal_image.specs.Fields.{instructions, bodies, all_instructions}
 use Rattle.file_fields.specs.Reading.{◌▸◌, after_decoding, run}
 use Rattle.tal_image.specs.CodeReading.{body_at, span, instruction_starts, bodies_at, starts_behind}
 use Rattle.file_fields.specs.Composed.{run-then_with, bind_then, same_bind, with_front, regroup}
@@ -146,10 +146,10 @@ module _ (begun : List Bool) (f : FunctionPart) (functions : List FunctionPart) 
   one_function : bodies_at (f ∷ functions) file at ≡ (body_at f.length file at ▸ λ b. bodies_at functions file b.1 ▸ λ xs. Ok (b.0 ++ xs.0, xs.1))
   unfolding bodies
   one_function =
-      ap (λ r. r ▸ λ x. Ok (joined x.0, x.1)) (run-then_with (instructions f.length f.length) (λ body. then_with (bodies functions) (λ more. done (body ∷ more))) file at)
+      ap (λ r. r ▸ λ x. Ok (all_instructions x.0, x.1)) (run-then_with (instructions f.length f.length) (λ body. then_with (bodies functions) (λ more. done (body ∷ more))) file at)
       ∙ bind_then (body_at f.length file at) _ _
       ∙ same_bind (body_at f.length file at) _ _ (λ b.
-      ap (λ r. r ▸ λ x. Ok (joined x.0, x.1)) (run-then_with (bodies functions) (λ more. done (b.0 ∷ more)) file b.1)
+      ap (λ r. r ▸ λ x. Ok (all_instructions x.0, x.1)) (run-then_with (bodies functions) (λ more. done (b.0 ∷ more)) file b.1)
       ∙ bind_then (run (bodies functions) file b.1) _ _
       ∙ sym (bind_then (run (bodies functions) file b.1) _ _))
 

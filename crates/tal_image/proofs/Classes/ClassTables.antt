@@ -17,7 +17,7 @@ use Rattle.object_layout.specs.Classes.{ShapesView, parent, own_fields, Methods,
 use Rattle.object_layout.specs.Faults.{has_earlier_parent, is_too_many, is_type, has_indexes, is_front, keeps_methods, class_fault, kind_fault, first_below, first_fault}
 use Rattle.tal_types.specs.Types.{of_field}
 use Rattle.tal_image.specs.declared.parts.FunctionPart.{FunctionPart}
-use Rattle.tal_image.specs.Image.{ImageParts, tag_of, index_of, parent_number}
+use Rattle.tal_image.specs.Image.{ImageParts, type_tag, type_index, parent_number}
 use Rattle.object_layout.specs.Areas.{code_start}
 use Rattle.tal_image.specs.Conditions.{Tables, type_fits, fun_rows, class_view, between, parent_fits, inherited_fields, inherited_methods, fields_fit, methods_fit, method_fits}
 use Rattle.tal_image.specs.Fields.{with_class}
@@ -90,8 +90,8 @@ some_lineage v c = let n = length-append (option_map_or (lineage_within c v) (pa
 -- ---- rows
 
 -- a field's type is there
-is_type-fits : (s : ShapesView) (t : Tables) (ty : FieldTy) → t.classes ≡ length s.classes → t.kinds ≡ length s.kinds → t.sigs ≡ s.sigs → type_fits t (tag_of (of_field ty)) (index_of (of_field ty)) ≡ true → is_type s ty ≡ true
-unfolding type_fits tag_of index_of of_field is_type
+is_type-fits : (s : ShapesView) (t : Tables) (ty : FieldTy) → t.classes ≡ length s.classes → t.kinds ≡ length s.kinds → t.sigs ≡ s.sigs → type_fits t (type_tag (of_field ty)) (type_index (of_field ty)) ≡ true → is_type s ty ≡ true
+unfolding type_fits type_tag type_index of_field is_type
 is_type-fits s t Num classes kinds sigs fits = refl
 is_type-fits s t (Ref c) classes kinds sigs fits = ap (nat_lt c) (sym classes) ∙ fits
 is_type-fits s t (ArrRef k) classes kinds sigs fits = ap (nat_lt k) (sym kinds) ∙ fits

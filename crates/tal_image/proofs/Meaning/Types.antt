@@ -9,7 +9,7 @@ use Rattle.object_layout.specs.declared.rows.FieldTy.TheVariants.{Num as NumFiel
 use Rattle.tal_types.specs.declared.types.Ty.{Ty}
 use Rattle.tal_types.specs.declared.types.Ty.TheVariants.{Num, Ref, Obj, ArrRef, Arr, Fun, Code, Tab, Desc, Junk}
 use Rattle.tal_types.specs.Types.{of_field}
-use Rattle.tal_image.specs.Image.{tag_of, index_of, type_bytes, field_bytes}
+use Rattle.tal_image.specs.Image.{type_tag, type_index, type_bytes, field_bytes}
 use Rattle.tal_image.specs.Conditions.{Tables, type_fits, is_field_tag}
 use Rattle.file_fields.specs.declared.fault.ImageFault.{ImageFault}
 use Rattle.file_fields.specs.declared.fault.ImageFault.TheVariants.{Bad}
@@ -17,7 +17,7 @@ use Rattle.file_fields.specs.Grammar.{done, pair, then_with}
 use Rattle.file_fields.specs.Laws.{NumberMeanings}
 use Rattle.file_fields.specs.Parts.{FieldsOf, Means, CheckedPair, pair_bytes}
 use Rattle.file_fields.specs.Composed.{put_last, take_last}
-use Rattle.tal_image.specs.Fields.{type_of, field_type_of, type_field, field_type_field}
+use Rattle.tal_image.specs.Fields.{type_with, field_type_with, type_field, field_type_field}
 use Rattle.tal_image.specs.Formed.{IsType, IsFieldType}
 
 -- no index is below 0, and 0 alone is below 1
@@ -29,8 +29,8 @@ zero_below : (i : ℕ) → nat_lt i 1 ≡ true → 0 ≡ i
 zero_below i h = grind (arith, nat_tests)
 
 -- a tag and an index in its table are those of their type
-same_tag : (t : Tables) (tag index : ℕ) → type_fits t tag index ≡ true → tag_of (type_of tag index) ≡ tag
-unfolding type_fits type_of tag_of
+same_tag : (t : Tables) (tag index : ℕ) → type_fits t tag index ≡ true → type_tag (type_with tag index) ≡ tag
+unfolding type_fits type_with type_tag
 same_tag t zero index h = refl
 same_tag t (suc zero) index h = refl
 same_tag t (suc (suc zero)) index h = refl
@@ -44,8 +44,8 @@ same_tag t (suc (suc (suc (suc (suc (suc (suc (suc (suc zero))))))))) index h = 
 same_tag t (suc (suc (suc (suc (suc (suc (suc (suc (suc (suc n)))))))))) index h = none_below index h
 
 -- the index of the type with a tag and an index
-same_index : (t : Tables) (tag index : ℕ) → type_fits t tag index ≡ true → index_of (type_of tag index) ≡ index
-unfolding type_fits type_of index_of
+same_index : (t : Tables) (tag index : ℕ) → type_fits t tag index ≡ true → type_index (type_with tag index) ≡ index
+unfolding type_fits type_with type_index
 same_index t zero index h = zero_below index h
 same_index t (suc zero) index h = refl
 same_index t (suc (suc zero)) index h = refl
@@ -59,8 +59,8 @@ same_index t (suc (suc (suc (suc (suc (suc (suc (suc (suc zero))))))))) index h 
 same_index t (suc (suc (suc (suc (suc (suc (suc (suc (suc (suc n)))))))))) index h = none_below index h
 
 -- a type is the one of its tag and its index
-type_is : (ty : Ty) → type_of (tag_of ty) (index_of ty) ≡ ty
-unfolding type_of tag_of index_of
+type_is : (ty : Ty) → type_with (type_tag ty) (type_index ty) ≡ ty
+unfolding type_with type_tag type_index
 type_is Num = refl
 type_is (Ref c) = refl
 type_is (Obj c) = refl
@@ -73,8 +73,8 @@ type_is (Desc k) = refl
 type_is Junk = refl
 
 -- a tag is small
-tag_small : (ty : Ty) → tag_of ty < 2 ^ 32
-unfolding tag_of
+tag_small : (ty : Ty) → type_tag ty < 2 ^ 32
+unfolding type_tag
 tag_small Num = lit< tt
 tag_small (Ref c) = lit< tt
 tag_small (Obj c) = lit< tt
@@ -87,14 +87,14 @@ tag_small (Desc k) = lit< tt
 tag_small Junk = lit< tt
 
 -- a type of a tag and an index in its table is one of the image
-is_type : (t : Tables) (tag index : ℕ) → index < 2 ^ 32 → type_fits t tag index ≡ true → IsType t (type_of tag index)
+is_type : (t : Tables) (tag index : ℕ) → index < 2 ^ 32 → type_fits t tag index ≡ true → IsType t (type_with tag index)
 is_type t tag index small h = record {
   word = subst (λ (z : ℕ). z < 2 ^ 32) (sym (same_index t tag index h)) small;
   condition_12 = rw (same_tag t tag index h, same_index t tag index h) h;
 }
 
 -- its numbers
-type_text : (t : Tables) (tag index : ℕ) → type_fits t tag index ≡ true → to_le_bytes w32 tag ++ to_le_bytes w32 index ≡ type_bytes (type_of tag index)
+type_text : (t : Tables) (tag index : ℕ) → type_fits t tag index ≡ true → to_le_bytes w32 tag ++ to_le_bytes w32 index ≡ type_bytes (type_with tag index)
 type_text t tag index h = rw (same_tag t tag index h, same_index t tag index h) refl
 
 -- both of two tests
@@ -104,8 +104,8 @@ both true false h = absurd cc
 both false b h = absurd cc
 
 -- the tags of fields, statics and elements
-field_type_is : (tag index : ℕ) → is_field_tag tag ≡ true → of_field (field_type_of tag index) ≡ type_of tag index
-unfolding of_field field_type_of type_of
+field_type_is : (tag index : ℕ) → is_field_tag tag ≡ true → of_field (field_type_with tag index) ≡ type_with tag index
+unfolding of_field field_type_with type_with
 field_type_is zero index h = refl
 field_type_is (suc zero) index h = refl
 field_type_is (suc (suc zero)) index h = absurd cc
@@ -115,16 +115,16 @@ field_type_is (suc (suc (suc (suc (suc zero))))) index h = refl
 field_type_is (suc (suc (suc (suc (suc (suc n)))))) index h = let no : ⊥ = grind (arith, nat_tests) in absurd no
 
 -- the type of a field is the one of its tag and its index, and its tag is one of a field
-field_back : (f : FieldTy) → field_type_of (tag_of (of_field f)) (index_of (of_field f)) ≡ f
-unfolding of_field field_type_of tag_of index_of
+field_back : (f : FieldTy) → field_type_with (type_tag (of_field f)) (type_index (of_field f)) ≡ f
+unfolding of_field field_type_with type_tag type_index
 field_back NumField = refl
 field_back (RefField c) = refl
 field_back (ArrRefField k) = refl
 field_back (FunField s) = refl
 
 -- the tag of the type of a field, a static or an element
-field_tag : (f : FieldTy) → is_field_tag (tag_of (of_field f)) ≡ true
-unfolding of_field tag_of
+field_tag : (f : FieldTy) → is_field_tag (type_tag (of_field f)) ≡ true
+unfolding of_field type_tag
 field_tag NumField = refl
 field_tag (RefField c) = refl
 field_tag (ArrRefField k) = refl
@@ -135,7 +135,7 @@ module _ (meanings : NumberMeanings) (t : Tables) where
   pub type_means : Means (type_field t) (IsType t) type_bytes
   unfolding type_field then_with
   type_means = record {
-    whole = λ ty h. subst (λ (z : Ty). FieldsOf (type_field t) z (type_bytes ty)) (type_is ty) (put_last pairs make (tag_of ty, index_of ty) (tag_small ty, h.word, h.condition_12));
+    whole = λ ty h. subst (λ (z : Ty). FieldsOf (type_field t) z (type_bytes ty)) (type_is ty) (put_last pairs make (type_tag ty, type_index ty) (tag_small ty, h.word, h.condition_12));
     back = λ fs ty s.
         let k = take_last pairs make fs ty s in
         let tag = k.value.0 in
@@ -144,7 +144,7 @@ module _ (meanings : NumberMeanings) (t : Tables) where
   }
     where
       make : ℕ × ℕ → Ty
-      make p = type_of p.0 p.1
+      make p = type_with p.0 p.1
 
       pairs : Means (pair (type_fits t) (λ tag index at. Bad at 12) (λ n m. done (n, m))) (CheckedPair (type_fits t)) pair_bytes
       pairs = meanings.two (type_fits t) (λ tag index at. Bad at 12)
@@ -162,8 +162,8 @@ module _ (meanings : NumberMeanings) (t : Tables) where
   field_type_means = record {
     whole = λ f h.
         let ty = of_field f in
-        let ok : field_ok (tag_of ty) (index_of ty) ≡ true = rw (h.condition_12, field_tag f) refl in
-        subst (λ (z : FieldTy). FieldsOf (field_type_field t) z (field_bytes f)) (field_back f) (put_last pairs make (tag_of ty, index_of ty) (tag_small ty, h.word, ok));
+        let ok : field_ok (type_tag ty) (type_index ty) ≡ true = rw (h.condition_12, field_tag f) refl in
+        subst (λ (z : FieldTy). FieldsOf (field_type_field t) z (field_bytes f)) (field_back f) (put_last pairs make (type_tag ty, type_index ty) (tag_small ty, h.word, ok));
     back = λ fs f s.
         let k = take_last pairs make fs f s in
         let tag = k.value.0 in
@@ -176,7 +176,7 @@ module _ (meanings : NumberMeanings) (t : Tables) where
   }
     where
       make : ℕ × ℕ → FieldTy
-      make p = field_type_of p.0 p.1
+      make p = field_type_with p.0 p.1
 
       pairs : Means (pair field_ok field_fault (λ n m. done (n, m))) (CheckedPair field_ok) pair_bytes
       pairs = meanings.two field_ok field_fault

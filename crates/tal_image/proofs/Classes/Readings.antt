@@ -13,27 +13,27 @@ use Rattle.file_fields.specs.Grammar.{checked, each}
 use Rattle.file_fields.specs.Reading.{◌▸◌, run}
 use Rattle.file_fields.specs.Composed.{then_run, run-then_with}
 use Rattle.tal_image.specs.Fields.{field_type_field, parent_of, method_list, class_fields}
-use Rattle.tal_image.specs.ClassReading.{behind_parent, signature_in, above_methods}
+use Rattle.tal_image.specs.ClassReading.{behind_parent, function_signature, above_methods}
 
 -- the signature of a function, by the functions' rows
-row_sig : (address : ℕ) (functions : List FunctionPart) (f : ℕ) → (slice_index_or (fun_rows address functions) f (let r : FunRow = record { sig = 0; address = 0 } in r)).sig ≡ signature_in functions f
-unfolding fun_rows signature_in
+row_sig : (address : ℕ) (functions : List FunctionPart) (f : ℕ) → (slice_index_or (fun_rows address functions) f (let r : FunRow = record { sig = 0; address = 0 } in r)).sig ≡ function_signature functions f
+unfolding fun_rows function_signature
 row_sig address [] f = refl
 row_sig address (x ∷ functions) zero = refl
 row_sig address (x ∷ functions) (suc f) = row_sig (address + x.length) functions f
 
 -- the same, by the classes' view
-signature_is : (functions : List FunctionPart) (classes : List ClassRow) (f : ℕ) → (fun_row (class_view functions classes) f).sig ≡ signature_in functions f
+signature_is : (functions : List FunctionPart) (classes : List ClassRow) (f : ℕ) → (fun_row (class_view functions classes) f).sig ≡ function_signature functions f
 unfolding fun_row
 signature_is functions classes f = row_sig code_start functions f
 
 -- the signatures of slots
-slots_are : (functions : List FunctionPart) (classes : List ClassRow) (fs : List ℕ) → map (signature_in functions) fs ≡ map (λ f. (fun_row (class_view functions classes) f).sig) fs
+slots_are : (functions : List FunctionPart) (classes : List ClassRow) (fs : List ℕ) → map (function_signature functions) fs ≡ map (λ f. (fun_row (class_view functions classes) f).sig) fs
 slots_are functions classes [] = refl
 slots_are functions classes (f ∷ fs) = rw (signature_is functions classes f, slots_are functions classes fs) refl
 
 -- the inherited slots, by the functions that stand in them
-pub inherited_are : (functions : List FunctionPart) (classes : List ClassRow) (number : ℕ) → map (signature_in functions) (above_methods (class_view functions classes) number) ≡ inherited_methods (class_view functions classes) number
+pub inherited_are : (functions : List FunctionPart) (classes : List ClassRow) (number : ℕ) → map (function_signature functions) (above_methods (class_view functions classes) number) ≡ inherited_methods (class_view functions classes) number
 unfolding above_methods inherited_methods signatures signatures_of
 inherited_are functions classes zero = refl
 inherited_are functions classes (suc p) = slots_are functions classes (Methods (class_view functions classes) p)
@@ -61,7 +61,7 @@ class_run t functions classes file at = run-then_with (checked (parent_fits (cla
 pub class_is : (t : Tables) (functions : List FunctionPart) (classes : List ClassRow) (file : List ℕ) (at number next fields : ℕ) (taken : List ℕ)
     → run (checked (parent_fits (class_view functions classes)) 16) file at ≡ Ok (number, next)
     → fields ≡ inherited_fields (class_view functions classes) number → taken ≡ above_methods (class_view functions classes) number
-    → run (class_fields t functions classes) file at ≡ run (behind_parent t functions number fields (map (signature_in functions) taken)) file next
+    → run (class_fields t functions classes) file at ≡ run (behind_parent t functions number fields (map (function_signature functions) taken)) file next
 class_is t functions classes file at number next fields taken e f m =
     class_run t functions classes file at
     ∙ ap (λ r. r ▸ λ n. run (behind_parent t functions n.0 (inherited_fields (class_view functions classes) n.0) (inherited_methods (class_view functions classes) n.0)) file n.1) e

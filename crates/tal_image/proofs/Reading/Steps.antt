@@ -15,10 +15,10 @@ use Rattle.tal_image.specs.declared.parts.MarkPart.{MarkPart}
 use Rattle.tal_image.specs.Image.{ArrayPart, BlockPart}
 use Rattle.tal_image.specs.Conditions.{Tables, fields_fit, methods_fit}
 use Rattle.tal_image.specs.Fields.{tables_of, mark_where, after_mark, header_fields, sigs_part, functions_part, entries_part, classes_part, kinds_part, statics_part, arrays_part, field_type_field, method_list, parent_of}
-use Rattle.tal_image.specs.ClassReading.{behind_parent, signature_in}
+use Rattle.tal_image.specs.ClassReading.{behind_parent, function_signature}
 use Rattle.tal_image.specs.CodeReading.{code_at, offset_fits, mark_says}
 use Rattle.tal_image.specs.ImageReading.{FrontParts, front_at, behind_at, addresses_of, places_of, blocks_by, marks_by}
-use Rattle.tal_image.proofs.ClassReadings.{behind_parent_run}
+use Rattle.tal_image.proofs.Classes.Readings.{behind_parent_run}
 
 -- a part that is refused ends the reading
 refused : {A B : Type 0} (e : ImageFault) (r : Result A ImageFault) (f : A → Result B ImageFault) → Fails e r → Fails e (r ▸ f)
@@ -31,18 +31,18 @@ module _ (t : Tables) (functions : List FunctionPart) (number above : ℕ) (take
     (fields : List FieldTy) (b : ℕ) (ef : run (each own (field_type_field t)) file a ≡ Ok (fields, b)) where
   -- the functions in the slots that are taken over have these signatures
   abbrev slots : List ℕ
-  slots = map (signature_in functions) taken
+  slots = map (function_signature functions) taken
 
   pub no_count : (e : ImageFault) → Fails e (run (checked (methods_fit (length taken)) 19) file b) → Fails e (run (behind_parent t functions number above slots) file at)
-  no_count e h = rw (behind_parent_run t functions number above slots file at, eo, ef, length-map taken (signature_in functions)) (refused e (run (checked (methods_fit (length taken)) 19) file b) _ h)
+  no_count e h = rw (behind_parent_run t functions number above slots file at, eo, ef, length-map taken (function_signature functions)) (refused e (run (checked (methods_fit (length taken)) 19) file b) _ h)
 
   module _ (count d : ℕ) (ec : run (checked (methods_fit (length taken)) 19) file b ≡ Ok (count, d)) where
     pub no_methods : (e : ImageFault) → Fails e (run (method_list functions count slots) file d) → Fails e (run (behind_parent t functions number above slots) file at)
-    no_methods e h = rw (behind_parent_run t functions number above slots file at, eo, ef, length-map taken (signature_in functions), ec) (refused e (run (method_list functions count slots) file d) _ h)
+    no_methods e h = rw (behind_parent_run t functions number above slots file at, eo, ef, length-map taken (function_signature functions), ec) (refused e (run (method_list functions count slots) file d) _ h)
 
     pub class_read : (methods : List ℕ) (end : ℕ) → run (method_list functions count slots) file d ≡ Ok (methods, end)
         → run (behind_parent t functions number above slots) file at ≡ Ok (record { parent = parent_of number; fields = fields; methods = methods }, end)
-    class_read methods end em = rw (behind_parent_run t functions number above slots file at, eo, ef, length-map taken (signature_in functions), ec, em) refl
+    class_read methods end em = rw (behind_parent_run t functions number above slots file at, eo, ef, length-map taken (function_signature functions), ec, em) refl
 
 -- ---- the tables
 

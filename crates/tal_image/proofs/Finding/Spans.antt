@@ -12,10 +12,10 @@ use Rattle.tal_image.specs.declared.parts.FunctionPart.{FunctionPart}
 use Rattle.tal_image.specs.Conditions.{Tables, length_fits, fun_rows}
 use Rattle.tal_image.specs.Fields.{after_function}
 use Rattle.tal_image.specs.Formed.{EachAfter, IsFunction}
-use Rattle.tal_image.specs.CodeReading.{code_length}
+use Rattle.tal_image.proofs.Reading.Lengths.{code_length}
 use Rattle.tal_image.specs.Kept.{RisesBy}
 use Rattle.tal_image.specs.Shown.{spans, span_of, begun_by}
-use Rattle.tal_image.proofs.KeyedRows.{first_with, first_with-found, first_with-missing}
+use Rattle.tal_image.proofs.Finding.KeyedRows.{first_with, first_with-found, first_with-missing}
 
 -- the addresses in the rows of functions are those at which their spans start
 pub addresses-spans : (a : ℕ) (fs : List FunctionPart) → map (λ (f : FunRow). f.address) (fun_rows a fs) ≡ map (λ (s : Span). s.start) (spans a fs)

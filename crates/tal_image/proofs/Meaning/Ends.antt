@@ -11,14 +11,14 @@ use Rattle.object_layout.specs.declared.rows.ClassRow.{ClassRow}
 use Rattle.object_layout.specs.declared.rows.KindRow.{KindRow}
 use Rattle.tal_types.specs.Types.{of_field}
 use Rattle.tal_image.specs.declared.parts.FunctionPart.{FunctionPart}
-use Rattle.tal_image.specs.Image.{ImageParts, ArrayPart, tag_of}
+use Rattle.tal_image.specs.Image.{ImageParts, ArrayPart, type_tag}
 use Rattle.tal_image.specs.Conditions.{Tables, Spelled, class_view, inherited_methods, entry_fits, numbers_given, with_array, between}
 use Rattle.file_fields.specs.Grammar.{Grammar, done, chunk, instruction, checked, each, then_with, many, bytes_number, Field, Chunk, Instruction, fields_text, Sound, EndsInside}
 use Rattle.file_fields.specs.Composed.{and_then}
-use Rattle.tal_image.specs.Fields.{type_field, field_type_field, sig_fields, function_fields, after_function, method_list, class_fields, kind_fields, array_fields, block_where, block_fields, mark_where, mark_fields, instructions, bodies, joined, tables_of, header_fields, sigs_part, functions_part, entries_part, classes_part, kinds_part, statics_part, arrays_part, blocks_part, marks_part, coded_fields, image_fields}
-use Rattle.tal_image.specs.CodeReading.{code_length}
-use Rattle.tal_image.proofs.HeaderFields.{Test, tested, TestsMet, tests, header_of, IsHeader, header_is}
-use Rattle.tal_image.proofs.Rows.{after_params, after_types}
+use Rattle.tal_image.specs.Fields.{type_field, field_type_field, sig_fields, function_fields, after_function, method_list, class_fields, kind_fields, array_fields, block_where, block_fields, mark_where, mark_fields, instructions, bodies, all_instructions, tables_of, header_fields, sigs_part, functions_part, entries_part, classes_part, kinds_part, statics_part, arrays_part, blocks_part, marks_part, coded_fields, image_fields}
+use Rattle.tal_image.proofs.Reading.Lengths.{code_length}
+use Rattle.tal_image.proofs.Meaning.Header.{Test, tested, TestsMet, tests, header_of, IsHeader, header_is}
+use Rattle.tal_image.proofs.Meaning.Rows.{after_params, after_types}
 
 -- ---- what a grammar reads at most
 
@@ -185,7 +185,7 @@ class_most t functions classes =
 -- the numbers of a data array are not more than its elements
 given_few : (kinds : List KindRow) (kind n : ℕ) → numbers_given kinds kind n ≤ n
 unfolding numbers_given then_with
-given_few kinds kind n = go (option_map_or (λ (row : KindRow). tag_of (of_field row.element) == 0) (slice_get kinds kind) false)
+given_few kinds kind n = go (option_map_or (λ (row : KindRow). type_tag (of_field row.element) == 0) (slice_get kinds kind) false)
   where
     go : (b : Bool) → (if b then n else 0) ≤ n
     go true = omega arith
@@ -282,10 +282,10 @@ coded_most =
     most_next (statics_part h) _ (h.statics * 8) 52000000 53000000 (omega arith) (field_types_most t h.statics) (λ statics.
     most_next (arrays_part h kinds) _ 786432 51000000 52000000 (omega arith) (arrays_most t kinds h.arrays h.statics 786432 (omega arith)) (λ arrays.
     most_next (bodies functions) _ (code_length functions) 49000000 51000000 (omega arith) (bodies_most functions) (λ code.
-    most_next (blocks_part h functions (joined code)) _ (h.blocks * 576) 11000000 49000000 (omega arith)
-    (most_many _ _ 576 (λ later least. block_most t functions (joined code) least) h.blocks 0) (λ blocks.
-    most_next (marks_part h functions arrays (joined code)) _ (h.marks * 12) 0 11000000 (omega arith)
-    (most_many _ _ 12 (λ later least. mark_most t functions h.statics arrays (joined code) least) h.marks 0) (λ marks. tt)))))))))))
+    most_next (blocks_part h functions (all_instructions code)) _ (h.blocks * 576) 11000000 49000000 (omega arith)
+    (most_many _ _ 576 (λ later least. block_most t functions (all_instructions code) least) h.blocks 0) (λ blocks.
+    most_next (marks_part h functions arrays (all_instructions code)) _ (h.marks * 12) 0 11000000 (omega arith)
+    (most_many _ _ 12 (λ later least. mark_most t functions h.statics arrays (all_instructions code) least) h.marks 0) (λ marks. tt)))))))))))
 
 -- a file that ends inside a field of an image has 64 MiB at most
 pub short_file : (few : FewBytes) (fs : List Field) (after : Grammar ImageParts) (bytes : List ℕ)

@@ -16,7 +16,7 @@ use Rattle.tal_image.specs.declared.parts.FunctionPart.{FunctionPart}
 use Rattle.tal_image.specs.declared.class_reader.ClassSize.{ClassSize}
 use Rattle.tal_image.specs.Conditions.{class_view, parent_fits, inherited_fields, method_fits}
 use Rattle.tal_image.specs.Fields.{parent_of, with_class}
-use Rattle.tal_image.specs.ClassReading.{signature_in, slot_fits, above_lineage, AreSizes, IsAbove}
+use Rattle.tal_image.specs.ClassReading.{function_signature, slot_fits, above_lineage, AreSizes, IsAbove}
 
 -- ---- rows of a list
 
@@ -44,7 +44,7 @@ there (x ∷ functions) zero = grind (arith, nat_tests)
 there (x ∷ functions) (suc f) = there functions f ∙ grind (arith, nat_tests)
 
 -- the test of a method, by the function in the slot that is taken over
-pub slot_is : (functions : List FunctionPart) (xs : List ℕ) (i f : ℕ) → slot_fits functions (slice_get xs i) f ≡ method_fits functions (drop i (map (signature_in functions) xs)) f
+pub slot_is : (functions : List FunctionPart) (xs : List ℕ) (i f : ℕ) → slot_fits functions (slice_get xs i) f ≡ method_fits functions (drop i (map (function_signature functions) xs)) f
 unfolding slot_fits method_fits
 slot_is functions [] zero f = there functions f
 slot_is functions [] (suc i) f = there functions f

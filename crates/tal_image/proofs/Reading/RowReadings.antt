@@ -14,7 +14,7 @@ use Rattle.tal_image.specs.declared.parts.Header.{Header}
 use Rattle.tal_image.specs.declared.parts.FunctionPart.{FunctionPart}
 use Rattle.tal_image.specs.Image.{ArrayPart}
 use Rattle.tal_image.specs.Conditions.{Tables, between, heap_fits, stacks_fit, sigs_fit, functions_fit, classes_fit, kinds_fit, statics_fit, arrays_fit, code_fits, blocks_fit, marks_fit, type_fits, is_field_tag, length_fits, sig_fits, kind_fits, array_fits, numbers_given}
-use Rattle.tal_image.specs.Fields.{header_fields, type_of, type_field, field_type_field, field_type_of, sig_fields, function_fields, kind_fields, any_number, array_fields}
+use Rattle.tal_image.specs.Fields.{header_fields, type_with, type_field, field_type_field, field_type_with, sig_fields, function_fields, kind_fields, any_number, array_fields}
 
 -- a number, and what is read then
 pub number_then : {B : Type 0} (ok : ℕ → Bool) (fault : ℕ → ImageFault) (file : List ℕ) (at : ℕ) (f : ℕ → Grammar B) (more : ℕ × ℕ → Result (B × ℕ) ImageFault)
@@ -27,9 +27,9 @@ number_then {B} ok fault file at f more same =
 
 -- a type
 pub type_run : (t : Tables) (file : List ℕ) (at : ℕ)
-    → run (type_field t) file at ≡ (pair_at file at ▸ λ p. cond (type_fits t p.0.0 p.0.1) (Ok (type_of p.0.0 p.0.1, p.1)) (Err (Bad at 12)))
+    → run (type_field t) file at ≡ (pair_at file at ▸ λ p. cond (type_fits t p.0.0 p.0.1) (Ok (type_with p.0.0 p.0.1, p.1)) (Err (Bad at 12)))
 unfolding type_field
-type_run t file at = pair_run (type_fits t) (λ tag index at. Bad at 12) (λ tag index. done (type_of tag index)) file at
+type_run t file at = pair_run (type_fits t) (λ tag index at. Bad at 12) (λ tag index. done (type_with tag index)) file at
 
 -- two conditions of one field, the first one first
 two_tests : {B : Type 0} (a b : Bool) (x : Result B ImageFault) (at : ℕ) → cond (a && b) x (Err (Bad at (cond a 18 12))) ≡ cond (not a) (Err (Bad at 12)) (cond b x (Err (Bad at 18)))
@@ -40,11 +40,11 @@ two_tests false b x at = refl
 -- the type of a field, a static or an element
 pub field_type_run : (t : Tables) (file : List ℕ) (at : ℕ)
     → run (field_type_field t) file at
-    ≡ (pair_at file at ▸ λ p. cond (not (type_fits t p.0.0 p.0.1)) (Err (Bad at 12)) (cond (is_field_tag p.0.0) (Ok (field_type_of p.0.0 p.0.1, p.1)) (Err (Bad at 18))))
+    ≡ (pair_at file at ▸ λ p. cond (not (type_fits t p.0.0 p.0.1)) (Err (Bad at 12)) (cond (is_field_tag p.0.0) (Ok (field_type_with p.0.0 p.0.1, p.1)) (Err (Bad at 18))))
 unfolding field_type_field
 field_type_run t file at =
-    pair_run (λ tag index. type_fits t tag index && is_field_tag tag) (λ tag index at. Bad at (if type_fits t tag index then 18 else 12)) (λ tag index. done (field_type_of tag index)) file at
-    ∙ same_bind (pair_at file at) _ _ (λ p. two_tests (type_fits t p.0.0 p.0.1) (is_field_tag p.0.0) (Ok (field_type_of p.0.0 p.0.1, p.1)) at)
+    pair_run (λ tag index. type_fits t tag index && is_field_tag tag) (λ tag index at. Bad at (if type_fits t tag index then 18 else 12)) (λ tag index. done (field_type_with tag index)) file at
+    ∙ same_bind (pair_at file at) _ _ (λ p. two_tests (type_fits t p.0.0 p.0.1) (is_field_tag p.0.0) (Ok (field_type_with p.0.0 p.0.1, p.1)) at)
 
 -- one type more, and what is read then
 one_more : {B : Type 0} (t : Tables) (n : ℕ) (file : List ℕ) (at : ℕ) (k : List Ty × ℕ → Result B ImageFault)

@@ -15,15 +15,15 @@ use Rattle.tal_image.specs.declared.parts.FunctionPart.{FunctionPart}
 use Rattle.tal_image.specs.declared.parts.MarkPart.{MarkPart}
 use Rattle.tal_image.specs.Image.{ImageParts, ArrayPart, BlockPart}
 use Rattle.object_layout.specs.Areas.{code_start, statics_start}
-use Rattle.tal_image.specs.Conditions.{Tables, Spelled, between, slots_fit, block_fits, begins_at, function_begins, number_at, mark_fits, mark_word, word_fits, same_number, fun_rows, array_places}
+use Rattle.tal_image.specs.Conditions.{Tables, Spelled, between, slots_fit, block_fits, begins_at, function_begins, marked_number_at, mark_fits, mark_word, word_fits, same_number, fun_rows, array_places}
 use Rattle.file_fields.specs.Grammar.{Grammar, AreBytes, done, many, then_with}
 use Rattle.file_fields.specs.Reading.{◌▸◌, run}
 use Rattle.file_fields.specs.Composed.{run-then_with}
-use Rattle.tal_image.specs.Fields.{block_where, mark_where, tables_of, header_fields, class_fields, with_class, coded_fields, image_fields, block_fields, mark_fields, bodies, joined, code_bytes, after_block, after_mark, sigs_part, functions_part, entries_part, classes_part, kinds_part, statics_part, arrays_part, blocks_part, marks_part, CodedImage, coded}
-use Rattle.tal_image.specs.CodeReading.{instruction_starts, function_starts, starts_at, starts_behind, code_at, place_fits, number_in, offset_fits, word_of, mark_says}
-use Rattle.tal_image.specs.ImageReading.{FrontParts, CodeParts, whole, front_at, behind_at, image_at}
-use Rattle.tal_image.proofs.Rooms.{AllPositive, functions_fit}
-use Rattle.tal_image.proofs.CodeFacts.{bodies_stand, bytes_are, starts_same, number_same, functions_same}
+use Rattle.tal_image.specs.Fields.{block_where, mark_where, tables_of, header_fields, class_fields, with_class, coded_fields, image_fields, block_fields, mark_fields, bodies, all_instructions, code_bytes, after_block, after_mark, sigs_part, functions_part, entries_part, classes_part, kinds_part, statics_part, arrays_part, blocks_part, marks_part, CodedImage, coded}
+use Rattle.tal_image.specs.CodeReading.{instruction_starts, function_starts, starts_at, starts_behind, code_at, place_fits, marked_number_in, offset_fits, mark_word_by, mark_says}
+use Rattle.tal_image.specs.ImageReading.{FrontParts, CodeParts, image_from, front_at, behind_at, image_at}
+use Rattle.tal_image.proofs.Reading.Limits.{AllPositive, functions_fit}
+use Rattle.tal_image.proofs.Reading.Code.{bodies_stand, bytes_are, starts_same, number_same, functions_same}
 
 -- ---- blocks
 
@@ -52,24 +52,24 @@ places statics arrays = array_places (statics_start + 4 * statics) arrays
 
 -- the word of a mark is looked up in these lists
 word_same : (t : Tables) (functions : List FunctionPart) (statics : ℕ) (arrays : List ArrayPart) (tag index : ℕ)
-    → mark_word t functions statics arrays tag index ≡ word_of t (addresses functions) (places statics arrays) tag index
-unfolding mark_word word_of
+    → mark_word t functions statics arrays tag index ≡ mark_word_by t (addresses functions) (places statics arrays) tag index
+unfolding mark_word mark_word_by
 word_same t functions statics arrays tag index = rw (sym (address_at (fun_rows code_start functions) index)) refl
 
 -- a mark may stand where a number is marked
-offset_same : (code : List Spelled) (bytes : List ℕ) (begun : List Bool) (least n : ℕ) → number_at n code ≡ number_in bytes begun n
+offset_same : (code : List Spelled) (bytes : List ℕ) (begun : List Bool) (least n : ℕ) → marked_number_at n code ≡ marked_number_in bytes begun n
     → mark_fits code least n ≡ offset_fits bytes begun least n
 unfolding mark_fits offset_fits
 offset_same code bytes begun least n same = ap (λ (o : Option ℕ). nat_le least n && is_some o) same
 
 -- and its tag and index say that number
 said_same : (t : Tables) (functions : List FunctionPart) (statics : ℕ) (arrays : List ArrayPart) (code : List Spelled) (bytes : List ℕ) (begun : List Bool) (n tag index : ℕ)
-    → number_at n code ≡ number_in bytes begun n
-    → word_fits t functions statics arrays (number_at n code) tag index ≡ mark_says t (addresses functions) (places statics arrays) bytes begun n tag index
+    → marked_number_at n code ≡ marked_number_in bytes begun n
+    → word_fits t functions statics arrays (marked_number_at n code) tag index ≡ mark_says t (addresses functions) (places statics arrays) bytes begun n tag index
 unfolding word_fits
 said_same t functions statics arrays code bytes begun n tag index same =
-    ap (λ (o : Option ℕ). same_number o (number_at n code)) (word_same t functions statics arrays tag index)
-    ∙ ap (same_number (word_of t (addresses functions) (places statics arrays) tag index)) same
+    ap (λ (o : Option ℕ). same_number o (marked_number_at n code)) (word_same t functions statics arrays tag index)
+    ∙ ap (same_number (mark_word_by t (addresses functions) (places statics arrays) tag index)) same
 
 -- ---- one part, then what comes
 
@@ -96,11 +96,11 @@ step {A} {D} g f r front behind file at e more =
 
 -- the instructions of all functions in one list
 abbrev one_list : Result (List (List Spelled) × ℕ) ImageFault → Result (List Spelled × ℕ) ImageFault
-one_list z = z ▸ λ x. Ok (joined x.0, x.1)
+one_list z = z ▸ λ x. Ok (all_instructions x.0, x.1)
 
 -- where they begin
 abbrev starts_of : List (List Spelled) × ℕ → List Bool × ℕ
-starts_of x = (instruction_starts (joined x.0), x.1)
+starts_of x = (instruction_starts (all_instructions x.0), x.1)
 
 -- the code, of which it is kept where instructions begin
 code_step : {D : Type 0} (functions : List FunctionPart) (f : List (List Spelled) → Grammar CodedImage) (front : List Bool × ℕ → Result (D × ℕ) ImageFault)
@@ -117,7 +117,7 @@ code_step {D} functions f front behind file at more =
 
 -- what comes of the parts behind the tables
 abbrev behind_front : FrontParts → CodeParts × ℕ → Result (ImageParts × ℕ) ImageFault
-behind_front f b = Ok (whole f b.0, b.1)
+behind_front f b = Ok (image_from f b.0, b.1)
 
 -- the tables
 abbrev front_parts : Header → List Sig → List FunctionPart → List ℕ → List ClassRow → List KindRow → List FieldTy → List ArrayPart → FrontParts
@@ -136,8 +136,8 @@ front_parts h sigs functions entries classes kinds statics arrays = record {
 abbrev behind_fields : Header → List Sig → List FunctionPart → List ℕ → List ClassRow → List KindRow → List FieldTy → List ArrayPart → Grammar CodedImage
 behind_fields h sigs functions entries classes kinds statics arrays =
     then_with (bodies functions) (λ code.
-    then_with (blocks_part h functions (joined code)) (λ blocks.
-    then_with (marks_part h functions arrays (joined code)) (λ marks.
+    then_with (blocks_part h functions (all_instructions code)) (λ blocks.
+    then_with (marks_part h functions arrays (all_instructions code)) (λ marks.
     done (coded h sigs functions entries classes kinds statics arrays code blocks marks))))
 
 -- the blocks
@@ -151,7 +151,7 @@ blocks_run h functions all begun file at positive starts = λ j.
 
 -- the marks
 marks_run : (h : Header) (functions : List FunctionPart) (arrays : List ArrayPart) (all : List Spelled) (bytes : List ℕ) (begun : List Bool) (file : List ℕ) (at : ℕ)
-    → ((n : ℕ) → number_at n all ≡ number_in bytes begun n)
+    → ((n : ℕ) → marked_number_at n all ≡ marked_number_in bytes begun n)
     → run (marks_part h functions arrays all) file at
     ≡ run (many h.marks (λ later least. mark_where (offset_fits bytes begun least) (mark_says (tables_of h) (addresses functions) (places h.statics arrays) bytes begun)) after_mark 0) file at
 marks_run h functions arrays all bytes begun file at same = λ j.
@@ -171,7 +171,7 @@ module _ (law : DecodedLaw) (file : List ℕ) (fits : AreBytes file) (h : Header
   unfolding behind_at
   behind_run at positive =
       code_step functions _ _ (behind_front tables) file at (λ code e.
-      let all = joined code.0 in
+      let all = all_instructions code.0 in
       let begun = instruction_starts all in
       let stand = bodies_stand law file fits functions at code.0 code.1 e in
       step (blocks_part h functions all) _ _ _ (behind_front tables) file code.1
@@ -179,7 +179,7 @@ module _ (law : DecodedLaw) (file : List ℕ) (fits : AreBytes file) (h : Header
       step (marks_part h functions arrays all) _ _ _ (behind_front tables) file blocks.1
       (marks_run h functions arrays all (drop at file) begun file blocks.1 (λ n. number_same file at all stand.0 n)) (λ marks em.
       let count : length (code_bytes all) ≡ code.1 - at = let q = stand.1 in omega arith in
-      ap (λ (z : List ℕ). let r : Result (ImageParts × ℕ) ImageFault = Ok (whole tables (record { code = z; blocks = blocks.0; marks = marks.0 }), marks.1) in r)
+      ap (λ (z : List ℕ). let r : Result (ImageParts × ℕ) ImageFault = Ok (image_from tables (record { code = z; blocks = blocks.0; marks = marks.0 }), marks.1) in r)
       (bytes_are file at all stand.0 ∙ ap (λ (n : ℕ). take n (drop at file)) count))))
 
 module _ (law : DecodedLaw) (file : List ℕ) (fits : AreBytes file) where

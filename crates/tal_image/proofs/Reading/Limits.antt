@@ -11,8 +11,8 @@ use Rattle.file_fields.specs.Grammar.{Grammar, checked, each, many}
 use Rattle.file_fields.specs.Reading.{◌▸◌, word_at, run}
 use Rattle.file_fields.specs.Composed.{number_run, checked_run, many_run}
 use Rattle.tal_image.specs.Fields.{any_number, function_fields, array_fields, after_function}
-use Rattle.tal_image.specs.CodeReading.{code_length, array_space}
-use Rattle.tal_image.proofs.RowReadings.{function_run, array_run}
+use Rattle.tal_image.proofs.Reading.Lengths.{code_length, array_space}
+use Rattle.tal_image.proofs.Reading.RowReadings.{function_run, array_run}
 
 -- what was read first, and what then
 pub bind_inverse : {A B : Type 0} (r : Result A ImageFault) (k : A → Result B ImageFault) (y : B)

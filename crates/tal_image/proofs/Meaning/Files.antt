@@ -16,12 +16,12 @@ use Rattle.file_fields.specs.Grammar.{done, checked, Field, fields_text, Sound, 
 use Rattle.file_fields.specs.Laws.{NumberMeanings}
 use Rattle.file_fields.specs.Parts.{Means, FieldsOf, Counted}
 use Rattle.file_fields.specs.Composed.{at_end, split, join, many_means, each_means, means_as, put_part, put_last, take_part, take_last, given}
-use Rattle.tal_image.specs.Fields.{tables_of, sigs_part, functions_part, entries_part, classes_part, kinds_part, statics_part, arrays_part, blocks_part, marks_part, after_function, with_class, after_block, after_mark, joined, code_bytes, CodedImage, coded, coded_fields, image_fields}
-use Rattle.tal_image.specs.Formed.{EachAfter, Each, IsSig, IsFunction, IsEntry, IsClass, IsFieldType, IsArray, AreBodies, IsBlock, IsMark, Formed, ImageOf}
-use Rattle.tal_image.proofs.TypeFields.{field_type_means}
-use Rattle.tal_image.proofs.Rows.{sig_means, function_means, kind_means, array_means, mark_means, block_means, class_means}
-use Rattle.tal_image.proofs.HeaderFields.{IsHeader, header_text, header_means}
-use Rattle.tal_image.proofs.Bodies.{SomeText, bodies_means, code_length}
+use Rattle.tal_image.specs.Fields.{tables_of, sigs_part, functions_part, entries_part, classes_part, kinds_part, statics_part, arrays_part, blocks_part, marks_part, after_function, with_class, after_block, after_mark, all_instructions, code_bytes, CodedImage, coded, coded_fields, image_fields}
+use Rattle.tal_image.specs.Formed.{EachAfter, Each, IsSig, IsFunction, IsEntry, IsClass, IsFieldType, IsArray, AreBodies, IsBlockPart, IsMark, Formed, ImageOf}
+use Rattle.tal_image.proofs.Meaning.Types.{field_type_means}
+use Rattle.tal_image.proofs.Meaning.Rows.{sig_means, function_means, kind_means, array_means, mark_means, block_means, class_means}
+use Rattle.tal_image.proofs.Meaning.Header.{IsHeader, header_text, header_means}
+use Rattle.tal_image.proofs.Meaning.Bodies.{SomeText, bodies_means, code_length}
 
 -- ---- the lists of a file
 
@@ -48,7 +48,7 @@ abbrev AreArrays : Header → List KindRow → List ArrayPart → Type 0
 AreArrays h kinds xs = EachAfter with_array (λ later used a. IsArray (tables_of h) kinds used a) h.statics xs
 
 abbrev AreBlocks : Tables → List FunctionPart → List Spelled → List BlockPart → Type 0
-AreBlocks t functions code xs = EachAfter after_block (λ later least b. IsBlock t functions code least b) 0 xs
+AreBlocks t functions code xs = EachAfter after_block (λ later least b. IsBlockPart t functions code least b) 0 xs
 
 abbrev AreMarks : Header → List FunctionPart → List ArrayPart → List Spelled → List MarkPart → Type 0
 AreMarks h functions arrays code xs =
@@ -106,8 +106,8 @@ record Under (h : Header) (y : CodedImage) : Type 0 where
   statics : Counted h.statics (AreStatics (tables_of h)) y.image.statics
   arrays : Counted h.arrays (AreArrays h y.image.kinds) y.image.arrays
   bodies : AreBodies y.image.functions y.bodies
-  blocks : Counted h.blocks (AreBlocks (tables_of h) y.image.functions (joined y.bodies)) y.image.blocks
-  marks : Counted h.marks (AreMarks h y.image.functions y.image.arrays (joined y.bodies)) y.image.marks
+  blocks : Counted h.blocks (AreBlocks (tables_of h) y.image.functions (all_instructions y.bodies)) y.image.blocks
+  marks : Counted h.marks (AreMarks h y.image.functions y.image.arrays (all_instructions y.bodies)) y.image.marks
 
 -- the header of an image's file
 abbrev header_of : ImageParts → Header
@@ -127,7 +127,7 @@ header_of i = record {
 
 -- there is a function, and the instructions fill the code
 filled : (t : Tables) (left n : ℕ) (functions : List FunctionPart) (xs : List (List Spelled)) → functions_fit n ≡ true → length functions ≡ n
-    → EachAfter after_function (λ later room f. IsFunction t later room f) left functions → AreBodies functions xs → length (code_bytes (joined xs)) ≡ left
+    → EachAfter after_function (λ later room f. IsFunction t later room f) left functions → AreBodies functions xs → length (code_bytes (all_instructions xs)) ≡ left
 filled t left n [] xs fits long h b =
     let none : functions_fit 0 ≡ true = subst (λ (z : ℕ). functions_fit z ≡ true) (sym long) fits in
     let no : ⊥ = cc in
@@ -135,7 +135,7 @@ filled t left n [] xs fits long h b =
 filled t left n (f ∷ functions) xs fits long h b = code_length t left f functions xs h b
 
 -- the header of an image that was read under one, and whose code is its instructions, is that one
-same_header : (h : Header) (y : CodedImage) → Under h y → y.image.heap_words ≡ h.heap_words → y.image.stacks ≡ h.stacks → y.image.code ≡ code_bytes (joined y.bodies)
+same_header : (h : Header) (y : CodedImage) → Under h y → y.image.heap_words ≡ h.heap_words → y.image.stacks ≡ h.stacks → y.image.code ≡ code_bytes (all_instructions y.bodies)
     → header_of y.image ≡ h
 same_header h y u heap stacks e =
     let code : length y.image.code ≡ h.code =
@@ -155,7 +155,7 @@ same_header h y u heap stacks e =
     }
 
 -- an image under its own header is formed
-formed_of : (y : CodedImage) → Under (header_of y.image) y → y.image.code ≡ code_bytes (joined y.bodies) → Formed y.image
+formed_of : (y : CodedImage) → Under (header_of y.image) y → y.image.code ≡ code_bytes (all_instructions y.bodies) → Formed y.image
 formed_of y u e = record {
   condition_1 = u.header.condition_1;
   condition_2 = u.header.condition_2;
@@ -223,7 +223,7 @@ with_code i bodies code =
 
 -- bytes of an image that was read under a header
 image_is : (h : Header) (y : CodedImage) (bytes : List ℕ) → Under h y
-    → y.image.heap_words ≡ h.heap_words → y.image.stacks ≡ h.stacks → y.image.code ≡ code_bytes (joined y.bodies)
+    → y.image.heap_words ≡ h.heap_words → y.image.stacks ≡ h.stacks → y.image.code ≡ code_bytes (all_instructions y.bodies)
     → bytes ≡ header_text h ++ file_behind y.image y.image.code → ImageOf bytes y.image
 unfolding FileOf
 image_is h y bytes u heap stacks code text =
@@ -239,7 +239,7 @@ module _ (meanings : NumberMeanings) (some : SomeText) where
   unfolding coded_fields FileOf
   fields_of i f =
       let h = header_of i in
-      let all = joined f.bodies in
+      let all = all_instructions f.bodies in
       let make = λ (ms : List MarkPart). coded h i.sigs i.functions i.entries i.classes i.kinds i.statics i.arrays f.bodies i.blocks ms in
       let y = make i.marks in
       let marks = put_last (marks_means meanings h i.functions i.arrays all) make i.marks (refl, f.marks) in
@@ -268,8 +268,8 @@ module _ (meanings : NumberMeanings) (some : SomeText) where
       given (take_part (statics_means meanings h.value) _ kinds.rest y kinds.more) (λ statics.
       given (take_part (arrays_means meanings h.value kinds.value) _ statics.rest y statics.more) (λ arrays.
       given (take_part (bodies_means some functions.value) _ arrays.rest y arrays.more) (λ code.
-      given (take_part (blocks_means meanings h.value functions.value (joined code.value)) _ code.rest y code.more) (λ blocks.
-      given (take_last (marks_means meanings h.value functions.value arrays.value (joined code.value)) _ blocks.rest y blocks.more) (λ marks.
+      given (take_part (blocks_means meanings h.value functions.value (all_instructions code.value)) _ code.rest y code.more) (λ blocks.
+      given (take_last (marks_means meanings h.value functions.value arrays.value (all_instructions code.value)) _ blocks.rest y blocks.more) (λ marks.
       let make = coded h.value sigs.value functions.value entries.value classes.value kinds.value statics.value arrays.value in
       let under : Under h.value (make code.value blocks.value marks.value) = record {
         header = h.is;

@@ -1,7 +1,23 @@
--- The parts of a file one after another.
-use Rattle.std.proofs.Common.{◌≡◌, ℕ, List, [], ◌++◌, append_assoc}
+-- What a reader of a file answers is pinned by what the file is, and what was written part by part is the file.
+use Rattle.std.proofs.Common.{◌≡◌, ℕ, ◌⊎◌, inl, inr, List, [], ◌++◌, Result, Ok, Err, append_assoc}
+use Rattle.std.specs.Prelude.{IfOk, IfErr, MatchResult}
 use Rattle.std.specs.List.{flat_map}
+use Rattle.file_fields.specs.declared.fault.ImageFault.{ImageFault}
+use Rattle.file_fields.specs.declared.fault.ImageFault.TheVariants.{NoMemory}
 use Rattle.tal_image.specs.Image.{ImageParts, FileOf, numbers, header, sig_bytes, function_bytes, class_bytes, kind_bytes, field_bytes, array_bytes, block_bytes, mark_bytes}
+use Rattle.tal_image.specs.Formed.{ImageOf}
+use Rattle.tal_image.specs.Laws.{OneMeaning, FirstFault}
+
+module _ (law : OneMeaning) (bytes : List ℕ) where
+  -- where bytes stand for an image, the answer is that image or want of memory
+  pub whole : (r : Result ImageParts ImageFault) → IfOk r (λ i. ImageOf bytes i) → IfErr r (λ e. (e ≡ NoMemory) ⊎ FirstFault bytes e) → (i : ImageParts) → ImageOf bytes i → MatchResult r (λ j. j ≡ i) (λ e. e ≡ NoMemory)
+  whole (Ok j) ok fault i is = law.one_image bytes j i ok is
+  whole (Err e) ok fault i is = elim fault [ inl none ↦ none | inr first ↦ absurd (law.not_both bytes i e is first) ]
+
+  -- where they have a first fault, it is that fault or want of memory
+  pub first : (r : Result ImageParts ImageFault) → IfOk r (λ i. ImageOf bytes i) → IfErr r (λ e. (e ≡ NoMemory) ⊎ FirstFault bytes e) → (f : ImageFault) → FirstFault bytes f → MatchResult r (λ _. ⊥) (λ e. (e ≡ f) ⊎ (e ≡ NoMemory))
+  first (Ok j) ok fault f is = law.not_both bytes j f ok is
+  first (Err e) ok fault f is = elim fault [ inl none ↦ inr none | inr other ↦ inl (law.one_fault bytes e f other is) ]
 
 -- lists that were put behind one another, each at the end
 in_turn : (f₁ f₂ f₃ f₄ f₅ f₆ f₇ f₈ f₉ f₁₀ f₁₁ a b c d e f g h i j k : List ℕ) → f₁ ≡ [] ++ a → f₂ ≡ f₁ ++ b → f₃ ≡ f₂ ++ c → f₄ ≡ f₃ ++ d → f₅ ≡ f₄ ++ e → f₆ ≡ f₅ ++ f → f₇ ≡ f₆ ++ g → f₈ ≡ f₇ ++ h → f₉ ≡ f₈ ++ i → f₁₀ ≡ f₉ ++ j → f₁₁ ≡ f₁₀ ++ k → f₁₁ ≡ a ++ (b ++ (c ++ (d ++ (e ++ (f ++ (g ++ (h ++ (i ++ (j ++ k)))))))))

@@ -8,7 +8,7 @@ use Rattle.tal_image.specs.Image.{BlockPart}
 use Rattle.object_layout.specs.Areas.{code_start}
 use Rattle.tal_image.specs.Kept.{RisesBy, IsAtKey}
 use Rattle.tal_image.specs.Shown.{block_in, mark_in}
-use Rattle.tal_image.proofs.KeyedRows.{first_with, first_with-found, first_with-missing}
+use Rattle.tal_image.proofs.Finding.KeyedRows.{first_with, first_with-found, first_with-missing}
 
 -- what a block tells, and a mark
 abbrev told_by_block : BlockPart → ContextView
