@@ -1,33 +1,57 @@
--- Reading the code, and what is said of it: for each byte of the code it is kept whether an instruction begins there, and
--- whether a function does.
-use Rattle.std.specs.Prelude.{ℕ, zero, suc, ◌+◌, Bool, true, false, not, ◌&&◌, ◌==◌, nat_lt, nat_le, is_some, List, [], ◌∷◌, ◌++◌, length, drop, replicate, Option, Some, None, slice_get, slice_index_or, Result, Ok, if◌then◌else◌}
+-- Reading the code, and what is said of it: for each byte of the code it is kept what begins there, and whether a function
+-- does.
+use Rattle.std.specs.Prelude.{ℕ, zero, suc, Bool, true, false, not, ◌&&◌, ◌==◌, nat_lt, nat_le, is_some, List, [], ◌∷◌, ◌++◌, length, replicate, Option, Some, None, slice_get, slice_index_or, Result, Ok, if◌then◌else◌}
 use Rattle.std.specs.List.{flat_map}
-use Rattle.ia32_code.specs.declared.decoding.Decoded.{Decoded}
-use Rattle.ia32_code.specs.declared.decoding.Decoded.TheVariants as answer
-use Rattle.ia32_code.specs.Decoding.{decoded}
+use Rattle.ia32_code.specs.declared.instruction.Inst.{Inst}
 use Rattle.object_layout.specs.Areas.{table_address, descriptor_address}
 use Rattle.file_fields.specs.declared.fault.ImageFault.{ImageFault}
 use Rattle.tal_image.specs.declared.parts.FunctionPart.{FunctionPart}
+use Rattle.tal_image.specs.declared.start.Start.{Start}
+use Rattle.tal_image.specs.declared.start.Start.TheVariants.{Nothing, Instruction, Immediate}
 use Rattle.tal_image.specs.Conditions.{Tables, Spelled, marked_number, same_number}
 use Rattle.tal_image.specs.Fields.{instructions, bodies, all_instructions}
 use Rattle.file_fields.specs.Reading.{◌▸◌, Reads, run}
 
--- for each byte of so many, whether it is the first
-unfoldable pub span : ℕ → List Bool
-span zero = []
-span (suc n) = true ∷ replicate n false
+-- so many, of which the first is this one and the others are that
+unfoldable pub headed : {A : Type 0} → A → A → ℕ → List A
+headed first other zero = []
+headed first other (suc n) = first ∷ replicate n other
 
--- for each byte of instructions, whether one begins there
-abbrev pub instruction_starts : List Spelled → List Bool
-instruction_starts code = flat_map (λ (s : Spelled). span (length s.text)) code
+-- what begins where an instruction with this immediate number does, if it has one
+abbrev pub start_with : Option ℕ → Start
+start_with None = Instruction
+start_with (Some n) = Immediate n
+
+-- what begins where an instruction does
+abbrev pub start_of : Inst → Start
+start_of i = start_with (marked_number i)
+
+-- for each byte of instructions, what begins there
+abbrev pub instruction_starts : List Spelled → List Start
+instruction_starts code = flat_map (λ (s : Spelled). headed (start_of s.means) Nothing (length s.text)) code
 
 -- for each byte of functions, whether one begins there
 abbrev pub function_starts : List FunctionPart → List Bool
-function_starts functions = flat_map (λ (f : FunctionPart). span f.length) functions
+function_starts functions = flat_map (λ (f : FunctionPart). headed true false f.length) functions
 
--- whether something begins at a byte
+-- what begins at a byte, and whether a function does
+abbrev pub start_at : List Start → ℕ → Start
+start_at starts k = slice_index_or starts k Nothing
+
 abbrev pub starts_at : List Bool → ℕ → Bool
 starts_at starts k = slice_index_or starts k false
+
+-- whether an instruction begins
+abbrev pub is_start : Start → Bool
+is_start Nothing = false
+is_start Instruction = true
+is_start (Immediate n) = true
+
+-- the immediate number of what begins
+abbrev pub start_number : Start → Option ℕ
+start_number Nothing = None
+start_number Instruction = None
+start_number (Immediate n) = Some n
 
 -- the instructions of so many bytes
 abbrev pub body_at : ℕ → Reads (List Spelled)
@@ -38,30 +62,20 @@ abbrev pub bodies_at : List FunctionPart → Reads (List Spelled)
 bodies_at functions file at = run (bodies functions) file at ▸ λ x. Ok (all_instructions x.0, x.1)
 
 -- where instructions begin, behind those before them
-abbrev pub starts_behind : List Bool → Result (List Spelled × ℕ) ImageFault → Result (List Bool × ℕ) ImageFault
+abbrev pub starts_behind : List Start → Result (List Spelled × ℕ) ImageFault → Result (List Start × ℕ) ImageFault
 starts_behind front read = read ▸ λ x. Ok (front ++ instruction_starts x.0, x.1)
 
 -- where the instructions of functions begin
-abbrev pub code_at : List FunctionPart → Reads (List Bool)
+abbrev pub code_at : List FunctionPart → Reads (List Start)
 code_at functions file at = starts_behind [] (bodies_at functions file at)
 
 -- whether a block may begin at an offset
-unfoldable pub place_fits : List Bool → List Bool → ℕ → ℕ → Bool
-place_fits instructions functions least offset = nat_le least offset && starts_at instructions offset && not (starts_at functions offset)
-
--- the immediate number of an instruction that was decoded
-unfoldable pub marked_number_of : Decoded → Option ℕ
-marked_number_of (answer.One i len) = marked_number i
-marked_number_of answer.Short = None
-marked_number_of answer.Unknown = None
-
--- the immediate number of the instruction that begins at an offset of the code
-unfoldable pub marked_number_in : List ℕ → List Bool → ℕ → Option ℕ
-marked_number_in code starts offset = if starts_at starts offset then marked_number_of (decoded (drop offset code)) else None
+unfoldable pub place_fits : List Start → List Bool → ℕ → ℕ → Bool
+place_fits instructions functions least offset = nat_le least offset && is_start (start_at instructions offset) && not (starts_at functions offset)
 
 -- whether a mark may stand at an offset
-unfoldable pub offset_fits : List ℕ → List Bool → ℕ → ℕ → Bool
-offset_fits code starts least offset = nat_le least offset && is_some (marked_number_in code starts offset)
+unfoldable pub offset_fits : List Start → ℕ → ℕ → Bool
+offset_fits starts least offset = nat_le least offset && is_some (start_number (start_at starts offset))
 
 -- the word that a mark stands for, by the addresses of functions and the places of data arrays
 unfoldable pub mark_word_by : Tables → List ℕ → List ℕ → ℕ → ℕ → Option ℕ
@@ -76,5 +90,5 @@ mark_word_by t addresses places tag index =
     else None
 
 -- whether a mark at an offset may have a tag and an index
-abbrev pub mark_says : Tables → List ℕ → List ℕ → List ℕ → List Bool → ℕ → ℕ → ℕ → Bool
-mark_says t addresses places code starts offset tag index = same_number (mark_word_by t addresses places tag index) (marked_number_in code starts offset)
+abbrev pub mark_says : Tables → List ℕ → List ℕ → List Start → ℕ → ℕ → ℕ → Bool
+mark_says t addresses places starts offset tag index = same_number (mark_word_by t addresses places tag index) (start_number (start_at starts offset))

@@ -1,5 +1,5 @@
 -- Reading a whole image file: the tables, then the code with what is said of it.
-use Rattle.std.specs.Prelude.{ℕ, ◌+◌, ◌-◌, ◌*◌, ◌≤◌, Bool, List, map, take, drop, Ok}
+use Rattle.std.specs.Prelude.{ℕ, ◌+◌, ◌-◌, ◌*◌, ◌≤◌, List, map, take, drop, Ok}
 use Rattle.std.specs.List.{sum_by}
 use Rattle.object_layout.specs.declared.rows.FieldTy.{FieldTy}
 use Rattle.object_layout.specs.declared.rows.ClassRow.{ClassRow}
@@ -11,6 +11,7 @@ use Rattle.tal_image.specs.declared.parts.FunctionPart.{FunctionPart}
 use Rattle.tal_image.specs.declared.parts.MarkPart.{MarkPart}
 use Rattle.tal_image.specs.declared.image_reader.TableRows.{TableRows}
 use Rattle.tal_image.specs.declared.image_reader.CodeRows.{CodeRows}
+use Rattle.tal_image.specs.declared.start.Start.{Start}
 use Rattle.tal_image.specs.Image.{ImageParts, ArrayPart, BlockPart}
 use Rattle.object_layout.specs.Areas.{code_start, statics_start}
 use Rattle.tal_image.specs.Conditions.{fun_rows, array_places, array_room, most_code, most_words}
@@ -84,20 +85,20 @@ addresses_of f = map (λ (row : FunRow). row.address) (fun_rows code_start f.fun
 abbrev pub places_of : FrontParts → List ℕ
 places_of f = array_places (statics_start + 4 * f.header.statics) f.arrays
 
--- blocks where instructions begin and no function does, and marks of what stands in these bytes
-abbrev pub blocks_by : FrontParts → List Bool → Grammar (List BlockPart)
+-- blocks where instructions begin and no function does, and marks of the immediate numbers
+abbrev pub blocks_by : FrontParts → List Start → Grammar (List BlockPart)
 blocks_by f starts = many f.header.blocks (λ later least. block_where (tables_of f.header) (place_fits starts (function_starts f.functions) least)) after_block 0
 
-abbrev pub marks_by : FrontParts → List ℕ → List Bool → Grammar (List MarkPart)
-marks_by f code starts =
-    many f.header.marks (λ later least. mark_where (offset_fits code starts least) (mark_says (tables_of f.header) (addresses_of f) (places_of f) code starts)) after_mark 0
+abbrev pub marks_by : FrontParts → List Start → Grammar (List MarkPart)
+marks_by f starts =
+    many f.header.marks (λ later least. mark_where (offset_fits starts least) (mark_says (tables_of f.header) (addresses_of f) (places_of f) starts)) after_mark 0
 
 -- the code and what is said of it
 unfoldable pub behind_at : FrontParts → Reads CodeParts
 behind_at f file at =
     code_at f.functions file at ▸ λ starts.
     run (blocks_by f starts.0) file starts.1 ▸ λ blocks.
-    run (marks_by f (drop at file) starts.0) file blocks.1 ▸ λ marks.
+    run (marks_by f starts.0) file blocks.1 ▸ λ marks.
     Ok (record { code = take (starts.1 - at) (drop at file); blocks = blocks.0; marks = marks.0 }, marks.1)
 
 -- the image of these parts

@@ -1,25 +1,24 @@
-// The readers of the code, and of the blocks and marks that say something of it. For each byte of the code it is kept
-// whether an instruction begins there, so that each block and mark is read in a time of its own.
-ghost use Rattle.std.specs.Prelude.{◌≡◌, ◌≤◌, ◌++◌, Some, IfOk, OnOk, map};
-ghost use Rattle.tal_image.specs.Conditions.{immediate, marked_number};
+// The readers of the code, and of the blocks and marks that say something of it.
+ghost use Rattle.std.specs.Prelude.{◌≡◌, ◌≤◌, ◌++◌, true, false, IfOk, OnOk, map};
 ghost use Rattle.file_fields.specs.Reading.{GivesView};
-ghost use Rattle.tal_image.specs.CodeReading.{span, function_starts, starts_at, starts_behind, body_at, code_at, place_fits, marked_number_of, marked_number_in, offset_fits, mark_says};
+ghost use Rattle.tal_image.specs.CodeReading.{headed, function_starts, starts_at, starts_behind, body_at, code_at, place_fits, offset_fits, mark_says};
 ghost use Rattle.tal_image.specs.Fields.{block_where, mark_where, after_block, after_mark};
 ghost use Rattle.tal_image.specs.Kept.{data_place};
 
 use crate::mark_words::MarkWords;
 use crate::parts::{BlockPart, FunctionPart, MarkPart, Tables, TypeList};
 use crate::row_reader::seven;
+use crate::start::{Start, put_instruction, start_at};
 use file_fields::{ImageFault, Reader, RowAfter, require};
-use ia32_code::{Alu, Decoded, Inst, Operand, decode};
+use ia32_code::{Decoded, decode};
 use no_memory::NoMemory;
 use std::alloc::Global;
 use tal_types::Ty;
 
 /// Puts so many bytes behind others, of which the first begins something.
-#[tactic(auto, unfolding(crate::specs::CodeReading::span))]
+#[tactic(auto, unfolding(crate::specs::CodeReading::headed))]
 fn put_span(starts: &mut Vec<bool>, length: u32) -> Result<(), NoMemory>
-    ensures { OnOk result (starts.new.items ≡ starts.old.items ++ span length) }
+    ensures { OnOk result (starts.new.items ≡ starts.old.items ++ headed true false length) }
 {
     let end = starts.len() + length as usize;
     if length > 0 {
@@ -52,56 +51,16 @@ fn starts_at(starts: &[bool], offset: u32) -> bool
 
 /// Whether a block may begin at an offset.
 #[tactic(auto, unfolding(crate::specs::CodeReading::place_fits))]
-fn place_fits(instructions: &[bool], functions: &[bool], least: u64, offset: u32) -> bool
+fn place_fits(instructions: &[Start], functions: &[bool], least: u64, offset: u32) -> bool
     ensures { result ≡ place_fits instructions.now functions.now least offset }
 {
-    least <= u64::from(offset) && starts_at(instructions, offset) && !starts_at(functions, offset)
+    least <= u64::from(offset)
+        && start_at(instructions, offset).is_start()
+        && !starts_at(functions, offset)
 }
 
-/// The number of an operand, where it is an immediate one.
-#[tactic(auto, unfolding(crate::specs::Conditions::immediate))]
-fn immediate(operand: Operand) -> Option<u32>
-    ensures { result ≡ immediate operand }
-{
-    match operand {
-        Operand::I(number) => Some(number),
-        Operand::R(_) | Operand::M(_) => None,
-    }
-}
-
-/// The immediate number of a MOV, a PUSH or a CMP.
-#[tactic(auto, unfolding(crate::specs::Conditions::marked_number, crate::specs::Conditions::compared))]
-fn marked_number(inst: Inst) -> Option<u32>
-    ensures { result ≡ marked_number inst }
-{
-    match inst {
-        Inst::Mov { src, .. } | Inst::Push(src) => immediate(src),
-        Inst::Alu {
-            op: Alu::Cmp,
-            src,
-            ..
-        } => immediate(src),
-        _ => None,
-    }
-}
-
-/// The immediate number of the instruction that begins at an offset of the code, if one does.
-#[tactic(auto, using(crate::proofs::Reading::CodeRows::drop_min), unfolding(crate::specs::CodeReading::marked_number_in, crate::specs::CodeReading::marked_number_of))]
-fn marked_number_in(code: &[u8], starts: &[bool], offset: u32) -> Option<u32>
-    ensures { result ≡ marked_number_in code.now starts.now offset }
-{
-    if !starts_at(starts, offset) {
-        return None;
-    }
-    let (_, rest) = code.split_at(code.len().min(offset as usize));
-    match decode(rest) {
-        Decoded::One { inst, .. } => marked_number(inst),
-        Decoded::Short | Decoded::Unknown => None,
-    }
-}
-
-/// The next instructions, of so many bytes in all; where they begin stands then behind `starts`.
-fn body(reader: &mut Reader<'_>, starts: &mut Vec<bool>, size: u32) -> Result<(), ImageFault>
+/// The next instructions, of so many bytes in all; what begins at each byte stands then behind `starts`.
+fn body(reader: &mut Reader<'_>, starts: &mut Vec<Start>, size: u32) -> Result<(), ImageFault>
     ensures gives { GivesView (λ u. starts.new.items) result (starts_behind starts.old.items (body_at size reader.old.file.now reader.old.at)) reader.new.at }
     ensures file { reader.new.file ≡ reader.old.file }
     ensures onward { reader.old.at ≤ reader.new.at }
@@ -110,13 +69,13 @@ fn body(reader: &mut Reader<'_>, starts: &mut Vec<bool>, size: u32) -> Result<()
     while left > 0 {
         let rest = &reader.file[reader.at..];
         match decode(rest) {
-            Decoded::One { len, .. } => {
+            Decoded::One { inst, len } => {
                 let length = u32::from(len);
                 if length > left {
                     let at = reader.at as u32;
                     return Err(ImageFault::Bad { at, field: 23 });
                 }
-                put_span(starts, length)?;
+                put_instruction(starts, inst, length)?;
                 reader.at += length as usize;
                 left -= length;
             }
@@ -133,12 +92,12 @@ fn body(reader: &mut Reader<'_>, starts: &mut Vec<bool>, size: u32) -> Result<()
     Ok(())
 }
 
-/// The instructions of the functions: for each byte whether one begins there.
+/// The instructions of the functions: for each byte what begins there.
 pub(crate) fn code(
     alloc: Global,
     reader: &mut Reader<'_>,
     functions: &[FunctionPart],
-) -> Result<Vec<bool>, ImageFault>
+) -> Result<Vec<Start>, ImageFault>
     ensures gives { GivesView (λ v. v.items) result (code_at functions.now reader.old.file.now reader.old.at) reader.new.at }
     ensures file { reader.new.file ≡ reader.old.file }
     ensures onward { reader.old.at ≤ reader.new.at }
@@ -150,11 +109,11 @@ pub(crate) fn code(
     Ok(starts)
 }
 
-/// Where blocks may begin: for each byte of the code whether an instruction begins there, and whether a function does.
+/// Where blocks may begin: for each byte of the code what begins there, and whether a function does.
 #[derive(Drop)]
 pub(crate) struct BlockPlaces<'a> {
     pub tables: Tables,
-    pub instructions: &'a [bool],
+    pub instructions: &'a [Start],
     pub functions: &'a [bool],
 }
 
@@ -191,17 +150,15 @@ impl<'a> RowAfter<BlockPlaces<'a>, u64> for BlockPart {
     }
 }
 
-/// Where marks may stand, and what they stand for: the bytes of the code, for each whether an instruction begins there, and
-/// the words of marks.
+/// Where marks may stand, and what they stand for: for each byte of the code what begins there, and the words of marks.
 #[derive(Drop)]
 pub(crate) struct MarkPlaces<'a> {
     pub words: &'a MarkWords,
-    pub code: &'a [u8],
-    pub starts: &'a [bool],
+    pub starts: &'a [Start],
 }
 
 impl<'a> RowAfter<MarkPlaces<'a>, u64> for MarkPart {
-    ghost fields = { λ p later least. mark_where (offset_fits p.code.now p.starts.now least) (mark_says p.words.now.tables p.words.now.starts.items (map (data_place p.words.now.statics) p.words.now.offsets.items) p.code.now p.starts.now) };
+    ghost fields = { λ p later least. mark_where (offset_fits p.starts.now least) (mark_says p.words.now.tables p.words.now.starts.items (map (data_place p.words.now.statics) p.words.now.offsets.items) p.starts.now) };
 
     ghost after = { after_mark };
 
@@ -219,7 +176,7 @@ impl<'a> RowAfter<MarkPlaces<'a>, u64> for MarkPart {
         if u64::from(offset) < least {
             return Err(ImageFault::Bad { at, field: 26 });
         }
-        let Some(number) = marked_number_in(places.code, places.starts, offset) else {
+        let Some(number) = start_at(places.starts, offset).number() else {
             return Err(ImageFault::Bad { at, field: 26 });
         };
         let at = reader.at as u32;

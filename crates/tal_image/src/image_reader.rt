@@ -118,8 +118,6 @@ fn code_rows(
     let words = MarkWords::behind(alloc, front)?;
     let firsts = function_starts(alloc, &front.functions)?;
     let start = reader.at;
-    let file = reader.file;
-    let (_, rest) = file.split_at(start);
     let starts = code(alloc, reader, &front.functions)?;
     let code = bytes_from(alloc, reader, start)?;
     let places = BlockPlaces {
@@ -135,7 +133,6 @@ fn code_rows(
     )?;
     let places = MarkPlaces {
         words: &words,
-        code: rest,
         starts: &starts,
     };
     let marks = reader.rows_after::<MarkPlaces<'_>, u64, MarkPart>(

@@ -23,6 +23,7 @@ mod mark_words;
 mod parts;
 mod placement;
 mod row_reader;
+mod start;
 mod type_codes;
 mod writing;
 

@@ -1,13 +1,12 @@
 -- Reading a class behind its parent's number.
-use Rattle.std.proofs.Common.{◌≡◌, ℕ, zero, suc, ◌+◌, List, [], ◌∷◌, length, map, drop, Ok, Err, refl, ap, ◌∙◌}
+use Rattle.std.proofs.Common.{◌≡◌, ℕ, zero, suc, ◌+◌, List, [], ◌∷◌, length, map, Ok, Err, refl, ap, ◌∙◌}
 use Rattle.std.specs.Prelude.{slice_index_or}
 use Rattle.object_layout.specs.declared.rows.ClassRow.{ClassRow}
 use Rattle.object_layout.specs.declared.rows.FunRow.{FunRow}
 use Rattle.object_layout.specs.Classes.{fun_row, signatures, signatures_of, Methods}
 use Rattle.tal_image.specs.declared.parts.FunctionPart.{FunctionPart}
 use Rattle.object_layout.specs.Areas.{code_start}
-use Rattle.tal_image.specs.Conditions.{Tables, fun_rows, class_view, parent_fits, inherited_fields, inherited_methods, fields_fit, methods_fit, method_fits}
-use Rattle.object_layout.specs.declared.rows.FieldTy.{FieldTy}
+use Rattle.tal_image.specs.Conditions.{Tables, fun_rows, class_view, parent_fits, inherited_fields, inherited_methods, fields_fit, methods_fit}
 use Rattle.file_fields.specs.declared.fault.ImageFault.{ImageFault}
 use Rattle.file_fields.specs.Grammar.{checked, each}
 use Rattle.file_fields.specs.Reading.{◌▸◌, run}

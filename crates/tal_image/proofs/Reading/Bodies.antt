@@ -1,5 +1,5 @@
 -- Reading the instructions of a function one after another.
-use Rattle.std.proofs.Common.{◌≡◌, ℕ, zero, suc, ◌+◌, ◌-◌, ◌<◌, ◌≤◌, Bool, true, false, cond, List, [], ◌∷◌, ◌++◌, length, take, drop, Result, Ok, Err, refl, sym, ap, subst, ◌∙◌, append_assoc, arith}
+use Rattle.std.proofs.Common.{◌≡◌, ℕ, zero, suc, ◌+◌, ◌-◌, ◌<◌, ◌≤◌, true, false, cond, List, [], ◌∷◌, ◌++◌, length, take, drop, Result, Ok, Err, refl, sym, ap, subst, ◌∙◌, append_assoc, arith}
 use Rattle.std.specs.Prelude.{nat_le}
 use Rattle.std.proofs.lemmas.Bool.Decides.{nat_tests}
 use Rattle.std.proofs.lemmas.List.{length-take-le, append-nil, length-drop}
@@ -15,7 +15,9 @@ use Rattle.file_fields.specs.Grammar.{done, then_with}
 use Rattle.tal_image.specs.declared.parts.FunctionPart.{FunctionPart}
 use Rattle.tal_image.specs.Fields.{instructions, bodies, all_instructions}
 use Rattle.file_fields.specs.Reading.{◌▸◌, after_decoding, run}
-use Rattle.tal_image.specs.CodeReading.{body_at, span, instruction_starts, bodies_at, starts_behind}
+use Rattle.tal_image.specs.declared.start.Start.{Start}
+use Rattle.tal_image.specs.declared.start.Start.TheVariants.{Nothing}
+use Rattle.tal_image.specs.CodeReading.{body_at, headed, start_of, instruction_starts, bodies_at, starts_behind}
 use Rattle.file_fields.specs.Composed.{run-then_with, bind_then, same_bind, with_front, regroup}
 
 -- all of a list is as many as it has
@@ -31,7 +33,7 @@ tail_is at file = let l = length-drop at file in take_whole (length file - at) (
 
 -- So many bytes are still to be read; instructions stand before them, what is read is the whole, and it is marked where they
 -- begin.
-pub record BodyLeft (begun starts : List Bool) (left : ℕ) (file : List ℕ) (at : ℕ) (total : Result (List Spelled × ℕ) ImageFault) : Type 0 where
+pub record BodyLeft (begun starts : List Start) (left : ℕ) (file : List ℕ) (at : ℕ) (total : Result (List Spelled × ℕ) ImageFault) : Type 0 where
   pub fuel : ℕ
   pub front : List Spelled
   pub enough : left ≤ fuel
@@ -44,7 +46,7 @@ bind_ok (Ok x) = refl
 bind_ok (Err e) = refl
 
 -- at first all is left
-pub body_begins : (begun : List Bool) (n : ℕ) (file : List ℕ) (at : ℕ) → BodyLeft begun begun n file at (run (instructions n n) file at)
+pub body_begins : (begun : List Start) (n : ℕ) (file : List ℕ) (at : ℕ) → BodyLeft begun begun n file at (run (instructions n n) file at)
 body_begins begun n file at = record { fuel = n; front = []; enough = omega arith; read = bind_ok (run (instructions n n) file at); marked = sym (append-nil begun) }
 
 -- the instructions from one on
@@ -65,20 +67,20 @@ stops : {A : Type 0} (len room : ℕ) (x y : A) → room < len → cond (nat_le 
 stops len room x y h = let t : nat_le len room ≡ false = grind (arith, nat_tests) in rw t refl
 
 -- one instruction more is marked
-one_marked : (begun : List Bool) (front : List Spelled) (x : Spelled) (len : ℕ) → length x.text ≡ len → (begun ++ instruction_starts front) ++ span len ≡ begun ++ instruction_starts (front ++ x ∷ [])
+one_marked : (begun : List Start) (front : List Spelled) (x : Spelled) (len : ℕ) → length x.text ≡ len → (begun ++ instruction_starts front) ++ headed (start_of x.means) Nothing len ≡ begun ++ instruction_starts (front ++ x ∷ [])
 one_marked begun front x len e =
-    append_assoc begun (instruction_starts front) (span len)
-    ∙ ap (λ (z : List Bool). begun ++ z) (ap (λ (z : List Bool). instruction_starts front ++ z) (sym (append-nil (span len)) ∙ ap (λ (n : ℕ). span n ++ []) (sym e)) ∙ sym (flat_map-append (λ (s : Spelled). span (length s.text)) front (x ∷ [])))
+    append_assoc begun (instruction_starts front) (headed (start_of x.means) Nothing len)
+    ∙ ap (λ (z : List Start). begun ++ z) (ap (λ (z : List Start). instruction_starts front ++ z) (sym (append-nil (headed (start_of x.means) Nothing len)) ∙ ap (λ (n : ℕ). headed (start_of x.means) Nothing n ++ []) (sym e)) ∙ sym (flat_map-append (λ (s : Spelled). headed (start_of s.means) Nothing (length s.text)) front (x ∷ [])))
 
-module _ (begun starts : List Bool) (left : ℕ) (file : List ℕ) (at : ℕ) (total : Result (List Spelled × ℕ) ImageFault) (b : BodyLeft begun starts left file at total) where
+module _ (begun starts : List Start) (left : ℕ) (file : List ℕ) (at : ℕ) (total : Result (List Spelled × ℕ) ImageFault) (b : BodyLeft begun starts left file at total) where
   -- one instruction more is read
-  pub body_on : (i : Inst) (len : ℕ) → 0 < left → answer.One i len ≡ decoded (drop at file) → 0 < len → len ≤ length (drop at file) → len ≤ left → BodyLeft begun (starts ++ span len) (left - len) file (at + len) total
+  pub body_on : (i : Inst) (len : ℕ) → 0 < left → answer.One i len ≡ decoded (drop at file) → 0 < len → len ≤ length (drop at file) → len ≤ left → BodyLeft begun (starts ++ headed (start_of i) Nothing len) (left - len) file (at + len) total
   body_on i len some e pos within fits = go left b.fuel some b.enough fits b.read
     where
       x : Spelled
       x = record { text = take len (drop at file); means = i }
 
-      go : (room fuel : ℕ) → 0 < room → room ≤ fuel → len ≤ room → with_front b.front (run (instructions fuel room) file at) ≡ total → BodyLeft begun (starts ++ span len) (room - len) file (at + len) total
+      go : (room fuel : ℕ) → 0 < room → room ≤ fuel → len ≤ room → with_front b.front (run (instructions fuel room) file at) ≡ total → BodyLeft begun (starts ++ headed (start_of i) Nothing len) (room - len) file (at + len) total
       go zero fuel h k f r = absurd (omega arith)
       go (suc m) zero h k f r = absurd (omega arith)
       go (suc m) (suc n) h k f r =
@@ -92,7 +94,7 @@ module _ (begun starts : List Bool) (left : ℕ) (file : List ℕ) (at : ℕ) (t
             front = b.front ++ x ∷ [];
             enough = omega arith;
             read = sym (regroup b.front x (run (instructions n (suc m - len)) file (at + len))) ∙ ap (with_front b.front) (sym step) ∙ r;
-            marked = ap (λ (z : List Bool). z ++ span len) b.marked ∙ one_marked begun b.front x len l;
+            marked = ap (λ (z : List Start). z ++ headed (start_of i) Nothing len) b.marked ∙ one_marked begun b.front x len l;
           }
 
   -- no instruction follows that may
@@ -120,7 +122,7 @@ module _ (begun starts : List Bool) (left : ℕ) (file : List ℕ) (at : ℕ) (t
   -- all is read
   pub body_done : left ≡ 0 → starts_behind begun total ≡ Ok (starts, at)
   unfolding instructions
-  body_done none = ap (starts_behind begun) all ∙ ap (λ (z : List Bool). let r : Result (List Bool × ℕ) ImageFault = Ok (z, at) in r) (sym b.marked)
+  body_done none = ap (starts_behind begun) all ∙ ap (λ (z : List Start). let r : Result (List Start × ℕ) ImageFault = Ok (z, at) in r) (sym b.marked)
     where
       end : with_front b.front (Ok ([], at)) ≡ Ok (b.front, at)
       end = ap (λ (z : List Spelled). let r : Result (List Spelled × ℕ) ImageFault = Ok (z, at) in r) (append-nil b.front)
@@ -141,7 +143,7 @@ ok_are {A} x y n m e = let k = pair_is (x, n) (y, m) e in (ap (λ (z : A × ℕ)
     pair_is : (p q : A × ℕ) → (let l : Result (A × ℕ) ImageFault = Ok p in l) ≡ Ok q → p ≡ q
     pair_is p q d = cc
 
-module _ (begun : List Bool) (f : FunctionPart) (functions : List FunctionPart) (file : List ℕ) (at : ℕ) where
+module _ (begun : List Start) (f : FunctionPart) (functions : List FunctionPart) (file : List ℕ) (at : ℕ) where
   -- one function, then the others
   one_function : bodies_at (f ∷ functions) file at ≡ (body_at f.length file at ▸ λ b. bodies_at functions file b.1 ▸ λ xs. Ok (b.0 ++ xs.0, xs.1))
   unfolding bodies
@@ -154,18 +156,18 @@ module _ (begun : List Bool) (f : FunctionPart) (functions : List FunctionPart) 
       ∙ sym (bind_then (run (bodies functions) file b.1) _ _))
 
   -- the instructions of one function are read
-  pub function_on : (starts : List Bool) (next : ℕ) → starts_behind begun (body_at f.length file at) ≡ Ok (starts, next) → starts_behind begun (bodies_at (f ∷ functions) file at) ≡ starts_behind starts (bodies_at functions file next)
+  pub function_on : (starts : List Start) (next : ℕ) → starts_behind begun (body_at f.length file at) ≡ Ok (starts, next) → starts_behind begun (bodies_at (f ∷ functions) file at) ≡ starts_behind starts (bodies_at functions file next)
   function_on starts next e = ap (starts_behind begun) one_function ∙ go (body_at f.length file at) e
     where
       behind : (code : List Spelled) (r : Result (List Spelled × ℕ) ImageFault) → starts_behind begun (r ▸ λ xs. Ok (code ++ xs.0, xs.1)) ≡ starts_behind (begun ++ instruction_starts code) r
-      behind code (Ok x) = ap (λ (z : List Bool). let r : Result (List Bool × ℕ) ImageFault = Ok (z, x.1) in r)
-          (ap (λ (z : List Bool). begun ++ z) (flat_map-append (λ (s : Spelled). span (length s.text)) code x.0) ∙ sym (append_assoc begun (instruction_starts code) (instruction_starts x.0)))
+      behind code (Ok x) = ap (λ (z : List Start). let r : Result (List Start × ℕ) ImageFault = Ok (z, x.1) in r)
+          (ap (λ (z : List Start). begun ++ z) (flat_map-append (λ (s : Spelled). headed (start_of s.means) Nothing (length s.text)) code x.0) ∙ sym (append_assoc begun (instruction_starts code) (instruction_starts x.0)))
       behind code (Err h) = refl
 
       go : (r : Result (List Spelled × ℕ) ImageFault) → starts_behind begun r ≡ Ok (starts, next) → starts_behind begun (r ▸ λ b. bodies_at functions file b.1 ▸ λ xs. Ok (b.0 ++ xs.0, xs.1)) ≡ starts_behind starts (bodies_at functions file next)
       go (Ok b) d =
           let k = ok_are (begun ++ instruction_starts b.0) starts b.1 next d in
-          behind b.0 (bodies_at functions file b.1) ∙ ap (λ (z : List Bool). starts_behind z (bodies_at functions file b.1)) k.0 ∙ ap (λ (n : ℕ). starts_behind starts (bodies_at functions file n)) k.1
+          behind b.0 (bodies_at functions file b.1) ∙ ap (λ (z : List Start). starts_behind z (bodies_at functions file b.1)) k.0 ∙ ap (λ (n : ℕ). starts_behind starts (bodies_at functions file n)) k.1
       go (Err h) d = absurd cc
 
   -- or they are not
@@ -177,6 +179,6 @@ module _ (begun : List Bool) (f : FunctionPart) (functions : List FunctionPart) 
       go (Err g) d = d
 
 -- no function is left
-pub functions_done : (begun : List Bool) (file : List ℕ) (at : ℕ) → starts_behind begun (bodies_at [] file at) ≡ Ok (begun, at)
+pub functions_done : (begun : List Start) (file : List ℕ) (at : ℕ) → starts_behind begun (bodies_at [] file at) ≡ Ok (begun, at)
 unfolding bodies
-functions_done begun file at = ap (λ (z : List Bool). let r : Result (List Bool × ℕ) ImageFault = Ok (z, at) in r) (append-nil begun)
+functions_done begun file at = ap (λ (z : List Start). let r : Result (List Start × ℕ) ImageFault = Ok (z, at) in r) (append-nil begun)

@@ -1,6 +1,6 @@
 -- What is known of the instructions that were read: where each begins, its bytes, and what it is.
 use Rattle.std.proofs.Common.{◌≡◌, ℕ, zero, suc, ◌+◌, ◌-◌, ◌<◌, ◌≤◌, ◌⊎◌, inl, inr, Bool, true, false, cond, Option, Some, None, List, [], ◌∷◌, ◌++◌, length, take, drop, replicate, Result, Ok, Err, refl, sym, ap, subst, ◌∙◌, arith, ⊎_elim}
-use Rattle.std.specs.Prelude.{nat_le, nat_lt, ◌==◌, is_some, if◌then◌else◌}
+use Rattle.std.specs.Prelude.{nat_le, nat_lt, ◌==◌, is_some, slice_index_or}
 use Rattle.std.specs.Option.{option_map_or}
 use Rattle.std.proofs.lemmas.Bool.{cases_lt}
 use Rattle.std.proofs.lemmas.Bool.Decides.{nat_tests}
@@ -15,8 +15,10 @@ use Rattle.tal_image.specs.declared.parts.FunctionPart.{FunctionPart}
 use Rattle.tal_image.specs.Conditions.{Spelled, begins_at, function_begins, marked_number_at, marked_number}
 use Rattle.file_fields.specs.Grammar.{done, then_with, AreBytes}
 use Rattle.tal_image.specs.Fields.{instructions, bodies, all_instructions, code_bytes}
-use Rattle.file_fields.specs.Reading.{◌▸◌, after_decoding, run}
-use Rattle.tal_image.specs.CodeReading.{span, instruction_starts, function_starts, starts_at, marked_number_of, marked_number_in}
+use Rattle.file_fields.specs.Reading.{after_decoding, run}
+use Rattle.tal_image.specs.declared.start.Start.{Start}
+use Rattle.tal_image.specs.declared.start.Start.TheVariants.{Nothing}
+use Rattle.tal_image.specs.CodeReading.{headed, start_with, start_of, start_at, is_start, start_number, instruction_starts, function_starts, starts_at}
 use Rattle.tal_image.proofs.Meaning.Bodies.{joined_bytes}
 use Rattle.file_fields.specs.Composed.{run-then_with}
 use Rattle.tal_image.proofs.Reading.Limits.{AllPositive, bind_inverse, ok_pair}
@@ -30,7 +32,7 @@ bytes_after (suc n) (b ∷ bytes) fits = bytes_after n bytes (λ i. fits (suc i)
 -- These instructions stand one after another in a file from a place on.
 abbrev pub StandAt : List ℕ → ℕ → List Spelled → Type 0
 StandAt file at [] = Unit {0}
-StandAt file at (s ∷ more) = (decoded (drop at file) ≡ answer.One s.means (length s.text)) × (0 < length s.text) × (s.text ≡ take (length s.text) (drop at file)) × StandAt file (at + length s.text) more
+StandAt file at (s ∷ more) = (0 < length s.text) × (s.text ≡ take (length s.text) (drop at file)) × StandAt file (at + length s.text) more
 
 -- some, then others
 stand_both : (file : List ℕ) (at : ℕ) (code more : List Spelled) → StandAt file at code → StandAt file (at + length (code_bytes code)) more → StandAt file at (code ++ more)
@@ -38,7 +40,7 @@ stand_both file at [] more h g = subst (λ (n : ℕ). StandAt file n more) (let 
 stand_both file at (s ∷ code) more h g =
     let l = length-append s.text (code_bytes code) in
     let e : at + length (code_bytes (s ∷ code)) ≡ at + length s.text + length (code_bytes code) = omega arith in
-    (h.0, h.1, h.2, stand_both file (at + length s.text) code more h.3 (subst (λ (n : ℕ). StandAt file n more) e g))
+    (h.0, h.1, stand_both file (at + length s.text) code more h.2 (subst (λ (n : ℕ). StandAt file n more) e g))
 
 -- a test that was passed
 passed : {A : Type 0} (b : Bool) (x : Result A ImageFault) (f : ImageFault) (y : A) → cond b x (Err f) ≡ Ok y → x ≡ Ok y
@@ -80,7 +82,6 @@ module _ (law : DecodedLaw) (file : List ℕ) (fits : AreBytes file) where
       let last : end ≡ at + length (code_bytes (s ∷ bound.0.0)) = let q = rest.1 in let q2 = k.1 in omega arith in
       subst (λ (z : List Spelled). Read_to file at z end) k.0 (
         (
-          de ∙ ap (λ (m : ℕ). answer.One i m) (sym l),
           (let pos = a.0 in omega arith),
           ap (λ (m : ℕ). take m (drop at file)) (sym l),
           subst (λ (m : ℕ). StandAt file m bound.0.0) place rest.0,
@@ -133,44 +134,44 @@ pub bytes_are : (file : List ℕ) (at : ℕ) (code : List Spelled) → StandAt f
 bytes_are file at [] h = refl
 bytes_are file at (s ∷ code) h =
     let l = length-append s.text (code_bytes code) in
-    ap (λ (z : List ℕ). z ++ code_bytes code) h.2
-    ∙ ap (λ (z : List ℕ). take (length s.text) (drop at file) ++ z) (bytes_are file (at + length s.text) code h.3 ∙ ap (take (length (code_bytes code))) (sym (drop-drop (length s.text) at file)))
+    ap (λ (z : List ℕ). z ++ code_bytes code) h.1
+    ∙ ap (λ (z : List ℕ). take (length s.text) (drop at file) ++ z) (bytes_are file (at + length s.text) code h.2 ∙ ap (take (length (code_bytes code))) (sym (drop-drop (length s.text) at file)))
     ∙ take_both (length s.text) (length (code_bytes code)) (drop at file)
     ∙ ap (λ (n : ℕ). take n (drop at file)) (sym l)
 
 -- ---- where things begin
 
--- no byte is marked among those that are not
-none_marked : (m : ℕ) (rest : List Bool) (k : ℕ) → k < m → starts_at (replicate m false ++ rest) k ≡ false
-none_marked zero rest k h = absurd (omega arith)
-none_marked (suc m) rest zero h = refl
-none_marked (suc m) rest (suc k) h = none_marked m rest k (omega arith)
+module _ {A : Type 0} (first other : A) where
+  -- others alone
+  among_others : (m : ℕ) (rest : List A) (k : ℕ) → k < m → slice_index_or (replicate m other ++ rest) k other ≡ other
+  among_others zero rest k h = absurd (omega arith)
+  among_others (suc m) rest zero h = refl
+  among_others (suc m) rest (suc k) h = among_others m rest k (omega arith)
 
--- past them it is the others that are marked
-past_marked : (m : ℕ) (rest : List Bool) (k : ℕ) → m ≤ k → starts_at (replicate m false ++ rest) k ≡ starts_at rest (k - m)
-past_marked zero rest k h = ap (starts_at rest) (let e : k ≡ k - 0 = omega arith in e)
-past_marked (suc m) rest zero h = absurd (omega arith)
-past_marked (suc m) rest (suc k) h = past_marked m rest k (omega arith) ∙ ap (starts_at rest) (let e : k - m ≡ suc k - suc m = omega arith in e)
+  past_others : (m : ℕ) (rest : List A) (k : ℕ) → m ≤ k → slice_index_or (replicate m other ++ rest) k other ≡ slice_index_or rest (k - m) other
+  past_others zero rest k h = ap (λ (i : ℕ). slice_index_or rest i other) (let e : k ≡ k - 0 = omega arith in e)
+  past_others (suc m) rest zero h = absurd (omega arith)
+  past_others (suc m) rest (suc k) h =
+      past_others m rest k (omega arith) ∙ ap (λ (i : ℕ). slice_index_or rest i other) (let e : k - m ≡ suc k - suc m = omega arith in e)
 
--- so many bytes, of which the first is marked
-first_starts : (n : ℕ) (rest : List Bool) → 0 < n → starts_at (span n ++ rest) 0 ≡ true
-unfolding span
-first_starts zero rest h = absurd (omega arith)
-first_starts (suc n) rest h = refl
+  -- so many, of which the first is another: the first, one of the others, and what stands past them
+  at_first : (n : ℕ) (rest : List A) → 0 < n → slice_index_or (headed first other n ++ rest) 0 other ≡ first
+  unfolding headed
+  at_first zero rest h = absurd (omega arith)
+  at_first (suc n) rest h = refl
 
--- of so many bytes none but the first is marked
-none_starts : (n : ℕ) (rest : List Bool) (k : ℕ) → 0 < k → k < n → starts_at (span n ++ rest) k ≡ false
-unfolding span
-none_starts zero rest k p h = absurd (omega arith)
-none_starts (suc n) rest zero p h = absurd (omega arith)
-none_starts (suc n) rest (suc k) p h = none_marked n rest k (omega arith)
+  at_other : (n : ℕ) (rest : List A) (k : ℕ) → 0 < k → k < n → slice_index_or (headed first other n ++ rest) k other ≡ other
+  unfolding headed
+  at_other zero rest k p h = absurd (omega arith)
+  at_other (suc n) rest zero p h = absurd (omega arith)
+  at_other (suc n) rest (suc k) p h = among_others n rest k (omega arith)
 
--- past them it is the others that are marked
-later_starts : (n : ℕ) (rest : List Bool) (k : ℕ) → 0 < n → n ≤ k → starts_at (span n ++ rest) k ≡ starts_at rest (k - n)
-unfolding span
-later_starts zero rest k p h = absurd (omega arith)
-later_starts (suc n) rest zero p h = absurd (omega arith)
-later_starts (suc n) rest (suc k) p h = past_marked n rest k (omega arith) ∙ ap (starts_at rest) (let e : k - n ≡ suc k - suc n = omega arith in e)
+  at_later : (n : ℕ) (rest : List A) (k : ℕ) → 0 < n → n ≤ k → slice_index_or (headed first other n ++ rest) k other ≡ slice_index_or rest (k - n) other
+  unfolding headed
+  at_later zero rest k p h = absurd (omega arith)
+  at_later (suc n) rest zero p h = absurd (omega arith)
+  at_later (suc n) rest (suc k) p h =
+      past_others n rest k (omega arith) ∙ ap (λ (i : ℕ). slice_index_or rest i other) (let e : k - n ≡ suc k - suc n = omega arith in e)
 
 -- at the first of so many bytes, at another of them, or past them
 places : (k n : ℕ) → (k ≡ 0) ⊎ (((0 < k) × (k < n)) ⊎ ((0 < k) × (n ≤ k)))
@@ -203,58 +204,52 @@ begins_nowhere : (k : ℕ) → begins_at k [] ≡ None
 unfolding begins_at
 begins_nowhere k = refl
 
--- an instruction begins where one is marked
-pub starts_same : (file : List ℕ) (at : ℕ) (code : List Spelled) → StandAt file at code → (k : ℕ) → is_some (begins_at k code) ≡ starts_at (instruction_starts code) k
-starts_same file at [] h k = ap is_some (begins_nowhere k)
-starts_same file at (s ∷ code) h k =
+-- what begins where this instruction does, if one does
+abbrev started : Option Inst → Start
+started None = Nothing
+started (Some i) = start_of i
+
+-- at a byte the instruction begins that was put there
+started_at : (file : List ℕ) (at : ℕ) (code : List Spelled) → StandAt file at code → (k : ℕ) → started (begins_at k code) ≡ start_at (instruction_starts code) k
+started_at file at [] h k = ap started (begins_nowhere k)
+started_at file at (s ∷ code) h k =
     let n = length s.text in
     let rest = instruction_starts code in
-    let pos = h.1 in
+    let first = start_of s.means in
+    let pos = h.0 in
     ⊎_elim
-    (λ (z : k ≡ 0). ap (λ (m : ℕ). is_some (begins_at m (s ∷ code))) z ∙ ap is_some (begins_first s code) ∙ sym (ap (starts_at (span n ++ rest)) z ∙ first_starts n rest pos))
+    (λ (z : k ≡ 0). ap (λ (m : ℕ). started (begins_at m (s ∷ code))) z ∙ ap started (begins_first s code) ∙ sym (ap (start_at (headed first Nothing n ++ rest)) z ∙ at_first first Nothing n rest pos))
     (λ later. ⊎_elim
-    (λ (w : (0 < k) × (k < n)). ap is_some (begins_within s code k w.0 w.1) ∙ sym (none_starts n rest k w.0 w.1))
-    (λ (w : (0 < k) × (n ≤ k)). ap is_some (begins_past s code k w.0 w.1) ∙ starts_same file (at + n) code h.3 (k - n) ∙ sym (later_starts n rest k pos w.1))
+    (λ (w : (0 < k) × (k < n)). ap started (begins_within s code k w.0 w.1) ∙ sym (at_other first Nothing n rest k w.0 w.1))
+    (λ (w : (0 < k) × (n ≤ k)). ap started (begins_past s code k w.0 w.1) ∙ started_at file (at + n) code h.2 (k - n) ∙ sym (at_later first Nothing n rest k pos w.1))
     later)
     (places k n)
 
--- the number of the instruction that is decoded at a byte
-abbrev decoded_number : List ℕ → ℕ → Bool → Option ℕ
-decoded_number file at b = if b then marked_number_of (decoded (drop at file)) else None
+-- it is told whether one begins, and its immediate number
+begun : (o : Option ℕ) → is_start (start_with o) ≡ true
+begun None = refl
+begun (Some n) = refl
 
--- the immediate number of the instruction that begins at a byte
-number_is : (k : ℕ) (code : List Spelled) (o : Option Inst) → begins_at k code ≡ o → marked_number_at k code ≡ option_map_or marked_number o None
+told : (o : Option ℕ) → start_number (start_with o) ≡ o
+told None = refl
+told (Some n) = refl
+
+is_begun : (o : Option Inst) → is_some o ≡ is_start (started o)
+is_begun None = refl
+is_begun (Some i) = sym (begun (marked_number i))
+
+is_told : (o : Option Inst) → option_map_or marked_number o None ≡ start_number (started o)
+is_told None = refl
+is_told (Some i) = sym (told (marked_number i))
+
+-- an instruction begins where a start is kept
+pub starts_same : (file : List ℕ) (at : ℕ) (code : List Spelled) → StandAt file at code → (k : ℕ) → is_some (begins_at k code) ≡ is_start (start_at (instruction_starts code) k)
+starts_same file at code h k = is_begun (begins_at k code) ∙ ap is_start (started_at file at code h k)
+
+-- and its immediate number is kept there
+pub number_same : (file : List ℕ) (at : ℕ) (code : List Spelled) → StandAt file at code → (k : ℕ) → marked_number_at k code ≡ start_number (start_at (instruction_starts code) k)
 unfolding marked_number_at
-number_is k code o e = ap (λ (x : Option Inst). option_map_or marked_number x None) e
-
--- is that of the one that is decoded there
-number_stands : (file : List ℕ) (at : ℕ) (code : List Spelled) → StandAt file at code → (k : ℕ) → marked_number_at k code ≡ decoded_number file (at + k) (starts_at (instruction_starts code) k)
-unfolding marked_number_of
-number_stands file at [] h k = number_is k [] None (begins_nowhere k)
-number_stands file at (s ∷ code) h k =
-    let n = length s.text in
-    let rest = instruction_starts code in
-    let pos = h.1 in
-    ⊎_elim
-    (λ (z : k ≡ 0).
-    let place : at ≡ at + k = omega arith in
-    ap (λ (m : ℕ). marked_number_at m (s ∷ code)) z ∙ number_is 0 (s ∷ code) (Some s.means) (begins_first s code)
-    ∙ sym (ap (λ (m : ℕ). decoded_number file m (starts_at (span n ++ rest) k)) (sym place) ∙ ap (decoded_number file at) (ap (starts_at (span n ++ rest)) z ∙ first_starts n rest pos) ∙ ap marked_number_of h.0))
-    (λ later. ⊎_elim
-    (λ (w : (0 < k) × (k < n)). number_is k (s ∷ code) None (begins_within s code k w.0 w.1) ∙ sym (ap (decoded_number file (at + k)) (none_starts n rest k w.0 w.1)))
-    (λ (w : (0 < k) × (n ≤ k)).
-    let far = w.1 in
-    let place : at + n + (k - n) ≡ at + k = omega arith in
-    number_is k (s ∷ code) (begins_at (k - n) code) (begins_past s code k w.0 w.1) ∙ sym (number_is (k - n) code (begins_at (k - n) code) refl)
-    ∙ number_stands file (at + n) code h.3 (k - n) ∙ ap (λ (m : ℕ). decoded_number file m (starts_at rest (k - n))) place ∙ sym (ap (decoded_number file (at + k)) (later_starts n rest k pos w.1)))
-    later)
-    (places k n)
-
--- the number at a byte of the code is read there again
-pub number_same : (file : List ℕ) (at : ℕ) (code : List Spelled) → StandAt file at code → (k : ℕ) → marked_number_at k code ≡ marked_number_in (drop at file) (instruction_starts code) k
-unfolding marked_number_in
-number_same file at code h k =
-    number_stands file at code h k ∙ ap (λ (bytes : List ℕ). if starts_at (instruction_starts code) k then marked_number_of (decoded bytes) else None) (sym (drop-drop k at file))
+number_same file at code h k = is_told (begins_at k code) ∙ ap start_number (started_at file at code h k)
 
 -- a function begins where one is marked
 pub functions_same : (functions : List FunctionPart) → AllPositive functions → (k : ℕ) → function_begins k functions ≡ starts_at (function_starts functions) k
@@ -265,19 +260,19 @@ functions_same (f ∷ functions) h k =
     let rest = function_starts functions in
     let pos = h.0 in
     ⊎_elim
-    (λ (z : k ≡ 0). let a : (k == 0) ≡ true = grind (arith, nat_tests) in rw a (sym (ap (starts_at (span n ++ rest)) z ∙ first_starts n rest pos)))
+    (λ (z : k ≡ 0). let a : (k == 0) ≡ true = grind (arith, nat_tests) in rw a (sym (ap (starts_at (headed true false n ++ rest)) z ∙ at_first true false n rest pos)))
     (λ later. ⊎_elim
     (λ (w : (0 < k) × (k < n)).
     let low = w.0 in
     let high = w.1 in
     let a : (k == 0) ≡ false = grind (arith, nat_tests) in
     let b : nat_lt k n ≡ true = grind (arith, nat_tests) in
-    rw (a, b) (sym (none_starts n rest k w.0 w.1)))
+    rw (a, b) (sym (at_other true false n rest k w.0 w.1)))
     (λ (w : (0 < k) × (n ≤ k)).
     let low = w.0 in
     let high = w.1 in
     let a : (k == 0) ≡ false = grind (arith, nat_tests) in
     let b : nat_lt k n ≡ false = grind (arith, nat_tests) in
-    rw (a, b) (functions_same functions h.1 (k - n) ∙ sym (later_starts n rest k pos w.1)))
+    rw (a, b) (functions_same functions h.1 (k - n) ∙ sym (at_later true false n rest k pos w.1)))
     later)
     (places k n)

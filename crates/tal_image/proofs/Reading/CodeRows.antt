@@ -1,7 +1,7 @@
 -- How blocks and marks are read, one field after another.
-use Rattle.std.proofs.Common.{◌≡◌, ℕ, zero, suc, min, Bool, cond, List, [], ◌∷◌, length, drop, Ok, Err, refl, ◌∙◌, arith}
+use Rattle.std.proofs.Common.{◌≡◌, ℕ, Bool, cond, List, Ok, Err}
 use Rattle.file_fields.specs.declared.fault.ImageFault.TheVariants.{Bad}
-use Rattle.file_fields.specs.Grammar.{done, checked, each, then_with}
+use Rattle.file_fields.specs.Grammar.{done, checked, each}
 use Rattle.file_fields.specs.Reading.{◌▸◌, word_at, pair_at, run}
 use Rattle.file_fields.specs.Composed.{then_run, run-then_with, pair_run}
 use Rattle.tal_image.specs.Conditions.{Tables, between}
@@ -29,9 +29,3 @@ unfolding mark_where
 mark_run place word file at =
     number_then place (λ at. Bad at 26) file at _ _ (λ offset.
     pair_run (word offset.0) (λ tag index at. Bad at 27) (λ tag index. done (record { offset = offset.0; tag = tag; index = index })) file offset.1)
-
--- no more is left of a list than it has
-pub drop_min : {A : Type 0} (n : ℕ) (xs : List A) → drop (min (length xs) n) xs ≡ drop n xs
-drop_min zero xs = let e : min (length xs) zero ≡ 0 = omega arith in rw e refl
-drop_min (suc n) [] = let e : min 0 (suc n) ≡ 0 = omega arith in rw e refl
-drop_min (suc n) (x ∷ xs) = let e : min (suc (length xs)) (suc n) ≡ suc (min (length xs) n) = omega arith in rw e (drop_min n xs)

@@ -1,6 +1,6 @@
 -- What the reader of a whole image reads is what the fields of an image say.
-use Rattle.std.proofs.Common.{◌≡◌, ℕ, zero, suc, ◌+◌, ◌-◌, ◌*◌, Bool, ◌&&◌, cond, Option, List, [], ◌∷◌, length, map, take, drop, Result, Ok, Err, refl, sym, ap, ◌∙◌, arith}
-use Rattle.std.specs.Prelude.{nat_le, is_some, slice_get, if◌then◌else◌}
+use Rattle.std.proofs.Common.{◌≡◌, ℕ, zero, suc, ◌+◌, ◌-◌, ◌*◌, Bool, ◌&&◌, Option, List, [], ◌∷◌, length, map, take, drop, Result, Ok, Err, refl, sym, ap, ◌∙◌, arith}
+use Rattle.std.specs.Prelude.{nat_le, is_some, slice_get}
 use Rattle.std.specs.Option.{option_map}
 use Rattle.ia32_code.specs.Decoding.{DecodedLaw}
 use Rattle.object_layout.specs.declared.rows.FunRow.{FunRow}
@@ -9,18 +9,17 @@ use Rattle.object_layout.specs.declared.rows.ClassRow.{ClassRow}
 use Rattle.object_layout.specs.declared.rows.KindRow.{KindRow}
 use Rattle.tal_types.specs.declared.signatures.Sig.{Sig}
 use Rattle.file_fields.specs.declared.fault.ImageFault.{ImageFault}
-use Rattle.file_fields.specs.declared.fault.ImageFault.TheVariants.{Bad}
 use Rattle.tal_image.specs.declared.parts.Header.{Header}
 use Rattle.tal_image.specs.declared.parts.FunctionPart.{FunctionPart}
-use Rattle.tal_image.specs.declared.parts.MarkPart.{MarkPart}
-use Rattle.tal_image.specs.Image.{ImageParts, ArrayPart, BlockPart}
+use Rattle.tal_image.specs.declared.start.Start.{Start}
+use Rattle.tal_image.specs.Image.{ImageParts, ArrayPart}
 use Rattle.object_layout.specs.Areas.{code_start, statics_start}
-use Rattle.tal_image.specs.Conditions.{Tables, Spelled, between, slots_fit, block_fits, begins_at, function_begins, marked_number_at, mark_fits, mark_word, word_fits, same_number, fun_rows, array_places}
+use Rattle.tal_image.specs.Conditions.{Tables, Spelled, block_fits, begins_at, function_begins, marked_number_at, mark_fits, mark_word, word_fits, same_number, fun_rows, array_places}
 use Rattle.file_fields.specs.Grammar.{Grammar, AreBytes, done, many, then_with}
 use Rattle.file_fields.specs.Reading.{◌▸◌, run}
 use Rattle.file_fields.specs.Composed.{run-then_with}
-use Rattle.tal_image.specs.Fields.{block_where, mark_where, tables_of, header_fields, class_fields, with_class, coded_fields, image_fields, block_fields, mark_fields, bodies, all_instructions, code_bytes, after_block, after_mark, sigs_part, functions_part, entries_part, classes_part, kinds_part, statics_part, arrays_part, blocks_part, marks_part, CodedImage, coded}
-use Rattle.tal_image.specs.CodeReading.{instruction_starts, function_starts, starts_at, starts_behind, code_at, place_fits, marked_number_in, offset_fits, mark_word_by, mark_says}
+use Rattle.tal_image.specs.Fields.{block_where, mark_where, tables_of, header_fields, coded_fields, image_fields, bodies, all_instructions, code_bytes, after_block, after_mark, sigs_part, functions_part, entries_part, classes_part, kinds_part, statics_part, arrays_part, blocks_part, marks_part, CodedImage, coded}
+use Rattle.tal_image.specs.CodeReading.{instruction_starts, function_starts, starts_at, starts_behind, code_at, place_fits, start_at, is_start, start_number, offset_fits, mark_word_by, mark_says}
 use Rattle.tal_image.specs.ImageReading.{FrontParts, CodeParts, image_from, front_at, behind_at, image_at}
 use Rattle.tal_image.proofs.Reading.Limits.{AllPositive, functions_fit}
 use Rattle.tal_image.proofs.Reading.Code.{bodies_stand, bytes_are, starts_same, number_same, functions_same}
@@ -28,8 +27,8 @@ use Rattle.tal_image.proofs.Reading.Code.{bodies_stand, bytes_are, starts_same, 
 -- ---- blocks
 
 -- a block may stand where an instruction begins that is not the first of a function
-place_same : (functions : List FunctionPart) (code : List Spelled) (begun firsts : List Bool) (least n : ℕ)
-    → is_some (begins_at n code) ≡ starts_at begun n → function_begins n functions ≡ starts_at firsts n
+place_same : (functions : List FunctionPart) (code : List Spelled) (begun : List Start) (firsts : List Bool) (least n : ℕ)
+    → is_some (begins_at n code) ≡ is_start (start_at begun n) → function_begins n functions ≡ starts_at firsts n
     → block_fits functions code least n ≡ place_fits begun firsts least n
 unfolding block_fits place_fits
 place_same functions code begun firsts least n e f = rw (e, f) refl
@@ -57,17 +56,17 @@ unfolding mark_word mark_word_by
 word_same t functions statics arrays tag index = rw (sym (address_at (fun_rows code_start functions) index)) refl
 
 -- a mark may stand where a number is marked
-offset_same : (code : List Spelled) (bytes : List ℕ) (begun : List Bool) (least n : ℕ) → marked_number_at n code ≡ marked_number_in bytes begun n
-    → mark_fits code least n ≡ offset_fits bytes begun least n
+offset_same : (code : List Spelled) (begun : List Start) (least n : ℕ) → marked_number_at n code ≡ start_number (start_at begun n)
+    → mark_fits code least n ≡ offset_fits begun least n
 unfolding mark_fits offset_fits
-offset_same code bytes begun least n same = ap (λ (o : Option ℕ). nat_le least n && is_some o) same
+offset_same code begun least n same = ap (λ (o : Option ℕ). nat_le least n && is_some o) same
 
 -- and its tag and index say that number
-said_same : (t : Tables) (functions : List FunctionPart) (statics : ℕ) (arrays : List ArrayPart) (code : List Spelled) (bytes : List ℕ) (begun : List Bool) (n tag index : ℕ)
-    → marked_number_at n code ≡ marked_number_in bytes begun n
-    → word_fits t functions statics arrays (marked_number_at n code) tag index ≡ mark_says t (addresses functions) (places statics arrays) bytes begun n tag index
+said_same : (t : Tables) (functions : List FunctionPart) (statics : ℕ) (arrays : List ArrayPart) (code : List Spelled) (begun : List Start) (n tag index : ℕ)
+    → marked_number_at n code ≡ start_number (start_at begun n)
+    → word_fits t functions statics arrays (marked_number_at n code) tag index ≡ mark_says t (addresses functions) (places statics arrays) begun n tag index
 unfolding word_fits
-said_same t functions statics arrays code bytes begun n tag index same =
+said_same t functions statics arrays code begun n tag index same =
     ap (λ (o : Option ℕ). same_number o (marked_number_at n code)) (word_same t functions statics arrays tag index)
     ∙ ap (same_number (mark_word_by t (addresses functions) (places statics arrays) tag index)) same
 
@@ -99,11 +98,11 @@ abbrev one_list : Result (List (List Spelled) × ℕ) ImageFault → Result (Lis
 one_list z = z ▸ λ x. Ok (all_instructions x.0, x.1)
 
 -- where they begin
-abbrev starts_of : List (List Spelled) × ℕ → List Bool × ℕ
+abbrev starts_of : List (List Spelled) × ℕ → List Start × ℕ
 starts_of x = (instruction_starts (all_instructions x.0), x.1)
 
 -- the code, of which it is kept where instructions begin
-code_step : {D : Type 0} (functions : List FunctionPart) (f : List (List Spelled) → Grammar CodedImage) (front : List Bool × ℕ → Result (D × ℕ) ImageFault)
+code_step : {D : Type 0} (functions : List FunctionPart) (f : List (List Spelled) → Grammar CodedImage) (front : List Start × ℕ → Result (D × ℕ) ImageFault)
     (behind : D × ℕ → Result (ImageParts × ℕ) ImageFault) (file : List ℕ) (at : ℕ)
     → ((x : List (List Spelled) × ℕ) → run (bodies functions) file at ≡ Ok x → AreOne f file starts_of front behind x)
     → (run (then_with (bodies functions) f) file at ▸ only_image) ≡ ((code_at functions file at ▸ front) ▸ behind)
@@ -141,8 +140,8 @@ behind_fields h sigs functions entries classes kinds statics arrays =
     done (coded h sigs functions entries classes kinds statics arrays code blocks marks))))
 
 -- the blocks
-blocks_run : (h : Header) (functions : List FunctionPart) (all : List Spelled) (begun : List Bool) (file : List ℕ) (at : ℕ)
-    → AllPositive functions → ((n : ℕ) → is_some (begins_at n all) ≡ starts_at begun n)
+blocks_run : (h : Header) (functions : List FunctionPart) (all : List Spelled) (begun : List Start) (file : List ℕ) (at : ℕ)
+    → AllPositive functions → ((n : ℕ) → is_some (begins_at n all) ≡ is_start (start_at begun n))
     → run (blocks_part h functions all) file at
     ≡ run (many h.blocks (λ later least. block_where (tables_of h) (place_fits begun (function_starts functions) least)) after_block 0) file at
 blocks_run h functions all begun file at positive starts = λ j.
@@ -150,13 +149,13 @@ blocks_run h functions all begun file at positive starts = λ j.
     run (many h.blocks (λ later least. block_where (tables_of h) (place least)) after_block 0) file at
 
 -- the marks
-marks_run : (h : Header) (functions : List FunctionPart) (arrays : List ArrayPart) (all : List Spelled) (bytes : List ℕ) (begun : List Bool) (file : List ℕ) (at : ℕ)
-    → ((n : ℕ) → marked_number_at n all ≡ marked_number_in bytes begun n)
+marks_run : (h : Header) (functions : List FunctionPart) (arrays : List ArrayPart) (all : List Spelled) (begun : List Start) (file : List ℕ) (at : ℕ)
+    → ((n : ℕ) → marked_number_at n all ≡ start_number (start_at begun n))
     → run (marks_part h functions arrays all) file at
-    ≡ run (many h.marks (λ later least. mark_where (offset_fits bytes begun least) (mark_says (tables_of h) (addresses functions) (places h.statics arrays) bytes begun)) after_mark 0) file at
-marks_run h functions arrays all bytes begun file at same = λ j.
-    let place = λ (least n : ℕ). offset_same all bytes begun least n (same n) j in
-    let word = λ (n tag index : ℕ). said_same (tables_of h) functions h.statics arrays all bytes begun n tag index (same n) j in
+    ≡ run (many h.marks (λ later least. mark_where (offset_fits begun least) (mark_says (tables_of h) (addresses functions) (places h.statics arrays) begun)) after_mark 0) file at
+marks_run h functions arrays all begun file at same = λ j.
+    let place = λ (least n : ℕ). offset_same all begun least n (same n) j in
+    let word = λ (n tag index : ℕ). said_same (tables_of h) functions h.statics arrays all begun n tag index (same n) j in
     run (many h.marks (λ later least. mark_where (place least) word) after_mark 0) file at
 
 module _ (law : DecodedLaw) (file : List ℕ) (fits : AreBytes file) (h : Header) (sigs : List Sig) (functions : List FunctionPart)
@@ -177,7 +176,7 @@ module _ (law : DecodedLaw) (file : List ℕ) (fits : AreBytes file) (h : Header
       step (blocks_part h functions all) _ _ _ (behind_front tables) file code.1
       (blocks_run h functions all begun file code.1 positive (λ n. starts_same file at all stand.0 n)) (λ blocks eb.
       step (marks_part h functions arrays all) _ _ _ (behind_front tables) file blocks.1
-      (marks_run h functions arrays all (drop at file) begun file blocks.1 (λ n. number_same file at all stand.0 n)) (λ marks em.
+      (marks_run h functions arrays all begun file blocks.1 (λ n. number_same file at all stand.0 n)) (λ marks em.
       let count : length (code_bytes all) ≡ code.1 - at = let q = stand.1 in omega arith in
       ap (λ (z : List ℕ). let r : Result (ImageParts × ℕ) ImageFault = Ok (image_from tables (record { code = z; blocks = blocks.0; marks = marks.0 }), marks.1) in r)
       (bytes_are file at all stand.0 ∙ ap (λ (n : ℕ). take n (drop at file)) count))))

@@ -9,7 +9,7 @@ use Rattle.tal_image.specs.Image.{ArrayPart}
 use Rattle.tal_image.specs.Conditions.{Tables, length_fits, sig_fits, kind_fits, array_fits, with_array, numbers_given}
 use Rattle.file_fields.specs.Grammar.{Grammar, checked, each, many}
 use Rattle.file_fields.specs.Reading.{◌▸◌, word_at, run}
-use Rattle.file_fields.specs.Composed.{number_run, checked_run, many_run}
+use Rattle.file_fields.specs.Composed.{checked_run, many_run}
 use Rattle.tal_image.specs.Fields.{any_number, function_fields, array_fields, after_function}
 use Rattle.tal_image.proofs.Reading.Lengths.{code_length, array_space}
 use Rattle.tal_image.proofs.Reading.RowReadings.{function_run, array_run}

@@ -1,19 +1,15 @@
 -- How the rows of the tables are read, one field after another.
-use Rattle.std.proofs.Common.{◌≡◌, ℕ, zero, suc, ◌+◌, Bool, true, false, not, cond, ◌&&◌, List, [], ◌∷◌, length, take, drop, Result, Ok, Err, refl, sym, ap, ◌∙◌}
+use Rattle.std.proofs.Common.{◌≡◌, ℕ, suc, Bool, true, false, not, cond, ◌&&◌, List, [], ◌∷◌, Result, Ok, Err, refl, ap, ◌∙◌}
 use Rattle.std.specs.Prelude.{◌==◌, if◌then◌else◌}
-use Rattle.object_layout.specs.declared.rows.FieldTy.{FieldTy}
 use Rattle.object_layout.specs.declared.rows.KindRow.{KindRow}
 use Rattle.tal_types.specs.declared.types.Ty.{Ty}
-use Rattle.tal_types.specs.declared.signatures.Sig.{Sig}
 use Rattle.file_fields.specs.declared.fault.ImageFault.{ImageFault}
 use Rattle.file_fields.specs.declared.fault.ImageFault.TheVariants.{Magic, Version, Bad}
 use Rattle.file_fields.specs.Grammar.{Grammar, done, field, checked, each, then_with}
 use Rattle.file_fields.specs.Reading.{◌▸◌, word_at, pair_at, run}
-use Rattle.file_fields.specs.Composed.{bind_then, same_bind, run-then_with, then_run, number_run, pair_run, checked_run, many_run}
+use Rattle.file_fields.specs.Composed.{bind_then, same_bind, run-then_with, then_run, number_run, pair_run, many_run}
 use Rattle.tal_image.specs.declared.parts.Header.{Header}
-use Rattle.tal_image.specs.declared.parts.FunctionPart.{FunctionPart}
-use Rattle.tal_image.specs.Image.{ArrayPart}
-use Rattle.tal_image.specs.Conditions.{Tables, between, heap_fits, stacks_fit, sigs_fit, functions_fit, classes_fit, kinds_fit, statics_fit, arrays_fit, code_fits, blocks_fit, marks_fit, type_fits, is_field_tag, length_fits, sig_fits, kind_fits, array_fits, numbers_given}
+use Rattle.tal_image.specs.Conditions.{Tables, between, heap_fits, type_fits, is_field_tag, length_fits, sig_fits, kind_fits, array_fits, numbers_given}
 use Rattle.tal_image.specs.Fields.{header_fields, type_with, type_field, field_type_field, field_type_with, sig_fields, function_fields, kind_fields, any_number, array_fields}
 
 -- a number, and what is read then

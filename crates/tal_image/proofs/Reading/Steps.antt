@@ -1,5 +1,5 @@
 -- Parts that are read one after another: what is read as far as they are there, or up to one that is refused.
-use Rattle.std.proofs.Common.{◌≡◌, ℕ, ◌-◌, Bool, List, length, map, take, drop, Result, Ok, refl, sym, ap, subst, ◌∙◌}
+use Rattle.std.proofs.Common.{◌≡◌, ℕ, ◌-◌, List, length, map, take, drop, Result, Ok, refl, sym, ap, subst, ◌∙◌}
 use Rattle.std.proofs.lemmas.List.{length-map}
 use Rattle.object_layout.specs.declared.rows.FieldTy.{FieldTy}
 use Rattle.object_layout.specs.declared.rows.ClassRow.{ClassRow}
@@ -12,6 +12,7 @@ use Rattle.file_fields.specs.Composed.{passed_on}
 use Rattle.tal_image.specs.declared.parts.Header.{Header}
 use Rattle.tal_image.specs.declared.parts.FunctionPart.{FunctionPart}
 use Rattle.tal_image.specs.declared.parts.MarkPart.{MarkPart}
+use Rattle.tal_image.specs.declared.start.Start.{Start}
 use Rattle.tal_image.specs.Image.{ArrayPart, BlockPart}
 use Rattle.tal_image.specs.Conditions.{Tables, fields_fit, methods_fit}
 use Rattle.tal_image.specs.Fields.{tables_of, mark_where, after_mark, header_fields, sigs_part, functions_part, entries_part, classes_part, kinds_part, statics_part, arrays_part, field_type_field, method_list, parent_of}
@@ -72,7 +73,7 @@ module _ (file : List ℕ) (at : ℕ) (h : Header) (a : ℕ) (eh : run header_fi
 
 -- ---- the code, and what is said of it
 
-module _ (f : FrontParts) (file : List ℕ) (at : ℕ) (starts : List Bool) (a : ℕ) (es : code_at f.functions file at ≡ Ok (starts, a)) where
+module _ (f : FrontParts) (file : List ℕ) (at : ℕ) (starts : List Start) (a : ℕ) (es : code_at f.functions file at ≡ Ok (starts, a)) where
   pub no_blocks : (e : ImageFault) → Fails e (run (blocks_by f starts) file a) → Fails e (behind_at f file at)
   unfolding behind_at
   no_blocks e q = rw es (refused e (run (blocks_by f starts) file a) _ q)
@@ -81,15 +82,15 @@ module _ (f : FrontParts) (file : List ℕ) (at : ℕ) (starts : List Bool) (a :
       (t : Tables) (addresses places : List ℕ) (et : t ≡ tables_of f.header) (ea : addresses ≡ addresses_of f) (ep : places ≡ places_of f) where
     -- marks of what stands at these addresses
     abbrev told : Grammar (List MarkPart)
-    told = many f.header.marks (λ later least. mark_where (offset_fits (drop at file) starts least) (mark_says t addresses places (drop at file) starts)) after_mark 0
+    told = many f.header.marks (λ later least. mark_where (offset_fits starts least) (mark_says t addresses places starts)) after_mark 0
 
-    told_are : run told file b ≡ run (marks_by f (drop at file) starts) file b
+    told_are : run told file b ≡ run (marks_by f starts) file b
     told_are = rw (et, ea, ep) refl
 
     pub no_marks : (e : ImageFault) → Fails e (run told file b) → Fails e (behind_at f file at)
     unfolding behind_at
     no_marks e q =
-        rw (es, eb) (refused e (run (marks_by f (drop at file) starts) file b) _ (subst (λ (r : Result (List MarkPart × ℕ) ImageFault). Fails e r) told_are q))
+        rw (es, eb) (refused e (run (marks_by f starts) file b) _ (subst (λ (r : Result (List MarkPart × ℕ) ImageFault). Fails e r) told_are q))
 
     pub code_read : (marks : List MarkPart) (end : ℕ) (code : List ℕ) → run told file b ≡ Ok (marks, end)
         → code ≡ take (a - at) (drop at file) → behind_at f file at ≡ Ok (record { code = code; blocks = blocks; marks = marks }, end)

@@ -15,7 +15,7 @@ loop-left-preserved c =
     let fits : c.in-One.len ≤ c.loop-left.left = omega (arith, c.if-length-left.false, c.from-length.ensures) in
     let a = c.in-One.ensures.answers in
     record {
-      read = rw (c.in_ok-put_span-in-One.ensures, c.from-length.ensures) (body_on c.args.starts.now.items c.loop-left.starts.items c.loop-left.left r.file.now r.at (body_at c.args.size c.args.reader.now.file.now c.args.reader.now.at) c.loop-left.invariant.read c.in-One.inst c.in-One.len c.loop-left-test.true (rw (tail_is r.at r.file.now) at c.in-One.ensures.one) a.0 (rw (tail_is r.at r.file.now) at a.1) fits);
+      read = rw (c.in_ok-put_instruction-in-One.ensures, c.from-length.ensures) (body_on c.args.starts.now.items c.loop-left.starts.items c.loop-left.left r.file.now r.at (body_at c.args.size c.args.reader.now.file.now c.args.reader.now.at) c.loop-left.invariant.read c.in-One.inst c.in-One.len c.loop-left-test.true (rw (tail_is r.at r.file.now) at c.in-One.ensures.one) a.0 (rw (tail_is r.at r.file.now) at a.1) fits);
       onward = omega (arith, c.loop-left.invariant.onward);
       file = c.loop-left.invariant.file;
     }

@@ -1,4 +1,3 @@
-use Rattle.std.proofs.Common.{◌≡◌}
 use Rattle.tal_image.proofs.Finding.DataArrays.{array_space-sum}
 use Rattle.tal_image.proofs.Reading.Limits.{arrays_fit}
 use Rattle.tal_image.proofs.row_reader.arrays.Goals as goal

@@ -1,4 +1,3 @@
-use Rattle.std.proofs.Common.{◌≡◌}
 use Rattle.tal_image.proofs.Reading.Limits.{functions_fit}
 use Rattle.tal_image.proofs.Finding.Spans.{code_length-sum}
 use Rattle.tal_image.proofs.row_reader.functions.Goals as goal
