@@ -52,14 +52,6 @@ stops_later before after cs ds Usage none h = absurd h
 stops_later before after cs ds Write none h = absurd h
 stops_later before after cs ds s none h = tells_later before.told cs ds s none h
 
--- bytes that stop a command stop it with more causes behind
-pub bytes_more : (told : Option FileMap) (cs ds : List Cause) (s : Stop) → StopsBy told cs s → StopsBy told (cs ++ ds) s
-bytes_more told cs ds (Read n) h = absurd h
-bytes_more told cs ds NoMemory h = tt
-bytes_more told cs ds Usage h = absurd h
-bytes_more told cs ds Write h = absurd h
-bytes_more told cs ds s h = tells_more told cs ds s h
-
 -- bytes that were read stop a command whose files they are
 pub stops_by_bytes : (before after : FilesSeen) (cs : List Cause) (s : Stop) → StopsBy before.told cs s → StopsAt before after cs s
 stops_by_bytes before after cs (Read n) h = absurd h
@@ -67,25 +59,6 @@ stops_by_bytes before after cs NoMemory h = tt
 stops_by_bytes before after cs Usage h = absurd h
 stops_by_bytes before after cs Write h = absurd h
 stops_by_bytes before after cs s h = h
-
--- the same, of an answer, behind causes of which none holds
-pub answer_stops_later : {T : Type 0} (before after : FilesSeen) (cs ds : List Cause) (r : Result T Stop) → NoneHolds before.told cs
-    → IfErr r (λ s. StopsBy before.told ds s) → IfErr r (λ s. StopsAt before after (cs ++ ds) s)
-answer_stops_later before after cs ds (Ok x) none h = tt
-answer_stops_later before after cs ds (Err s) none h = stops_later before after cs ds s none (stops_by_bytes before after ds s h)
-
--- what stops a command after a read that raised no count stops it from before that read
-pub stops_from : (before mid after : FilesSeen) (cs : List Cause) (s : Stop) → mid.told ≡ before.told → mid.steady ≡ before.steady
-    → mid.read_faults ≡ before.read_faults → StopsAt mid after cs s → StopsAt before after cs s
-stops_from before mid after cs (Read n) told steady count h = (
-  subst (λ (t : Option FileMap). ComesTo t cs (Missing n.now)) told h.0,
-  subst (λ (k : ℕ). Faulted k after.read_faults) count h.1,
-  λ is. subst (λ (t : Option FileMap). Lacks t n.now) told (h.2 (steady ∙ is)),
-)
-stops_from before mid after cs NoMemory told steady count h = tt
-stops_from before mid after cs Usage told steady count h = absurd h
-stops_from before mid after cs Write told steady count h = absurd h
-stops_from before mid after cs s told steady count h = subst (λ (t : Option FileMap). TellsFirst t cs s) told h
 
 -- two causes to which a command comes and which hold are one
 one_coming : (files : FileMap) (cs : List Cause) (a b : Cause) (s t : List ℕ) → ComesTo (Some files) cs a → ComesTo (Some files) cs b

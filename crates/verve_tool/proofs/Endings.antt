@@ -7,19 +7,17 @@ use Rattle.tal_image.specs.Image.{ImageParts}
 use Rattle.file_fields.specs.declared.fault.ImageFault.TheVariants as fault
 use Rattle.kernel_machine.specs.Machine.{MachineView, Follows, end_of}
 use Rattle.kernel_machine.specs.Report.{ReportText}
-use Rattle.kernel_machine.specs.declared.ending.Ending.{Ending}
-use Rattle.kernel_machine.specs.declared.ending.Ending.TheVariants as ending
+use Rattle.kernel_machine.specs.States.{Ending}
 use Rattle.kernel_machine.specs.declared.run_end.RunEnd.{RunEnd}
 use Rattle.kernel_machine.specs.declared.run_end.RunEnd.TheVariants as run_end
 use Rattle.stack_states.specs.declared.journal_entry.Entry.{Entry}
-use Rattle.verve_tool.specs.Words.{RunWords, Request, Run, Check}
+use Rattle.verve_tool.specs.Commands.{RunWords, Request, Run, Check, causes, Loaded}
 use Rattle.verve_tool.specs.Lines.{accepted_text}
 use Rattle.verve_tool.specs.Causes.{Cause, Missing, Long, Malformed, IllTyped, Unbuilt, Eventful, TypedImage, status_of as status_of_cause}
-use Rattle.verve_tool.specs.Commands.{causes, Loaded}
 use Rattle.verve_tool.specs.Seen.{FilesSeen, SinkSeen, Call, OnlyReads, OnlyPuts, Leaves}
-use Rattle.verve_tool.specs.Runs.{RanFor, IsOver, RanWithin, RanWhole, text_of, status_at}
+use Rattle.verve_tool.specs.Runs.{IsOver, RanWithin, text_of, status_at}
 use Rattle.verve_tool.specs.Outcome.{Ends, Finished, Did, Written, PartWritten, Idle, MayHaveRun, Stopped}
-use Rattle.verve_tool.specs.Stops.{Acted, StopsAt, TellsFirst, Tells, IsUnread, IsUnwritten, status_of, line_of, told_status, told_line}
+use Rattle.verve_tool.specs.Stops.{Acted, StopsAt, TellsFirst, Tells, IsUnread, status_of, line_of, told_status, told_line}
 use Rattle.verve_tool.specs.declared.status.Status.{Status}
 use Rattle.verve_tool.specs.declared.status.Status.TheVariants as status
 use Rattle.verve_tool.specs.declared.stop.Stop.{Stop}
@@ -31,9 +29,8 @@ unread_status (Read name) h = refl
 unread_status _ h = absurd h
 
 -- the text was not written
-pub unwritten_status : (s : Stop) → IsUnwritten s → status_of s ≡ status.WriteFault
-unwritten_status Write h = refl
-unwritten_status _ h = absurd h
+pub unwritten_status : (s : Stop) → s ≡ Write → status_of s ≡ status.WriteFault
+unwritten_status s is = rw is refl
 
 -- a stream into which nothing was put
 pub no_puts : (s : SinkSeen) → OnlyPuts s s ⊥
@@ -110,16 +107,10 @@ over : (turns : ℕ) (m : MachineView) → (end_of m.ending ≡ run_end.Turns �
 over turns m all None is = inl (all (ap (λ o. end_of o) is))
 over turns m all (Some e) is = inr (rw is refl)
 
--- the machine that is kept has the image of the files and ran it, and its run is over
-abbrev ran_whole : (c : Call) (run : RunWords) (m : MachineView) → Loaded c.files.told run m.image → RanFor run.turns c.entries m
-    → c.kept ≡ Some m → IsOver run.turns m → RanWhole c run
-ran_whole c run m loaded ran is done = record { within = record { machine = m; is = is; loaded = loaded; ran = ran }; over = done }
-
 -- a run that is over did the work of its command
-did_run : (c : Call) (run : RunWords) (m : MachineView) (e : RunEnd) → Loaded c.files.told run m.image → (ran : RanFor run.turns c.entries m)
-    → c.kept ≡ Some m → IsOver run.turns m → e ≡ end_of m.ending → Did c (Run run) (status_at e) (text_of ran.follows.run)
-did_run c run m e loaded ran is done end =
-    (ran_whole c run m loaded ran is done, ap status_at (end ∙ ap (λ o. end_of o) ran.follows.stands.ending), refl)
+did_run : (c : Call) (run : RunWords) (ran : RanWithin c run) (e : RunEnd) → IsOver run.turns ran.machine → e ≡ end_of ran.machine.ending
+    → Did c (Run run) (status_at e) (text_of ran.follows.run)
+did_run c run ran e done end = (ran, done, ap status_at (end ∙ ap (λ o. end_of o) ran.follows.stands.ending), refl)
 
 -- the report that was told is that of the typed machine's run
 report_is : (entries : List Entry) (m : MachineView) (e : RunEnd) (f : Follows m entries) → e ≡ end_of m.ending
@@ -134,28 +125,26 @@ ends_finished c request (run_end.KernelFault v) line h = h
 ends_finished c request run_end.NoMemory line h = h
 
 -- a run ended as it was told
-pub ends_told : (c : Call) (run : RunWords) (m : MachineView) (e : RunEnd) (r : Result Status Stop) → Loaded c.files.told run m.image
-    → RanFor run.turns c.entries m → c.kept ≡ Some m → (e ≡ run_end.Turns → m.turns ≡ run.turns) → Tells c.out c.out_after m e r
-    → Ends c (Run run) (told_status r) (told_line r)
-ends_told c run m e (Ok s) loaded ran is all t = subst (λ (x : Status). Ends c (Run run) x []) (sym t.1) (ends_finished c (Run run) e [] (record {
+pub ends_told : (c : Call) (run : RunWords) (ran : RanWithin c run) (e : RunEnd) (r : Result Status Stop)
+    → (e ≡ run_end.Turns → ran.machine.turns ≡ run.turns) → Tells c.out c.out_after ran.machine e r → Ends c (Run run) (told_status r) (told_line r)
+ends_told c run ran e (Ok s) all t = subst (λ (x : Status). Ends c (Run run) x []) (sym t.1) (ends_finished c (Run run) e [] (record {
   text = text_of ran.follows.run;
-  did = did_run c run m e loaded ran is (over run.turns m (λ h. all (t.0 ∙ h)) m.ending refl) t.0;
-  written = subst (λ (x : List ℕ). Gained c.out.told c.out_after.told x) (report_is c.entries m e ran.follows t.0) t.2;
+  did = did_run c run ran e (over run.turns ran.machine (λ h. all (t.0 ∙ h)) ran.machine.ending refl) t.0;
+  written = subst (λ (x : List ℕ). Gained c.out.told c.out_after.told x) (report_is c.entries ran.machine e ran.follows t.0) t.2;
   line_is = refl;
 }))
-ends_told c run m e (Err Write) loaded ran is all t = record {
+ends_told c run ran e (Err Write) all t = record {
   s = status_at e;
   text = text_of ran.follows.run;
-  did = did_run c run m e loaded ran is (over run.turns m (λ h. all (t.0 ∙ h)) m.ending refl) t.0;
-  part = (t.1, subst (λ (x : List ℕ). GainedFront c.out.told c.out_after.told x) (report_is c.entries m e ran.follows t.0) t.2);
+  did = did_run c run ran e (over run.turns ran.machine (λ h. all (t.0 ∙ h)) ran.machine.ending refl) t.0;
+  part = (t.1, subst (λ (x : List ℕ). GainedFront c.out.told c.out_after.told x) (report_is c.entries ran.machine e ran.follows t.0) t.2);
   line_is = refl;
 }
-ends_told c run m e (Err NoMemory) loaded ran is all t =
-    record { silent = t; left = inr (record { machine = m; is = is; loaded = loaded; ran = ran }); line_is = refl }
-ends_told c run m e (Err _) loaded ran is all t = absurd t
+ends_told c run ran e (Err NoMemory) all t = record { silent = t; left = inr ran; line_is = refl }
+ends_told c run ran e (Err _) all t = absurd t
 
 -- what was told of a run tells each fault
-pub told_puts : (r : Result Status Stop) → IsErrAnd r IsUnwritten → told_status r ≡ status.WriteFault
+pub told_puts : (r : Result Status Stop) → IsErrAnd r (λ s. s ≡ Write) → told_status r ≡ status.WriteFault
 told_puts (Ok s) h = absurd h
 told_puts (Err s) h = unwritten_status s h
 
@@ -196,10 +185,10 @@ acted_wanting c request idle left reads puts = record {
 }
 
 -- a run was made and told
-pub acted_run : (c : Call) (run : RunWords) (m : MachineView) (e : RunEnd) (r : Result Status Stop) → Loaded c.files.told run m.image
-    → RanFor run.turns c.entries m → c.kept ≡ Some m → (e ≡ run_end.Turns → m.turns ≡ run.turns) → Tells c.out c.out_after m e r
-    → OnlyReads c.files c.files_after ⊥ → OnlyPuts c.out c.out_after (IsErrAnd r IsUnwritten) → Acted (Run run) c r
-acted_run c run m e r loaded ran is all t reads puts = record {
-  ends = ends_told c run m e r loaded ran is all t;
-  leaves = leaves_all c (told_status r) ⊥ (IsErrAnd r IsUnwritten) reads puts (λ h. absurd h) (told_puts r);
+pub acted_run : (c : Call) (run : RunWords) (ran : RanWithin c run) (e : RunEnd) (r : Result Status Stop)
+    → (e ≡ run_end.Turns → ran.machine.turns ≡ run.turns) → Tells c.out c.out_after ran.machine e r
+    → OnlyReads c.files c.files_after ⊥ → OnlyPuts c.out c.out_after (IsErrAnd r (λ s. s ≡ Write)) → Acted (Run run) c r
+acted_run c run ran e r all t reads puts = record {
+  ends = ends_told c run ran e r all t;
+  leaves = leaves_all c (told_status r) ⊥ (IsErrAnd r (λ s. s ≡ Write)) reads puts (λ h. absurd h) (told_puts r);
 }

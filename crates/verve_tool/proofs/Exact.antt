@@ -8,9 +8,8 @@ use Rattle.outside.specs.Faults.{Faulted, Quiet}
 use Rattle.tal_image.specs.Image.{ImageParts}
 use Rattle.kernel_machine.specs.declared.run_end.RunEnd.{RunEnd}
 use Rattle.kernel_machine.specs.declared.run_end.RunEnd.TheVariants as run_end
-use Rattle.verve_tool.specs.Words.{RunWords, Request, Run, Check, Listing, SpellsRun, WordsOf, NoCommand}
+use Rattle.verve_tool.specs.Commands.{RunWords, Request, Run, Check, Listing, SpellsRun, WordsOf, NoCommand, causes, Serves, NothingStops, MayEnd}
 use Rattle.verve_tool.specs.Causes.{Cause, Missing, IsFirst, NoneHolds, OneCause, TypedImage, status_of}
-use Rattle.verve_tool.specs.Commands.{causes, Serves, NothingStops, MayEnd}
 use Rattle.verve_tool.specs.Seen.{Call}
 use Rattle.verve_tool.specs.Runs.{status_at}
 use Rattle.verve_tool.specs.Outcome.{Outcome, Ends, Finished, Did, PartWritten}
@@ -76,7 +75,7 @@ usage_status words c s line (inr asked) h = absurd (h asked.request asked.spelle
 
 -- the files of a command that did its work are such that it could
 did_serve : (c : Call) (request : Request) (s : Status) (text : List ℕ) → Did c request s text → Serves c.files.told request
-did_serve c (Run run) s text d = (d.0.within.machine.image, d.0.within.loaded)
+did_serve c (Run run) s text d = (d.0.machine.image, d.0.loaded)
 did_serve c (Check name) s text d = (d.0, d.1)
 did_serve c (Listing name) s text d = (d.0, d.1)
 
@@ -89,15 +88,13 @@ run_ends run_end.NoMemory = inl refl
 
 -- a command that did its work has a status of such a command
 did_end : (c : Call) (request : Request) (s : Status) (text : List ℕ) → Did c request s text → MayEnd request s
-did_end c (Run run) s text d = elim (run_ends _) [ inl is ↦ inl (d.1 ∙ is) | inr is ↦ inr (d.1 ∙ is) ]
+did_end c (Run run) s text d = elim (run_ends _) [ inl is ↦ inl (d.2 ∙ is) | inr is ↦ inr (d.2 ∙ is) ]
 did_end c (Check name) s text d = d.3
 did_end c (Listing name) s text d = d.3
 
 -- a text was not written whole, so a fault of the output was counted
 part_fault : (c : Call) (request : Request) (text : List ℕ) → PartWritten c request text → Faulted c.out.faults c.out_after.faults
-part_fault c (Run run) text p = p.0
-part_fault c (Check name) text p = p.0
-part_fault c (Listing name) text p = p.0
+part_fault c request text p = p.0
 
 -- A command that ended so was short of memory, or a read failed, or its files stopped it, or it did its work.
 data Ended (c : Call) (request : Request) (s : Status) : Type 0 where

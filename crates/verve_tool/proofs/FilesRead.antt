@@ -11,11 +11,10 @@ use Rattle.file_fields.specs.declared.fault.ImageFault.TheVariants as fault
 use Rattle.tal_checker.specs.WellTyped.{WellTyped, FirstRefusal, OneRefusal}
 use Rattle.tal_checker.specs.declared.answer.CheckAnswer.{CheckAnswer}
 use Rattle.tal_checker.specs.declared.answer.CheckAnswer.TheVariants as answer
-use Rattle.kernel_machine.specs.Built.{IsBuilt, FirstOutside, first_of, outside}
-use Rattle.verve_tool.specs.Words.{RunWords, Request, Run, Check, Listing}
+use Rattle.kernel_machine.specs.Built.{IsBuilt, FirstOutside, first_of, fields_outside}
+use Rattle.verve_tool.specs.Commands.{RunWords, Request, Run, Check, Listing, causes, Serves, Loaded, NothingStops}
 use Rattle.verve_tool.specs.Lines.{fault_line}
 use Rattle.verve_tool.specs.Causes.{Missing, Long, Malformed, IllTyped, Unbuilt, Eventful, Holds, Fails, NoneHolds, FileRead, HoldsImage, TypedImage}
-use Rattle.verve_tool.specs.Commands.{causes, Serves, Loaded, NothingStops}
 use Rattle.verve_tool.specs.Seen.{FilesSeen}
 use Rattle.verve_tool.specs.Stops.{StopsBy, StopsAt, TellsFirst, stop_of_fault, stop_of_answer}
 use Rattle.verve_tool.proofs.CauseLists.{none_of_both, stops_more, stops_later, stops_by_bytes}
@@ -89,7 +88,7 @@ no_first (x ∷ xs) at e f = cc
 pub not_unbuilt : OneMeaning → (told : Option FileMap) (name : List ℕ) (image : ImageParts) → TypedImage told name image → IsBuilt image
     → Fails told (Unbuilt name)
 not_unbuilt meaning None name image t built = tt
-not_unbuilt meaning (Some files) name image t built = λ line h. no_first (outside image) h.0 built
+not_unbuilt meaning (Some files) name image t built = λ line h. no_first (fields_outside image) h.0 built
     (subst (λ (i : ImageParts). FirstOutside i h.0) (same_image meaning files name h.1.image image h.1.typed.held t.held) h.1.first)
 
 -- an event file that was read and is empty has no events

@@ -1,5 +1,3 @@
-pub mod Number
-pub mod Words
 pub mod Lines
 pub mod Causes
 pub mod Commands

@@ -1,4 +1,4 @@
--- What a command came to, by its status, with the line that it has on the error stream.
+-- What a command came to, by its status, with the line that it has on the error stream, and the number of each status.
 use Rattle.std.specs.Prelude.{◌≡◌, ◌⊎◌, ℕ, List, [], true, None, String}
 use Rattle.std.specs.declared.alloc.Global.{Global}
 use Rattle.outside.specs.FileMaps.{Lacks}
@@ -6,13 +6,12 @@ use Rattle.outside.specs.Faults.{Faulted}
 use Rattle.outside.specs.Sinks.{Gained, GainedFront}
 use Rattle.tal_image.specs.Image.{ImageParts}
 use Rattle.tal_listing.specs.Listing.{ListText}
-use Rattle.verve_tool.specs.Words.{Request, Run, Check, Listing, WordsOf, NoCommand}
 use Rattle.verve_tool.specs.Lines.{accepted_text, usage_line, read_line, write_line, no_memory_line}
 use Rattle.verve_tool.specs.Causes.{Cause, Missing, ComesTo, IsFirst, HoldsImage, TypedImage, status_of}
-use Rattle.verve_tool.specs.Commands.{causes}
+use Rattle.verve_tool.specs.Commands.{Request, Run, Check, Listing, WordsOf, NoCommand, causes}
 use Rattle.verve_tool.specs.Seen.{Call}
 use Rattle.kernel_machine.specs.Machine.{end_of}
-use Rattle.verve_tool.specs.Runs.{RanWithin, RanWhole, typed_run, text_of, status_at}
+use Rattle.verve_tool.specs.Runs.{RanWithin, IsOver, typed_run, text_of, status_at}
 use Rattle.verve_tool.specs.declared.status.Status.{Status}
 use Rattle.verve_tool.specs.declared.status.Status.TheVariants.{Done, Usage, ReadFault, WriteFault, Malformed, Refused, TooLong, KernelFault, NoMemory, NotBuilt}
 
@@ -28,27 +27,23 @@ pub record Idle (c : Call) : Type 0 where
 
 -- a command did its work over its files: this is its status, where the text is written whole, and this its text
 abbrev pub Did : Call → Request → Status → List ℕ → Type 0
-Did c (Run run) s text = (ran : RanWhole c run) × (s ≡ status_at (end_of (typed_run c run ran).state.ending)) × (text ≡ text_of (typed_run c run ran))
+Did c (Run run) s text =
+    (ran : RanWithin c run) × IsOver run.turns ran.machine × (s ≡ status_at (end_of (typed_run c run ran).state.ending)) × (text ≡ text_of (typed_run c run ran))
 Did c (Check name) s text = (image : ImageParts) × TypedImage c.files.told name image × Unrun c × (s ≡ Done) × (text ≡ accepted_text)
 Did c (Listing name) s text = (image : ImageParts) × HoldsImage c.files.told name image × Unrun c × (s ≡ Done) × (text ≡ ListText image)
 
--- the text of a command was written whole where it goes
+-- The text of a command was written whole where it goes: into the output. A command that writes a file has a row of its own.
 abbrev pub Written : Call → Request → List ℕ → Type 0
-Written c (Run run) text = Gained c.out.told c.out_after.told text
-Written c (Check name) text = Gained c.out.told c.out_after.told text
-Written c (Listing name) text = Gained c.out.told c.out_after.told text
+Written c request text = Gained c.out.told c.out_after.told text
 
 -- writing it failed, after a front of it
 abbrev pub PartWritten : Call → Request → List ℕ → Type 0
-PartWritten c (Run run) text = Faulted c.out.faults c.out_after.faults × GainedFront c.out.told c.out_after.told text
-PartWritten c (Check name) text = Faulted c.out.faults c.out_after.faults × GainedFront c.out.told c.out_after.told text
-PartWritten c (Listing name) text = Faulted c.out.faults c.out_after.faults × GainedFront c.out.told c.out_after.told text
+PartWritten c request text = Faulted c.out.faults c.out_after.faults × GainedFront c.out.told c.out_after.told text
 
 -- a command that wanted memory ran for a while or not at all; one that runs nothing did not run
 abbrev pub MayHaveRun : Call → Request → Type 0
 MayHaveRun c (Run run) = Unrun c ⊎ RanWithin c run
-MayHaveRun c (Check name) = Unrun c
-MayHaveRun c (Listing name) = Unrun c
+MayHaveRun c request = Unrun c
 
 -- the work was done, and its text written whole
 pub record Finished (c : Call) (request : Request) (s : Status) (line : List ℕ) : Type 0 where
@@ -95,10 +90,7 @@ Ends c request WriteFault line = Unwritten c request line
 Ends c request ReadFault line = Unread c request line
 Ends c request NoMemory line = Wanting c request line
 Ends c request Usage line = ⊥
-Ends c request Malformed line = Stopped c request Malformed line
-Ends c request Refused line = Stopped c request Refused line
-Ends c request TooLong line = Stopped c request TooLong line
-Ends c request NotBuilt line = Stopped c request NotBuilt line
+Ends c request s line = Stopped c request s line
 
 -- the words are no command, and nothing was done
 pub record NoneAsked (words : List (String Global)) (c : Call) (s : Status) (line : List ℕ) : Type 0 where
@@ -116,3 +108,16 @@ pub record Asked (words : List (String Global)) (c : Call) (s : Status) (line : 
 -- what a call came to
 abbrev pub Outcome : List (String Global) → Call → Status → List ℕ → Type 0
 Outcome words c s line = NoneAsked words c s line ⊎ Asked words c s line
+
+-- the number of each status, which the program exits with
+abbrev pub exit_number : Status → ℕ
+exit_number Done = 0
+exit_number Usage = 1
+exit_number ReadFault = 2
+exit_number WriteFault = 3
+exit_number Malformed = 5
+exit_number Refused = 6
+exit_number TooLong = 9
+exit_number KernelFault = 10
+exit_number NoMemory = 11
+exit_number NotBuilt = 12

@@ -11,7 +11,7 @@ use Rattle.file_fields.specs.declared.fault.ImageFault.{ImageFault}
 use Rattle.file_fields.specs.declared.fault.ImageFault.TheVariants as fault
 use Rattle.tal_checker.specs.declared.answer.CheckAnswer.{CheckAnswer}
 use Rattle.tal_checker.specs.declared.answer.CheckAnswer.TheVariants as answer
-use Rattle.verve_tool.specs.Words.{RunWords, Request, Run, Check, Listing}
+use Rattle.verve_tool.specs.Commands.{RunWords, Request, Run, Check, Listing}
 use Rattle.verve_tool.specs.Lines.{usage_line, read_line, write_line, long_line, no_memory_line, not_built_line, fault_line, refused_line}
 use Rattle.verve_tool.specs.Causes.{Cause, Missing, ComesTo, IsFirst, status_of as status_of_cause}
 use Rattle.verve_tool.specs.Seen.{FilesSeen, SinkSeen, Call, Leaves}
@@ -37,12 +37,8 @@ request_of (command.List image) = Listing image.now
 
 -- the status of an image file's fault
 abbrev pub fault_status : ImageFault → Status
-fault_status fault.Magic = status.Malformed
-fault_status fault.Version = status.Malformed
-fault_status (fault.Short at) = status.Malformed
-fault_status (fault.Rest at) = status.Malformed
-fault_status (fault.Bad at condition) = status.Malformed
 fault_status fault.NoMemory = status.NoMemory
+fault_status f = status.Malformed
 
 -- the status of a command that stopped
 abbrev pub status_of : Stop → Status
@@ -82,11 +78,6 @@ stop_of_answer answer.NoMemory = NoMemory
 abbrev pub IsUnread : Stop → Type 0
 IsUnread (Read name) = Unit {0}
 IsUnread _ = ⊥
-
--- the text was not written
-abbrev pub IsUnwritten : Stop → Type 0
-IsUnwritten Write = Unit {0}
-IsUnwritten _ = ⊥
 
 -- the stop tells the first of these causes that holds
 pub record TellsFirst (told : Option FileMap) (causes : List Cause) (s : Stop) : Type 0 where

@@ -1,6 +1,6 @@
 // The command `check`: whether the image of a file is accepted.
 ghost use Rattle.std.specs.Prelude.{[], None};
-ghost use Rattle.verve_tool.specs.Words.{Check};
+ghost use Rattle.verve_tool.specs.Commands.{Check};
 ghost use Rattle.verve_tool.specs.Seen.{call_of};
 ghost use Rattle.verve_tool.specs.Stops.{Acted};
 

@@ -3,10 +3,9 @@ ghost use Rattle.std.specs.Prelude.{◌≡◌, ◌⊎◌, ℕ, List, Some, None}
 ghost use Rattle.outside.specs.FileMaps.{FileMap};
 ghost use Rattle.outside.specs.Faults.{Quiet};
 ghost use Rattle.tal_image.specs.Image.{ImageParts};
-ghost use Rattle.verve_tool.specs.Words.{Request, Check, WordsOf, NoCommand};
+ghost use Rattle.verve_tool.specs.Commands.{Request, Check, WordsOf, NoCommand, causes, MayEnd};
 ghost use Rattle.verve_tool.specs.Lines.{Says};
 ghost use Rattle.verve_tool.specs.Causes.{Cause, Missing, TypedImage, IsFirst, NoneHolds, status_of};
-ghost use Rattle.verve_tool.specs.Commands.{causes, MayEnd};
 ghost use Rattle.verve_tool.specs.Seen.{call_of, Leaves};
 ghost use Rattle.verve_tool.specs.Outcome.{Outcome};
 ghost use Rattle.verve_tool.specs.Stops.{told_status, told_line};

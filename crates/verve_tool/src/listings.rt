@@ -1,6 +1,6 @@
 // The command `list`: the listing of the image of a file.
 ghost use Rattle.std.specs.Prelude.{[], None};
-ghost use Rattle.verve_tool.specs.Words.{Listing};
+ghost use Rattle.verve_tool.specs.Commands.{Listing};
 ghost use Rattle.verve_tool.specs.Seen.{call_of};
 ghost use Rattle.verve_tool.specs.Stops.{Acted};
 

@@ -4,9 +4,8 @@ ghost use Rattle.outside.specs.FileMaps.{FileMap};
 ghost use Rattle.tal_image.specs.Formed.{ImageOf};
 ghost use Rattle.tal_checker.specs.WellTyped.{WellTyped};
 ghost use Rattle.kernel_machine.specs.Built.{IsBuilt};
-ghost use Rattle.verve_tool.specs.Words.{Run, Check, Listing};
+ghost use Rattle.verve_tool.specs.Commands.{Run, Check, Listing, causes, Loaded};
 ghost use Rattle.verve_tool.specs.Causes.{Missing, Long, Malformed, IllTyped, Unbuilt, Eventful, FileRead, HoldsImage, TypedImage};
-ghost use Rattle.verve_tool.specs.Commands.{causes, Loaded};
 ghost use Rattle.verve_tool.specs.Seen.{files_seen, OnlyReads};
 ghost use Rattle.verve_tool.specs.Stops.{StopsBy, StopsAt, IsUnread, run_of};
 

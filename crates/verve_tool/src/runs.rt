@@ -1,10 +1,10 @@
 // The command `run`: the run of an accepted image, and its report.
 ghost use Rattle.std.specs.Prelude.{◌≡◌, ◌⊎◌, ◌≤◌, [], None, IsErrAnd};
 ghost use Rattle.kernel_machine.specs.Machine.{end_of};
-ghost use Rattle.verve_tool.specs.Words.{Run};
+ghost use Rattle.verve_tool.specs.Commands.{Run};
 ghost use Rattle.verve_tool.specs.Seen.{call_of, sink_seen, OnlyPuts};
 ghost use Rattle.verve_tool.specs.Runs.{status_at};
-ghost use Rattle.verve_tool.specs.Stops.{Acted, Tells, IsUnwritten, run_of};
+ghost use Rattle.verve_tool.specs.Stops.{Acted, Tells, run_of};
 
 use crate::load::load_run;
 use crate::status::Status;
@@ -33,7 +33,7 @@ fn tell<'a, K: Sink>(
 ) -> Result<Status, Stop<'a>>
     requires { (end ≡ RunEnd.NoMemory) ⊎ (end ≡ end_of machine.now.ending) }
     ensures told { Tells (sink_seen K.told K.faults out.old) (sink_seen K.told K.faults out.new) machine.now end result }
-    ensures puts { OnlyPuts (sink_seen K.told K.faults out.old) (sink_seen K.told K.faults out.new) (IsErrAnd result IsUnwritten) }
+    ensures puts { OnlyPuts (sink_seen K.told K.faults out.old) (sink_seen K.told K.faults out.new) (IsErrAnd result (λ s. s ≡ Stop.Write)) }
 {
     if end == RunEnd::NoMemory {
         return Err(Stop::NoMemory);

@@ -1,6 +1,6 @@
 // How a command ended, and the number by which the program tells it.
 ghost use Rattle.std.specs.Prelude.{◌≡◌};
-ghost use Rattle.verve_tool.specs.Number.{exit_number};
+ghost use Rattle.verve_tool.specs.Outcome.{exit_number};
 
 /// How a command ended. Of several causes the first in the command's list is told: the image file is read before the event
 /// file, and both before what they hold is looked at.

@@ -1,6 +1,6 @@
 // The words of a command.
 ghost use Rattle.std.specs.Prelude.{◌≡◌, ◌≤◌, ℕ, List, decimal, MatchOption};
-ghost use Rattle.verve_tool.specs.Words.{RunWords, SpellsRun, SpellsImage, WordsOf, NoCommand};
+ghost use Rattle.verve_tool.specs.Commands.{RunWords, SpellsRun, SpellsImage, WordsOf, NoCommand};
 ghost use Rattle.verve_tool.specs.Stops.{run_of, request_of};
 
 use itoa::Buffer;

@@ -1,6 +1,6 @@
 use Rattle.std.proofs.Common.{rules, refl}
 use Rattle.std.proofs.lemmas.Result.{err_from_is_err_and}
-use Rattle.verve_tool.specs.Words.{Check}
+use Rattle.verve_tool.specs.Commands.{Check}
 use Rattle.verve_tool.specs.Lines.{accepted_text}
 use Rattle.verve_tool.proofs.Endings.{acted_done, acted_unwritten}
 use Rattle.verve_tool.proofs.checks.act_check.Goals as goal

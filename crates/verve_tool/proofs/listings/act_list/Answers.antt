@@ -1,7 +1,7 @@
 use Rattle.std.proofs.Common.{rules, refl}
 use Rattle.std.proofs.lemmas.Result.{err_from_is_err_and}
 use Rattle.tal_listing.specs.Listing.{ListText}
-use Rattle.verve_tool.specs.Words.{Listing}
+use Rattle.verve_tool.specs.Commands.{Listing}
 use Rattle.verve_tool.proofs.Endings.{acted_done, acted_unwritten, acted_wanting, no_puts}
 use Rattle.verve_tool.proofs.listings.act_list.Goals as goal
 
