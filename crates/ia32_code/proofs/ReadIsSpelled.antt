@@ -1,6 +1,6 @@
 -- What is read is spelled, and what is spelled is read.
 use Rattle.std.proofs.Common.{◌≡◌, ◌≢◌, ℕ, ◌/◌, ◌%◌, ◌<◌, false, eqb, List, [], ◌∷◌, ◌++◌, Option, Some, None, Ok, Err, refl, sym, ap, subst, ◌∙◌, append_assoc, arith, inl, inr}
-use Rattle.std.proofs.lemmas.Bool.{eqb-true, eqb-false, ne_eqb}
+use Rattle.std.proofs.lemmas.Bool.{eqb-true, eqb-false, ne_eqb, cases_Bool}
 use Rattle.std.proofs.lemmas.List.{append-nil}
 use Rattle.ia32_code.specs.declared.instruction.Reg.{Reg}
 use Rattle.ia32_code.specs.declared.instruction.Reg.TheVariants.{Eax}
@@ -19,7 +19,7 @@ use Rattle.ia32_code.specs.Table.{line}
 use Rattle.ia32_code.specs.Spells.{modrm_bytes, trailing_bytes, ModRmFits, TrailingFits, Filled, text, meaning, Spells}
 use Rattle.ia32_code.specs.Canonical.{fill}
 use Rattle.ia32_code.specs.Opcodes.{row_with, row_with_digit}
-use Rattle.ia32_code.specs.Reading.{none as stop, seq, byte_at, form_at, trailing_at, modrm_at, end_at, digit_at, by_modrm_at, opened_at, spelling_at}
+use Rattle.ia32_code.specs.Reading.{seq, byte_at, form_at, trailing_at, modrm_at, end_at, digit_at, by_modrm_at, opened_at, spelling_at}
 use Rattle.ia32_code.proofs.TakesFront.{IsBytes, IsBytes-append, ok_is}
 use Rattle.ia32_code.proofs.Readers.{Whole-form_at, TakesFront-spelling_at}
 use Rattle.ia32_code.proofs.OperandForms.{chosen, seq_ok, seq_done, word_again, word_takes, form_again, form_takes, modrm_middle, reg-number, number_below, number-reg, mode_below}
@@ -197,7 +197,7 @@ digit_takes code m t s (Some row) lt fits q e =
 
 -- what follows an opcode and is read was spelled
 by_modrm_takes : (row : Row) (sl : ModRm) (code t : List ℕ) (s : Spelling) → IsLine row code sl → IsBytes t → by_modrm_at sl row t ≡ Ok (s, []) → SpelledBy (code ++ t) s
-unfolding by_modrm_at
+unfolding by_modrm_at digit_at
 by_modrm_takes row Absent code t s ln fits e = without_modrm_takes row code t s ln (end_takes row Eax (Direct Eax) t s fits e)
 by_modrm_takes row Register code [] s ln fits e = absurd cc
 by_modrm_takes row Register code (m ∷ t) s ln fits e =
@@ -205,11 +205,11 @@ by_modrm_takes row Register code (m ∷ t) s ln fits e =
     with_modrm row Register code m t s ln (λ r f. refl) w w.form_fits
 by_modrm_takes row Memory code [] s ln fits e = absurd cc
 by_modrm_takes row Memory code (m ∷ t) s ln fits e =
-    elim (chosen (eqb (m / 64) 3) stop (modrm_at row m) t (Ok (s, [])) e) [
-      | inl h ↦ absurd (let f : stop {A = Spelling} t ≡ Ok (s, []) = h.1 in cc)
+    elim (cases_Bool (eqb (m / 64) 3)) [
+      | inl h ↦ absurd (let f = rw h at e in cc)
       | inr h ↦
-          let w = modrm_takes row m t s fits.0 fits.1 h.1 in
-          with_modrm row Memory code m t s ln (λ r f. refl) w (w.form_fits, w.memory (eqb-false (m / 64) 3 h.0))
+          let w = modrm_takes row m t s fits.0 fits.1 (rw h at e) in
+          with_modrm row Memory code m t s ln (λ r f. refl) w (w.form_fits, w.memory (eqb-false (m / 64) 3 h))
     ]
 by_modrm_takes row (Digit g) code [] s ln fits e = absurd cc
 by_modrm_takes row (Digit g) code (m ∷ t) s ln fits e =

@@ -15,7 +15,7 @@ use Rattle.ia32_code.specs.OperandForms.{reg}
 use Rattle.ia32_code.specs.Table.{line}
 use Rattle.ia32_code.specs.Opcodes.{row_with, row_with_digit}
 use Rattle.ia32_code.specs.Canonical.{fill}
-use Rattle.ia32_code.specs.Reading.{CodeReader, given, none, seq, byte_at, word_at, four_bytes, disp_at, sib_at, form_at, trailing_at, end_at, modrm_at, digit_at, by_modrm_at, opened_at, spelling_at}
+use Rattle.ia32_code.specs.Reading.{CodeReader, given, none, seq, byte_at, word_at, four_bytes, disp_at, sib_at, form_at, trailing_at, end_at, modrm_at, digit_at, row_at, by_modrm_at, opened_at, spelling_at}
 use Rattle.ia32_code.proofs.OpcodeRows.{HasDigitRow, digit_row}
 use Rattle.ia32_code.proofs.TakesFront.{TakesFront, Readable, TakesFront-byte_at, Readable-byte_at, TakesFront-given, Readable-given, TakesFront-none, TakesFront-seq, Readable-seq, TakesFront-byte, TakesFront-cond}
 
@@ -115,15 +115,14 @@ live_digit row g h m e = rw (e, h.found) (Whole-modrm_at h.other m).live
 
 -- a row that an opcode finds is read from left to right
 TakesFront-by_modrm_at : (s : ModRm) (w : Row) → ((g : ℕ) → s ≡ Digit g → HasDigitRow w g) → TakesFront (by_modrm_at s w)
-unfolding by_modrm_at
+unfolding by_modrm_at digit_at
 TakesFront-by_modrm_at Absent w digit = (Whole-end_at w Eax (Direct Eax)).takes
 TakesFront-by_modrm_at Register w digit = (Whole-seq byte_at (λ m. modrm_at w m) Whole-byte_at (λ m. Whole-modrm_at w m)).takes
 TakesFront-by_modrm_at Memory w digit =
-    TakesFront-byte (λ m. cond (eqb (m / 64) 3) none (modrm_at w m))
-    (λ m. TakesFront-cond (eqb (m / 64) 3) none (modrm_at w m) TakesFront-none (Whole-modrm_at w m).takes) 0 (lit< tt) (Whole-modrm_at w 0).live
+    TakesFront-byte (λ m. digit_at (row_at Memory w m) m) (λ m. TakesFront-digit_at (row_at Memory w m) m) 0 (lit< tt) (Whole-modrm_at w 0).live
 TakesFront-by_modrm_at (Digit g) w digit =
     let h = digit g refl in
-    TakesFront-byte (λ m. digit_at (row_with_digit (line w).code (m / 8 % 8)) m) (λ m. TakesFront-digit_at (row_with_digit (line w).code (m / 8 % 8)) m)
+    TakesFront-byte (λ m. digit_at (row_at (Digit g) w m) m) (λ m. TakesFront-digit_at (row_at (Digit g) w m) m)
     (8 * g) (let small = h.small in omega arith) (live_digit w g h (8 * g) (let small = h.small in omega arith))
 
 -- what an opcode finds is read from left to right
@@ -139,7 +138,7 @@ live_nop = (Whole-end_at Nop Eax (Direct Eax)).live
 
 -- and some is two
 live_imul : Readable (opened_at (row_with (0x0F ∷ 0xAF ∷ [])))
-unfolding opened_at by_modrm_at row_with
+unfolding opened_at by_modrm_at digit_at row_with
 live_imul = (Whole-seq byte_at (λ m. modrm_at Imul2 m) Whole-byte_at (λ m. Whole-modrm_at Imul2 m)).live
 
 -- what follows a first byte is read from left to right

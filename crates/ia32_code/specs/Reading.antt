@@ -101,12 +101,16 @@ unfoldable pub digit_at : Option Row → ℕ → CodeReader Spelling
 digit_at None m = none
 digit_at (Some row) m = modrm_at row m
 
--- what follows the opcode of a row, by the use of the ModRM byte; a digit tells rows of one opcode apart
+-- the row that a ModRM byte leaves: none of memory alone where it is a register; a digit tells rows of one opcode apart
+abbrev pub row_at : ModRm → Row → ℕ → Option Row
+row_at Memory row m = if m / 64 == 3 then None else Some row
+row_at (Digit g) row m = row_with_digit (line row).code (m / 8 % 8)
+row_at _ row m = Some row
+
+-- what follows the opcode of a row, by the use of the ModRM byte
 unfoldable pub by_modrm_at : ModRm → Row → CodeReader Spelling
 by_modrm_at Absent row = end_at row Eax (Direct Eax)
-by_modrm_at Register row = seq byte_at (λ m. modrm_at row m)
-by_modrm_at Memory row = seq byte_at (λ m. if m / 64 == 3 then none else modrm_at row m)
-by_modrm_at (Digit g) row = seq byte_at (λ m. digit_at (row_with_digit (line row).code (m / 8 % 8)) m)
+by_modrm_at modrm row = seq byte_at (λ m. digit_at (row_at modrm row m) m)
 
 -- what follows an opcode, by the first row that has it
 unfoldable pub opened_at : Option Row → CodeReader Spelling

@@ -2,7 +2,7 @@
 // into one function: what they hand up is then not copied, which would take longer than the reading.
 ghost use Rattle.std.specs.Prelude.{◌≡◌};
 ghost use Rattle.ia32_code.specs.Table.{line};
-ghost use Rattle.ia32_code.specs.Reading.{GivesRead, byte_at, word_at, disp_at, sib_at, form_at, trailing_at, end_at, modrm_at, digit_at, by_modrm_at, opened_at, spelling_at};
+ghost use Rattle.ia32_code.specs.Reading.{GivesRead, word_at, disp_at, sib_at, form_at, trailing_at, end_at, modrm_at, row_at, by_modrm_at, opened_at, spelling_at};
 
 use crate::instruction::Reg;
 use crate::opcodes::{row_of, row_of_digit, row_of_escaped};
@@ -20,26 +20,15 @@ pub enum Stop {
     Unknown,
 }
 
-#[inline(always)]
-fn byte_of(bytes: &[u8]) -> Result<(u8, &[u8]), Stop>
-    ensures { GivesRead (λ x. (x.0, x.1.now)) result (byte_at bytes.now) }
-{
-    match bytes {
-        [] => Err(Stop::Short),
-        [byte, rest @ ..] => Ok((*byte, rest)),
-    }
-}
-
 #[tactic(auto, unfolding(crate::specs::Reading::word_at))]
 #[inline(always)]
 fn word_of(bytes: &[u8]) -> Result<(u32, &[u8]), Stop>
     ensures { GivesRead (λ x. (x.0, x.1.now)) result (word_at bytes.now) }
 {
-    let (a, rest) = byte_of(bytes)?;
-    let (b, rest) = byte_of(rest)?;
-    let (c, rest) = byte_of(rest)?;
-    let (d, rest) = byte_of(rest)?;
-    Ok((u32::from_le_bytes([a, b, c, d]), rest))
+    match bytes {
+        [a, b, c, d, rest @ ..] => Ok((u32::from_le_bytes([*a, *b, *c, *d]), rest)),
+        [] | [_] | [_, _] | [_, _, _] => Err(Stop::Short),
+    }
 }
 
 #[tactic(auto, unfolding(crate::specs::Reading::disp_at))]
@@ -50,8 +39,10 @@ fn displacement_of(mode: u8, bytes: &[u8]) -> Result<(Displacement, &[u8]), Stop
     if mode == 0 {
         Ok((Displacement::NoDisp, bytes))
     } else if mode == 1 {
-        let (byte, rest) = byte_of(bytes)?;
-        Ok((Displacement::Disp8(byte), rest))
+        let [byte, rest @ ..] = bytes else {
+            return Err(Stop::Short);
+        };
+        Ok((Displacement::Disp8(*byte), rest))
     } else {
         let (word, rest) = word_of(bytes)?;
         Ok((Displacement::Disp32(word), rest))
@@ -63,15 +54,17 @@ fn displacement_of(mode: u8, bytes: &[u8]) -> Result<(Displacement, &[u8]), Stop
 fn indexed_of(mode: u8, bytes: &[u8]) -> Result<(OperandForm, &[u8]), Stop>
     ensures { GivesRead (λ x. (x.0, x.1.now)) result (sib_at mode bytes.now) }
 {
-    let (sib, rest) = byte_of(bytes)?;
-    let index = reg_of(sib / 8 % 8);
-    if mode == 0 && sib % 8 == 5 {
+    let [sib, rest @ ..] = bytes else {
+        return Err(Stop::Short);
+    };
+    let index = reg_of(*sib / 8 % 8);
+    if mode == 0 && *sib % 8 == 5 {
         let (word, rest) = word_of(rest)?;
-        Ok((OperandForm::Unbased(sib / 64, index, word), rest))
+        Ok((OperandForm::Unbased(*sib / 64, index, word), rest))
     } else {
         let (disp, rest) = displacement_of(mode, rest)?;
         Ok((
-            OperandForm::Indexed(sib / 64, index, reg_of(sib % 8), disp),
+            OperandForm::Indexed(*sib / 64, index, reg_of(*sib % 8), disp),
             rest,
         ))
     }
@@ -105,10 +98,10 @@ fn number_of(trailing: Trailing, bytes: &[u8]) -> Result<(u32, &[u8]), Stop>
 {
     match trailing {
         Trailing::Nothing => Ok((0, bytes)),
-        Trailing::Byte => {
-            let (byte, rest) = byte_of(bytes)?;
-            Ok((byte as u32, rest))
-        }
+        Trailing::Byte => match bytes {
+            [byte, rest @ ..] => Ok((*byte as u32, rest)),
+            [] => Err(Stop::Short),
+        },
         Trailing::Word => word_of(bytes),
     }
 }
@@ -131,32 +124,36 @@ fn modrm_of(row: Row, modrm_byte: u8, bytes: &[u8]) -> Result<(Spelling, &[u8]),
     end_of(row, reg_of(modrm_byte / 8 % 8), form, rest)
 }
 
-#[tactic(auto, unfolding(crate::specs::Reading::by_modrm_at, crate::specs::Reading::digit_at))]
+/// The row that a ModRM byte leaves of those with the opcode of a row.
+#[inline(always)]
+fn row_at(row: Row, modrm_byte: u8) -> Option<Row>
+    ensures { result ≡ row_at (line row).modrm row modrm_byte }
+{
+    let encoding = encoding_of(row);
+    match encoding.modrm {
+        ModRm::Absent | ModRm::Register => Some(row),
+        ModRm::Memory => if modrm_byte / 64 == 3 {
+            None
+        } else {
+            Some(row)
+        },
+        ModRm::Digit(_) => row_of_digit(encoding, modrm_byte / 8 % 8),
+    }
+}
+
 #[inline(always)]
 fn by_modrm_of(row: Row, bytes: &[u8]) -> Result<(Spelling, &[u8]), Stop>
     ensures { GivesRead (λ x. (x.0, x.1.now)) result (by_modrm_at (line row).modrm row bytes.now) }
 {
-    let encoding = encoding_of(row);
-    match encoding.modrm {
-        ModRm::Absent => end_of(row, Reg::Eax, OperandForm::Direct(Reg::Eax), bytes),
-        ModRm::Register => {
-            let (modrm_byte, rest) = byte_of(bytes)?;
-            modrm_of(row, modrm_byte, rest)
-        }
-        ModRm::Memory => {
-            let (modrm_byte, rest) = byte_of(bytes)?;
-            if modrm_byte / 64 == 3 {
-                return Err(Stop::Unknown);
-            }
-            modrm_of(row, modrm_byte, rest)
-        }
-        ModRm::Digit(_) => {
-            let (modrm_byte, rest) = byte_of(bytes)?;
-            match row_of_digit(encoding, modrm_byte / 8 % 8) {
-                Some(row) => modrm_of(row, modrm_byte, rest),
-                None => Err(Stop::Unknown),
-            }
-        }
+    if let ModRm::Absent = encoding_of(row).modrm {
+        return end_of(row, Reg::Eax, OperandForm::Direct(Reg::Eax), bytes);
+    }
+    let [modrm_byte, rest @ ..] = bytes else {
+        return Err(Stop::Short);
+    };
+    match row_at(row, *modrm_byte) {
+        Some(row) => modrm_of(row, *modrm_byte, rest),
+        None => Err(Stop::Unknown),
     }
 }
 
@@ -165,10 +162,10 @@ fn by_modrm_of(row: Row, bytes: &[u8]) -> Result<(Spelling, &[u8]), Stop>
 fn opened_of(row: Option<Row>, bytes: &[u8]) -> Result<(Spelling, &[u8]), Stop>
     ensures { GivesRead (λ x. (x.0, x.1.now)) result (opened_at row bytes.now) }
 {
-    match row {
-        Some(row) => by_modrm_of(row, bytes),
-        None => Err(Stop::Unknown),
-    }
+    let Some(row) = row else {
+        return Err(Stop::Unknown);
+    };
+    by_modrm_of(row, bytes)
 }
 
 /// The spelling at the front of the bytes.
@@ -177,11 +174,14 @@ fn opened_of(row: Option<Row>, bytes: &[u8]) -> Result<(Spelling, &[u8]), Stop>
 pub fn spelling_of(bytes: &[u8]) -> Result<(Spelling, &[u8]), Stop>
     ensures { GivesRead (λ x. (x.0, x.1.now)) result (spelling_at bytes.now) }
 {
-    let (first, rest) = byte_of(bytes)?;
-    if first == 0x0F {
-        let (second, rest) = byte_of(rest)?;
-        opened_of(row_of_escaped(second), rest)
-    } else {
-        opened_of(row_of(first), rest)
+    let [first, rest @ ..] = bytes else {
+        return Err(Stop::Short);
+    };
+    if *first != 0x0F {
+        return opened_of(row_of(*first), rest);
+    }
+    match rest {
+        [second, rest @ ..] => opened_of(row_of_escaped(*second), rest),
+        [] => Err(Stop::Short),
     }
 }
