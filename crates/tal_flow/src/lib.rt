@@ -1,8 +1,9 @@
 // What each instruction of typed assembly asks of what is known before it, and what it leaves.
 //
-// `place_of` says what a memory operand means, and `flow` tries the rules of typing at an instruction: it
-// answers the least rule that fails, or where runs go from there (`Edges`), and turns the context into
-// what is known where the instruction falls through. Neither allocates. The definitions stand in
+// `place_of` says what a memory operand means, and `pass` tries the rules of typing at an instruction: it
+// answers the least rule that fails, or turns the context into what is known where the instruction falls
+// through. `flow` does the same and says where runs go from there (`Edges`); where a rule fails it leaves
+// the context as it was. None of them allocates. The definitions stand in
 // `specs/`: `Forms` (instructions by what typing says of them), `Places` (operands and how they resolve),
 // `Rows` (CMP and TEST), `Calls`, `Functions`, `Seen` (forms with their operands resolved), `Trials` (the
 // rules by their names), `Rules`, `Afterwards`, `Edges` and `Strongest` (the context at each instruction,
