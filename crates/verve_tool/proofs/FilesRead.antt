@@ -20,7 +20,7 @@ use Rattle.verve_tool.specs.Stops.{StopsBy, StopsAt, TellsFirst, stop_of_fault, 
 use Rattle.verve_tool.proofs.CauseLists.{none_of_both, stops_more, stops_later, stops_by_bytes}
 use Rattle.verve_tool.specs.declared.load.TheConstants.{IMAGE_MOST, EVENTS_MOST}
 use Rattle.verve_tool.specs.declared.stop.Stop.{Stop}
-use Rattle.verve_tool.specs.declared.stop.Stop.TheVariants.{Form, Events}
+use Rattle.verve_tool.specs.declared.stop.Stop.TheVariants.{Image, Form, Events}
 
 -- a file has one front of a length
 one_front : (o : Option (List ℕ)) (n : ℕ) (a b : List ℕ) → IsSomeAnd o (λ whole. a ≡ take n whole) → IsSomeAnd o (λ whole. b ≡ take n whole) → a ≡ b
@@ -132,6 +132,11 @@ malformed : (told : Option FileMap) (name : List ℕ) (bytes : List ℕ) (f : Im
     → (f ≡ fault.NoMemory) ⊎ FirstFault bytes f → Holds told (Malformed name) (fault_line name f)
 malformed told name bytes f file real (inl is) = absurd (real is)
 malformed told name bytes f file real (inr first) = (f, record { bytes = bytes; file = file; first = first; real = real }, refl)
+
+-- a fault other than want of memory is told as it is
+pub real_fault_stops : (name : Bor (List ℕ)) (f : ImageFault) → (f ≡ fault.NoMemory → ⊥) → Image name f ≡ stop_of_fault name f
+real_fault_stops name fault.NoMemory real = absurd (real refl)
+real_fault_stops name f real = refl
 
 -- a fault of the image file stops a command
 pub fault_stops : (told : Option FileMap) (name : Bor (List ℕ)) (bytes : List ℕ) (f : ImageFault) → FileRead told name.now IMAGE_MOST bytes

@@ -7,4 +7,5 @@ returns-in-Some-clause-stopped c told typed file = form_stops told c.args.run.im
 
 pub returns-then-not-is_empty-clause-stopped : goal.returns-then-not-is_empty-clause-stopped
 returns-then-not-is_empty-clause-stopped c told typed file =
-    events_stop c.one_meaning.ensures told c.args.run.image c.args.run.events _ c.args.event_bytes.now typed (search rules) file (search rules)
+    events_stop c.one_meaning.ensures told c.args.run.image c.args.run.events _ c.args.event_bytes.now typed
+    (c.first_outside.ensures.none c.in_default.is) file (search rules)

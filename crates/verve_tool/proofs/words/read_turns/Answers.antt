@@ -1,6 +1,6 @@
 use Rattle.std.proofs.Common.{◌≡◌, sym, ◌∙◌, arith}
 use Rattle.std.proofs.lemmas.Fmt.{parse-decimal}
-use Rattle.verve_tool.proofs.WordLemmas.{no_err, same_ok, told_apart}
+use Rattle.verve_tool.proofs.WordLemmas.{no_err, same_ok, told_apart, told_same}
 use Rattle.verve_tool.proofs.words.read_turns.Goals as goal
 use Rattle.verve_tool.proofs.words.read_turns.Goals.{then-number-eq0-via-then-number-eq0, then-number-eq0-via-else-number-eq0+then-number-gt-MOST_TURNS}
 use Rattle.verve_tool.proofs.words.read_turns.Goals.{then-number-eq0-via-else-number-eq0+else-number-gt-MOST_TURNS+then-ne}
@@ -18,3 +18,10 @@ returns-then-number-eq0 c n low high e =
       | then-number-eq0-via-else-number-eq0+else-number-gt-MOST_TURNS+then-ne w ↦
           told_apart _ _ _ (w.format.ensures.text ∙ rw same (sym e)) w.if-ne.true w.ne.ensures
     ]
+
+pub returns : goal.returns
+returns c = (
+  sym (told_same _ _ _ c.if-ne.false c.ne.ensures) ∙ c.format.ensures.text,
+  omega (arith, c.if-number-eq0.false),
+  omega (arith, c.if-number-gt-MOST_TURNS.false),
+)
