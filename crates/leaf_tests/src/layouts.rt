@@ -11,11 +11,11 @@ fn class_below_another_keeps_what_stands_above(rt: HostRuntime) -> Result<(), Fa
     above.push(FieldTy::Num)?;
     above.push(FieldTy::Ref(1))?;
     own.push(FieldTy::ArrRef(0))?;
-    assert_eq!(rt; own.items(), [FieldTy::ArrRef(0)].as_slice());
+    assert!(rt; own.items() == [FieldTy::ArrRef(0)].as_slice());
     let (mut first, mut second) = (MethodList::new(alloc), MethodList::new(alloc));
     first.push(0)?;
     second.push(1)?;
-    assert_eq!(rt; second.items(), [1].as_slice());
+    assert!(rt; second.items() == [1].as_slice());
     let root = ClassRow {
         parent: None,
         fields: above,
@@ -43,15 +43,12 @@ fn class_below_another_keeps_what_stands_above(rt: HostRuntime) -> Result<(), Fa
     let shapes = Shapes::of(alloc, &rows, &kinds, &funs, 1)?;
 
     assert!(rt; shapes.below(1, 0) && !shapes.below(0, 1));
-    assert_eq!(rt; shapes.field_at(1, 12), Some(FieldTy::ArrRef(0)));
-    assert_eq!(rt;
-        (shapes.slot_at(1, 44), shapes.slot_at(1, 48)),
-        (Some(0), None)
-    );
-    assert_eq!(rt; shapes.element_of(0), Some(FieldTy::Num));
-    assert_eq!(rt; shapes.descriptor_word(0, 0), Some(0));
-    assert_eq!(rt; shapes.need_words(Shape::Class(1), 0), 8);
-    assert_eq!(rt; shapes.need_words(Shape::Kind(0), 5), 12);
+    assert!(rt; shapes.field_at(1, 12) == Some(FieldTy::ArrRef(0)));
+    assert!(rt; shapes.slot_at(1, 44) == Some(0) && shapes.slot_at(1, 48) == None);
+    assert!(rt; shapes.element_of(0) == Some(FieldTy::Num));
+    assert!(rt; shapes.descriptor_word(0, 0) == Some(0));
+    assert!(rt; shapes.need_words(Shape::Class(1), 0) == 8);
+    assert!(rt; shapes.need_words(Shape::Kind(0), 5) == 12);
     for (word, want) in [
         (0, 4),
         (1, 1),
@@ -60,7 +57,7 @@ fn class_below_another_keeps_what_stands_above(rt: HostRuntime) -> Result<(), Fa
         (11, 0x100009),
         (12, 0),
     ] {
-        assert_eq!(rt; shapes.table_word(1, word), Some(want), "word {word}");
+        assert!(rt; shapes.table_word(1, word) == Some(want), "word {word}");
     }
     Ok(())
 }
@@ -68,5 +65,5 @@ fn class_below_another_keeps_what_stands_above(rt: HostRuntime) -> Result<(), Fa
 #[test]
 fn types_and_places_of_words(rt: HostRuntime) {
     assert!(rt; FieldTy::ArrRef(0).is_reference() && !FieldTy::Fun(0).is_reference());
-    assert_eq!(rt; (word_index(44, 52), word_index(44, 53)), (Some(2), None));
+    assert!(rt; word_index(44, 52) == Some(2) && word_index(44, 53) == None);
 }

@@ -12,24 +12,18 @@ const FLAGS: FlagBits = FlagBits {
 #[test]
 fn stacks_hand_over_to_one_another(rt: HostRuntime) -> Result<(), Fail> {
     let mut stacks = Stacks::new(rt.alloc(), 3)?;
-    assert_eq!(rt; (stacks.count(), stacks.current()), (3, 0));
-    assert_eq!(rt; stacks.switch(1, 8, 16), StackState::Empty);
+    assert!(rt; stacks.count() == 3 && stacks.current() == 0);
+    assert!(rt; stacks.switch(1, 8, 16) == StackState::Empty);
     let regs = [1, 2, 3, 4, 5, 6, 7, 8];
-    assert_eq!(rt;
-        stacks.interrupt(regs, FLAGS, 20),
-        StackState::Yielded { sp: 8, pc: 16 }
-    );
+    assert!(rt; stacks.interrupt(regs, FLAGS, 20) == StackState::Yielded { sp: 8, pc: 16 });
     let interrupted = StackState::Interrupted {
         regs,
         flags: FLAGS,
         pc: 20,
     };
-    assert_eq!(rt; stacks.switch(1, 4, 24), interrupted);
-    assert_eq!(rt;
-        stacks.drop_running(),
-        StackState::Yielded { sp: 4, pc: 24 }
-    );
+    assert!(rt; stacks.switch(1, 4, 24) == interrupted);
+    assert!(rt; stacks.drop_running() == StackState::Yielded { sp: 4, pc: 24 });
     stacks.reset(2);
-    assert_eq!(rt; stacks.state(1), Some(StackState::Empty));
+    assert!(rt; stacks.state(1) == Some(StackState::Empty));
     Ok(())
 }

@@ -40,7 +40,7 @@ const TEXTS: [(&[u8], (u32, u64, usize)); 12] = [
 #[test]
 fn texts_and_their_first_faults(rt: HostRuntime) {
     for (text, wanted) in TEXTS.iter() {
-        assert_eq!(rt; told(&rt, rt.alloc(), *text), *wanted, "{text:?}");
+        assert!(rt; told(&rt, rt.alloc(), *text) == *wanted, "{text:?}");
     }
 }
 
@@ -58,14 +58,14 @@ fn tokens_are_read_one_after_another(rt: HostRuntime) {
     assert!(rt; matches!(tokens.peek(), Some(Token::Register(Reg::Esp))));
     tokens.advance();
     assert!(rt; matches!(tokens.peek(), Some(Token::EndOfLine)));
-    assert_eq!(rt; (tokens.column(), tokens.long_name()), (18, None));
+    assert!(rt; tokens.column() == 18 && tokens.long_name() == None);
 }
 
 #[test]
 fn lists_of_rows(rt: HostRuntime) -> Result<(), Fail> {
     let alloc = rt.alloc();
     let name = Name::of(alloc, b"f")?;
-    assert_eq!(rt; name.bytes(), b"f".as_slice());
+    assert!(rt; name.bytes() == b"f".as_slice());
     let mut args = ArgList::new(alloc);
     args.push(Arg::Target(name))?;
     let mut terms = TermList::new(alloc);
@@ -79,8 +79,8 @@ fn lists_of_rows(rt: HostRuntime) -> Result<(), Fail> {
         reg: Reg::Eax,
         ty: TypeText::Num,
     })?;
-    assert_eq!(rt; (args.items().len(), terms.items().len()), (1, 1));
-    assert_eq!(rt; numbers.items(), [-1].as_slice());
-    assert_eq!(rt; (slots.items().len(), params.items().len()), (1, 1));
+    assert!(rt; args.items().len() == 1 && terms.items().len() == 1);
+    assert!(rt; numbers.items() == [-1].as_slice());
+    assert!(rt; slots.items().len() == 1 && params.items().len() == 1);
     Ok(())
 }

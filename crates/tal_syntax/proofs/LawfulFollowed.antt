@@ -8,6 +8,7 @@ use Rattle.tal_syntax.proofs.LawfulChoices.{Chosen, Lawful-choose, goes, stays, 
 
 -- ---- the same reader, said otherwise
 
+-- what one refuses the other does
 stuck_as : {A : Type 0} (p q : Read A) → ((ts : List Lexeme) → p ts ≡ q ts) → (front left : List Lexeme) → Stuck q front left → Stuck p front left
 stuck_as p q same front [] h = tt
 stuck_as p q same front (t ∷ ts) h = λ more. same (front ++ t ∷ more) ∙ h more
@@ -36,10 +37,12 @@ behind q (Some p) = Some (both p q)
 abbrev pick_then : {A B : Type 0} → (Lexeme → Option (Read A)) → Read B → Lexeme → Option (Read (A × B))
 pick_then pick q t = behind q (pick t)
 
+-- a choice with a reader behind it chooses among readers with it behind them,
 chosen_then : {A B : Type 0} (pick : Lexeme → Option (Read A)) (q : Read B) (t : Lexeme) (ts : List Lexeme) (o : Option (Read A)) → pick t ≡ o → both (choose pick) q (t ∷ ts) ≡ choose (pick_then pick q) (t ∷ ts)
 chosen_then pick q t ts None e = ap (followed q) (stays pick t ts e) ∙ sym (stays (pick_then pick q) t ts (ap (behind q) e))
 chosen_then pick q t ts (Some p) e = ap (followed q) (goes pick t p ts e) ∙ sym (goes (pick_then pick q) t (both p q) ts (ap (behind q) e))
 
+-- for any tokens
 both_choose : {A B : Type 0} (pick : Lexeme → Option (Read A)) (q : Read B) (ts : List Lexeme) → both (choose pick) q ts ≡ choose (pick_then pick q) ts
 both_choose pick q [] = refl
 both_choose pick q (t ∷ ts) = chosen_then pick q t ts (pick t) refl
@@ -48,13 +51,16 @@ module _ {A B : Type 0} (pick : Lexeme → Option (Read A)) (R : Lexeme → A �
   abbrev rests : Lexeme → A × B → List Lexeme → Type 0
   rests t = Both (R t) T
 
+  -- the way that is picked is lawful with the reader behind it
   law_at : (t : Lexeme) (r : Read (A × B)) (o : Option (Read A)) → pick t ≡ o → behind q o ≡ Some r → Lawful r (rests t)
   law_at t r None e h = absurd cc
   law_at t r (Some p) e h = law_of (laws t p e) h
 
+  -- a picked token before a sentence
   pair_there : (t : Lexeme) (z : A × B) (ts : List Lexeme) → rests t z ts → Both S T z (t ∷ ts)
   pair_there t z ts s = record { front = t ∷ s.front; back = s.back; parts = ap (λ (l : List Lexeme). t ∷ l) s.parts; one = there t z.0 s.front s.one; two = s.two }
 
+  -- a sentence has its token, and what stands behind it
   pair_back : (z : A × B) (ts : List Lexeme) → Both S T z ts → Chosen (pick_then pick q) rests z ts
   pair_back z ts s =
       let b = back z.0 s.front s.one in
@@ -75,6 +81,7 @@ module _ {A B : Type 0} (pick : Lexeme → Option (Read A)) (R : Lexeme → A �
 
 -- ---- a second reader behind a mark or not
 
+-- and so does the choice by a mark,
 marked_then : {A B : Type 0} (m : ℕ) (p r : Read A) (q : Read B) (t : Lexeme) (ts : List Lexeme) (b : Bool) → is_mark m t ≡ b → both (if_mark m p r) q (t ∷ ts) ≡ if_mark m (both p q) (both r q) (t ∷ ts)
 marked_then m p r q t ts true e = rw (e, if_mark) refl
 marked_then m p r q t ts false e = rw (e, if_mark) refl

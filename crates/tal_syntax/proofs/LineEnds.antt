@@ -35,28 +35,34 @@ abbrev BringsPlain : Option Lexeme → Type 0
 BringsPlain None = Unit {0}
 BringsPlain (Some t) = IsPlain t
 
+-- a choice brings what its branches do
 either : (r : Bool) (x y : PieceView) → BringsPlain x.token → BringsPlain y.token → BringsPlain (cond r x y).token
 either true x y p q = p
 either false x y p q = q
 
+-- a word is no line's end,
 word_plain : (o : Option Word) (letters : List ℕ) → IsPlain (elim o [ Some w ↦ elim w [ word.Key k ↦ Key k | word.Register r ↦ Register r | word.Mnemonic m ↦ Mnemonic m ] | None ↦ Name letters ])
 word_plain None letters = tt
 word_plain (Some (word.Key k)) letters = tt
 word_plain (Some (word.Register r)) letters = tt
 word_plain (Some (word.Mnemonic m)) letters = tt
 
+-- nor are letters,
 token_plain : (letters : List ℕ) → IsPlain (token_of letters)
 token_plain letters = word_plain (word_of letters) letters
 
+-- nor is a number in range or out of it,
 number_plain : (r : Bool) (n : ℤ) → IsPlain (cond r (Number n) (Bad 2))
 number_plain true n = tt
 number_plain false n = tt
 
+-- with a sign or without,
 signed_plain : (negative : Bool) (value : ℕ) → IsPlain (signed negative value)
 unfolding signed
 signed_plain true value = number_plain (nat_le value 2147483648) (neg_ℤ (pos value))
 signed_plain false value = number_plain (nat_le value 4294967295) (pos value)
 
+-- nor anything that a byte begins,
 piece_plain : (mode : Mode) (b : ℕ) (bytes : List ℕ) → BringsPlain (piece_in mode b bytes).token
 unfolding piece_in
 piece_plain mode b bytes =
@@ -67,10 +73,12 @@ piece_plain mode b bytes =
     (either (b == 45 && glues mode bytes) _ _ (signed_plain true (unsigned (drop 1 bytes)).value)
     (either (is_mark_byte b) _ _ tt tt)))))
 
+-- a byte of a comment,
 comment_plain : (r : Bool) → BringsPlain (cond r None (Some (Bad 1)))
 comment_plain true = tt
 comment_plain false = tt
 
+-- in any place
 some_plain : (mode : Mode) (b : ℕ) (bytes : List ℕ) → BringsPlain (piece_at mode b bytes).token
 unfolding piece_at
 some_plain Comment b bytes = comment_plain (is_allowed b)
@@ -82,14 +90,17 @@ EndsOnce [] = ⊥
 EndsOnce (EndOfLine ∷ ts) = ts ≡ []
 EndsOnce (t ∷ ts) = EndsOnce ts
 
+-- a token before tokens that end once
 ends_behind_plain : (t : Lexeme) (ts : List Lexeme) → IsPlain t → EndsOnce ts → EndsOnce (t ∷ ts)
 ends_behind_plain EndOfLine ts p e = absurd p
 ends_behind_plain t ts p e = e
 
+-- a token or none before them
 ends_after : (o : Option Lexeme) (column : ℕ) (here there : List Placed) → BringsPlain o → EndsOnce (lexemes_of here) → EndsOnce (lexemes_of there) → EndsOnce (lexemes_of (elim o [ None ↦ here | Some t ↦ placed column t ∷ there ]))
 ends_after None column here there p e f = e
 ends_after (Some t) column here there p e f = ends_behind_plain t (lexemes_of there) p f
 
+-- the tokens from any place on end once
 tokens_end : (skip : ℕ) (mode : Mode) (column : ℕ) (bytes : List ℕ) → EndsOnce (lexemes_of (tokens_from skip mode column bytes))
 unfolding tokens_from
 tokens_end zero mode column [] = refl
@@ -99,9 +110,11 @@ tokens_end zero mode column (b ∷ bytes) =
     let piece = piece_at mode b (b ∷ bytes) in
     ends_after piece.token column _ _ (some_plain mode b (b ∷ bytes)) (tokens_end 0 piece.mode (column + 1) bytes) (tokens_end piece.more piece.mode (column + 1) bytes)
 
+-- the tokens of a line end once
 pub line_ends : (bytes : List ℕ) → EndsOnce (lexemes_of (line_tokens bytes))
 line_ends bytes = tokens_end 0 Line 1 bytes
 
+-- there is something
 not_none : (front rest : List Lexeme) → (front ++ EndOfLine ∷ []) ++ rest ≡ [] → ⊥
 not_none [] rest e = cc
 not_none (t ∷ front) rest e = cc
@@ -119,9 +132,11 @@ pub record Ends (ts : List Lexeme) : Type 0 where
   pub front : List Lexeme
   pub parts : ts ≡ front ++ EndOfLine ∷ []
 
+-- the line's end alone
 ended : {ts : List Lexeme} → line_end ts → Ends ts
 ended s = record { front = []; parts = s }
 
+-- a sentence before one that ends
 behind : {L M : List Lexeme → Type 0} {ts : List Lexeme} (s : Joined L M ts) → Ends s.back → Ends ts
 behind s e = record { front = s.front ++ e.front; parts = s.parts ∙ ap (λ (l : List Lexeme). s.front ++ l) e.parts ∙ sym (append_assoc s.front e.front (EndOfLine ∷ [])) }
 
@@ -132,6 +147,7 @@ row_ends s = behind s (behind s.two (behind s.two.two (ended s.two.two.two)))
 sig_ends : {I J K L M : List Lexeme → Type 0} {ts : List Lexeme} (s : (I ⊕ J ⊕ K ⊕ L ⊕ M ⊕ line_end) ts) → Ends ts
 sig_ends s = behind s (behind s.two (row_ends s.two.two))
 
+-- the sentences of each row end with the line's end
 numbers_end : (o : Option (List ℤ)) (ts : List Lexeme) → numbers_says o ts → Ends ts
 numbers_end None ts s = ended s
 numbers_end (Some ns) ts s = behind s (behind s.two (ended s.two.two))

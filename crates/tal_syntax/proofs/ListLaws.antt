@@ -13,6 +13,7 @@ use Rattle.tal_syntax.proofs.TokenLaws.{Lawful-mark, marked}
 
 -- ---- behind a mark, or not
 
+-- a number is itself
 eqb-refl : (n : ℕ) → eqb n n ≡ true
 eqb-refl n = grind (arith, nat_tests)
 
@@ -124,9 +125,11 @@ More close N n xs ts = more_says close N xs ts × (length xs ≤ n)
 abbrev Closed : {A : Type 0} → List A → List Lexeme → Type 0
 Closed = Nothing []
 
+-- the mark is all that stands there
 only : {A : Type 0} (close : ℕ) {xs : List A} (ts : List Lexeme) → (mark close ⊕ Closed xs) ts → ts ≡ Mark close ∷ []
 only close ts s = lead (Mark close) ts s ∙ ap (λ (l : List Lexeme). Mark close ∷ l) s.two.none
 
+-- and it ends a list without rows
 closing : {A : Type 0} (close : ℕ) (ts : List Lexeme) → ts ≡ Mark close ∷ [] → (mark close ⊕ Closed {A = A} []) ts
 closing close ts e = record { front = Mark close ∷ []; back = []; parts = e; one = refl; two = nothing [] }
 

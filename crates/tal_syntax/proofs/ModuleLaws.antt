@@ -55,9 +55,11 @@ all_said scope f ts s = ap (form_at scope) (sym (append-nil ts)) ∙ (Lawful-for
 
 -- ---- a line
 
+-- with none left all were passed
 passed_all : (items : List Placed) → passed items [] ≡ items
 passed_all items = passed_is items items [] (sym (append-nil items))
 
+-- one more name that is short
 short_step : (i : Placed) (is : List Placed) → is_long i.token ≡ false → long_name is ≡ None → long_name (i ∷ is) ≡ None
 unfolding long_name
 short_step i is e h = rw (e, long_name) h
@@ -68,10 +70,12 @@ unfolding long_name
 none_long [] h = refl
 none_long (i ∷ is) h = short_step i is h.0 (none_long is h.1)
 
+-- a form that is taken has no long name
 taken_is : (o : Option ℕ) (f : Form) (found : Option Form) → taken_or_long o f ≡ Ok found → (o ≡ None) × (found ≡ Some f)
 taken_is None f found e = (refl, cc)
 taken_is (Some c) f found e = absurd cc
 
+-- a form that is read is that of the line,
 form_line : (scope : Scope) (items : List Placed) (x : Form × List Lexeme) (o : Option Form) → EndsOnce (lexemes_of items) → form_at scope (lexemes_of items) ≡ Ok x → whole items (Ok x) ≡ Ok o → LineOf scope items o
 form_line scope items x o once e h =
     let all = all_read scope x.0 (lexemes_of items) x.1 once e in
@@ -79,15 +83,18 @@ form_line scope items x o once e h =
     let k = taken_is (long_name (passed items x.1)) x.0 o h in
     subst (λ (p : Option Form). LineOf scope items p) (sym k.1) (all.1, no_long items (ap long_name (sym same) ∙ k.0))
 
+-- whatever was read
 read_line : (scope : Scope) (items : List Placed) (r : Result (Form × List Lexeme) (List Lexeme)) (o : Option Form) → EndsOnce (lexemes_of items) → form_at scope (lexemes_of items) ≡ r → whole items r ≡ Ok o → LineOf scope items o
 read_line scope items (Ok x) o once e h = form_line scope items x o once e h
 read_line scope items (Err left) o once e h = absurd cc
 
+-- no token before the line's end
 empty_is : (ts : List Lexeme) → no_token ts ≡ true → EndsOnce ts → ts ≡ EndOfLine ∷ []
 empty_is [] e once = absurd once
 empty_is (EndOfLine ∷ ts) e once = ap (λ (l : List Lexeme). EndOfLine ∷ l) once
 empty_is (t ∷ ts) e once = absurd cc
 
+-- a line is empty or has a form
 line_case : (scope : Scope) (items : List Placed) (o : Option Form) (r : Bool) → no_token (lexemes_of items) ≡ r → EndsOnce (lexemes_of items) → cond r (Ok None) (whole items (form_at scope (lexemes_of items))) ≡ Ok o → LineOf scope items o
 line_case scope items o true e once h =
     let same : None ≡ o = cc in
@@ -99,6 +106,7 @@ pub line_is : (scope : Scope) (bytes : List ℕ) (o : Option Form) → line_at s
 unfolding line_at
 line_is scope bytes o e = line_case scope (line_tokens bytes) o (no_token (lexemes_of (line_tokens bytes))) refl (line_ends bytes) e
 
+-- a sentence has a token
 some_token : (scope : Scope) (f : Form) (ts : List Lexeme) → form_says scope f ts → no_token ts ≡ false
 some_token scope f [] s = refl
 some_token scope f (EndOfLine ∷ ts) s = absurd (let e = sym (end_refused scope ts) ∙ all_said scope f (EndOfLine ∷ ts) s in cc)
@@ -120,6 +128,7 @@ behind_is : (front found : List TextLine) (r : Result (List TextLine) TextFault)
 behind_is front found (Ok xs) e = (xs, refl, cc)
 behind_is front found (Err f) e = absurd cc
 
+-- at the end nothing is open
 end_case : (b : Bool) (f : TextFault) (more : List TextLine) → cond b (Ok []) (Err f) ≡ Ok more → (more ≡ []) × (b ≡ true)
 end_case true f more e = (cc, refl)
 end_case false f more e = absurd cc
@@ -129,15 +138,18 @@ abbrev tail_at : ℕ → Scope → List ℕ → Option Form → List (List ℕ) 
 tail_at n scope l o [] = text_end n (after_line scope o) l
 tail_at n scope l o (m ∷ ms) = read_lines (n + 1) (after_line scope o) (m ∷ ms)
 
+-- a line with a form, and the lines behind it
 line_then : (n : ℕ) (scope : Scope) (l : List ℕ) (ls : List (List ℕ)) (o : Option Form) → line_at scope (line_tokens l) ≡ Ok o → read_lines n scope (l ∷ ls) ≡ behind_line (numbered n o) (tail_at n scope l o ls)
 unfolding read_lines
 line_then n scope l [] o e = rw (e, read_lines) refl
 line_then n scope l (m ∷ ms) o e = rw (e, read_lines) refl
 
+-- a line with a fault
 line_fails : (n : ℕ) (scope : Scope) (l : List ℕ) (ls : List (List ℕ)) (f : LineFault) → line_at scope (line_tokens l) ≡ Err f → read_lines n scope (l ∷ ls) ≡ Err (line_fault n scope l (is_last ls) f)
 unfolding read_lines
 line_fails n scope l ls f e = rw (e, read_lines) refl
 
+-- a line, where what stands behind it is known,
 step_is : (n : ℕ) (scope : Scope) (l : List ℕ) (ls : List (List ℕ)) (found : List TextLine) (r : Result (Option Form) LineFault) → line_at scope (line_tokens l) ≡ r → read_lines n scope (l ∷ ls) ≡ Ok found
     → ((o : Option Form) (more : List TextLine) → tail_at n scope l o ls ≡ Ok more → LinesOf (n + 1) (after_line scope o) ls more) → LinesOf n scope (l ∷ ls) found
 step_is n scope l ls found (Err f) e h next = absurd (let k = sym (line_fails n scope l ls f e) ∙ h in cc)
@@ -145,14 +157,17 @@ step_is n scope l ls found (Ok o) e h next =
     let b = behind_is (numbered n o) found (tail_at n scope l o ls) (sym (line_then n scope l ls o e) ∙ h) in
     (o, b.0, line_is scope l o e, b.2, next o b.0 b.1)
 
+-- and so all lines
 read_is : (ls : List (List ℕ)) (n : ℕ) (scope : Scope) (l : List ℕ) (found : List TextLine) → read_lines n scope (l ∷ ls) ≡ Ok found → LinesOf n scope (l ∷ ls) found
 read_is [] n scope l found e = step_is n scope l [] found (line_at scope (line_tokens l)) refl e (λ o more h. end_case (is_outside (after_line scope o)) (fault n (length l + 1) 5) more h)
 read_is (m ∷ ms) n scope l found e = step_is n scope l (m ∷ ms) found (line_at scope (line_tokens l)) refl e (λ o more h. read_is ms (n + 1) (after_line scope o) m more h)
 
+-- a line that is said is read,
 step_said : (n : ℕ) (scope : Scope) (l : List ℕ) (ls : List (List ℕ)) (found : List TextLine) (o : Option Form) (more : List TextLine) → LineOf scope (line_tokens l) o → found ≡ numbered n o ++ more → tail_at n scope l o ls ≡ Ok more → read_lines n scope (l ∷ ls) ≡ Ok found
 step_said n scope l ls found o more line parts next =
     line_then n scope l ls o (line_said scope (line_tokens l) o line) ∙ ap (λ (r : Result (List TextLine) TextFault). behind_line (numbered n o) r) next ∙ ap (λ (ts : List TextLine). Ok ts) (sym parts)
 
+-- and so are all
 said_is : (ls : List (List ℕ)) (n : ℕ) (scope : Scope) (l : List ℕ) (found : List TextLine) → LinesOf n scope (l ∷ ls) found → read_lines n scope (l ∷ ls) ≡ Ok found
 said_is [] n scope l found s =
     step_said n scope l [] found s.0 s.1 s.2 s.3
@@ -173,10 +188,12 @@ text_said bytes found s =
 
 -- ---- what is answered
 
+-- an answered module is one
 pub gives_module : (r : Result (List TextLine) TextAnswer) (bytes : List ℕ) → GivesText r (text_at bytes) → IfOk r (λ found. TextOf bytes found)
 gives_module (Ok found) bytes h = text_is bytes found h
 gives_module (Err e) bytes h = tt
 
+-- an answered fault means that there is none
 pub gives_no_module : (r : Result (List TextLine) TextAnswer) (bytes : List ℕ) → GivesText r (text_at bytes) → NoModule r bytes
 gives_no_module (Ok found) bytes h = tt
 gives_no_module (Err (answer.Fault f)) bytes h = λ found s. let e = sym h ∙ text_said bytes found s in cc

@@ -40,6 +40,7 @@ factor_there x (Number n) e =
     (ap (λ (m : ℤ). Number m ∷ []) is, ap factor (sym is) ∙ e)
 factor_there x t e = absurd cc
 
+-- a factor is read exactly
 Lawful-factor : Lawful factor_at factor_says
 unfolding factor_at
 Lawful-factor = Lawful-one of_factor factor_says factor_there (λ x ts s. (Number (pos x), s.0, s.1)) (record { value = 1; text = Number (pos 1) ∷ []; says = (refl, refl) })
@@ -59,6 +60,7 @@ term_rest (Key key.Display) = Made (λ n. term.DisplayByte n) name
 term_rest (Key key.Static) = Made (λ n. term.StaticAt n) name
 term_rest _ = λ x ts. ⊥
 
+-- a token before what stands behind it
 term_there : (t : Lexeme) (x : Term) (ts : List Lexeme) → term_rest t x ts → term_says x (t ∷ ts)
 term_there (Register r) x ts (inl s) = subst (λ (y : Term). term_says y (Register r ∷ ts)) (sym s.two.value) (record { front = Register r ∷ []; back = ts; parts = refl; one = refl; two = record { front = s.front; back = s.back; parts = s.parts; one = s.one; two = s.two.says } })
 term_there (Register r) x ts (inr s) = rw (s.none, s.value) refl
@@ -69,6 +71,7 @@ term_there (Key key.Display) x ts s = led term_says (Key key.Display) x ts s (λ
 term_there (Key key.Static) x ts s = led term_says (Key key.Static) x ts s (λ y us j. j)
 term_there t x ts s = absurd s
 
+-- a term by its first token
 term_back : (x : Term) (ts : List Lexeme) → term_says x ts → Chosen term_of term_rest x ts
 term_back (term.Register r) ts s = record { token = Register r; back = []; parts = s; way = _; picks = refl; two = inr (nothing (term.Register r)) }
 term_back (term.Scaled r k) ts s =
@@ -88,15 +91,18 @@ abbrev signed_rest : Lexeme → Term → List Lexeme → Type 0
 signed_rest (Mark b) = SignRest b
 signed_rest _ = λ x ts. ⊥
 
+-- a sign before what stands behind it
 signed_there : (t : Lexeme) (x : Term) (ts : List Lexeme) → signed_rest t x ts → signed_says x (t ∷ ts)
 signed_there (Mark b) x ts (inl s) = inl (record { front = Mark b ∷ []; back = ts; parts = refl; one = ap (λ (n : ℕ). Mark n ∷ []) s.0; two = s.1 })
 signed_there (Mark b) x ts (inr s) = inr (record { front = Mark b ∷ []; back = ts; parts = refl; one = ap (λ (n : ℕ). Mark n ∷ []) s.0; two = s.1 })
 signed_there t x ts s = absurd s
 
+-- a further term by its sign
 signed_back : (x : Term) (ts : List Lexeme) → signed_says x ts → Chosen signed_of signed_rest x ts
 signed_back x ts (inl s) = record { token = Mark 43; back = s.back; parts = lead (Mark 43) ts s; way = _; picks = refl; two = inl (refl, s.two) }
 signed_back x ts (inr s) = record { token = Mark 45; back = s.back; parts = lead (Mark 45) ts s; way = _; picks = refl; two = inr (refl, s.two) }
 
+-- the negative of a number is read exactly
 Lawful-negative : Lawful (reads negated number_at) Negative
 Lawful-negative = Lawful-same (reads negated number_at) (Made negated number) Negative (Lawful-reads negated Lawful-number) (λ x ts s. record { written = s.of; value = s.value; says = s.says }) (λ x ts s. record { of = s.written; value = s.value; says = s.says })
 
@@ -116,11 +122,13 @@ module _ {B : Type 0} (q : Read B) (T : B → List Lexeme → Type 0) (lq : Lawf
   abbrev scaled_says : Reg → Term → List Lexeme → Type 0
   scaled_says r = Made (λ k. term.Scaled r k) factor_says
 
+  -- no factor stands behind a register alone
   alone_starts : (r : Reg) (z : Term × B) (ts : List Lexeme) → Both (Nothing (term.Register r)) T z ts → Starts (is_mark 42) ts
   alone_starts r z ts s =
       let a = apart z.1 s.back s.two in
       record { token = a.token; back = a.back; parts = s.parts ∙ ap (λ (l : List Lexeme). l ++ s.back) s.one.none ∙ a.parts; is = a.is }
 
+  -- a register with what follows, by whether a factor is there
   with_factor : (r : Reg) (z : Term × B) (ts : List Lexeme) → Unless 42 (Both (scaled_says r) T) (Both (Nothing (term.Register r)) T) z ts → Both (register_rest r) T z ts
   with_factor r z ts (inl s) =
       let t = s.two in
@@ -133,6 +141,7 @@ module _ {B : Type 0} (q : Read B) (T : B → List Lexeme → Type 0) (lq : Lawf
       }
   with_factor r z ts (inr s) = record { front = s.front; back = s.back; parts = s.parts; one = inr s.one; two = s.two }
 
+  -- and the same the other way
   factor_first : (r : Reg) (z : Term × B) (ts front back : List Lexeme) → ts ≡ front ++ back → register_rest r z.0 front → T z.1 back → Unless 42 (Both (scaled_says r) T) (Both (Nothing (term.Register r)) T) z ts
   factor_first r z ts front back parts (inl f) two =
       inl (record {
@@ -144,6 +153,7 @@ module _ {B : Type 0} (q : Read B) (T : B → List Lexeme → Type 0) (lq : Lawf
       })
   factor_first r z ts front back parts (inr n) two = inr (record { front = front; back = back; parts = parts; one = n; two = two })
 
+  -- a register with its factor
   register_then : (r : Reg) → Lawful (both (register_at r) q) (Both (register_rest r) T)
   unfolding register_at
   register_then r =
@@ -158,6 +168,7 @@ module _ {B : Type 0} (q : Read B) (T : B → List Lexeme → Type 0) (lq : Lawf
   then_of : {p r : Read Term} (S : Term → List Lexeme → Type 0) → Lawful (both p q) (Both S T) → (let l : Option (Read Term) = Some p in l) ≡ Some r → Lawful (both r q) (Both S T)
   then_of {p} {r} S l e = let same : p ≡ r = cc in subst (λ (x : Read Term). Lawful (both x q) (Both S T)) same l
 
+  -- each way to read a term
   term_laws : (t : Lexeme) (p : Read Term) → term_of t ≡ Some p → Lawful (both p q) (Both (term_rest t) T)
   term_laws (Register r) p e = then_of _ (register_then r) e
   term_laws (Number n) p e = then_of _ (Lawful-both (Lawful-done (term.Number n)) lq) e
@@ -167,6 +178,7 @@ module _ {B : Type 0} (q : Read B) (T : B → List Lexeme → Type 0) (lq : Lawf
   term_laws (Key key.Static) p e = then_of _ (Lawful-both (Lawful-reads (λ n. term.StaticAt n) Lawful-name) lq) e
   term_laws t p e = absurd cc
 
+  -- some term
   term_lives : Lives (Both term_says T)
   term_lives = record { value = (term.Number (pos 0), lq.lives.value); text = Number (pos 0) ∷ lq.lives.text; says = record { front = Number (pos 0) ∷ []; back = lq.lives.text; parts = refl; one = refl; two = lq.lives.says } }
 
@@ -174,6 +186,7 @@ module _ {B : Type 0} (q : Read B) (T : B → List Lexeme → Type 0) (lq : Lawf
   unfolding term_at
   Lawful-term_then = Lawful-choose_then term_of term_rest term_says q T term_laws term_there term_back term_lives
 
+  -- either sign
   sign_law : (b : ℕ) (plus minus : Bool) (p : Read Term) → eqb b 43 ≡ plus → eqb b 45 ≡ minus → cond plus (Some term_at) (cond minus (Some (reads negated number_at)) None) ≡ Some p → Lawful (both p q) (Both (SignRest b) T)
   sign_law b true minus p e f h =
       then_of (SignRest b) (Lawful-same (both term_at q) (Both term_says T) (Both (SignRest b) T) Lawful-term_then
@@ -185,10 +198,12 @@ module _ {B : Type 0} (q : Read B) (T : B → List Lexeme → Type 0) (lq : Lawf
       (λ z ts s. record { front = s.front; back = s.back; parts = s.parts; one = minus_alone b z.0 s.front f s.one; two = s.two })) h
   sign_law b false false p e f h = absurd cc
 
+  -- each way to read a further term
   signed_laws : (t : Lexeme) (p : Read Term) → signed_of t ≡ Some p → Lawful (both p q) (Both (signed_rest t) T)
   signed_laws (Mark b) p e = sign_law b (eqb b 43) (eqb b 45) p refl refl e
   signed_laws t p e = absurd cc
 
+  -- some further term
   signed_lives : Lives (Both signed_says T)
   signed_lives = record { value = (term.Number (pos 0), lq.lives.value); text = Mark 43 ∷ Number (pos 0) ∷ lq.lives.text; says = record { front = Mark 43 ∷ Number (pos 0) ∷ []; back = lq.lives.text; parts = refl; one = inl (record { front = Mark 43 ∷ []; back = Number (pos 0) ∷ []; parts = refl; one = refl; two = refl }); two = lq.lives.says } }
 
@@ -198,10 +213,12 @@ module _ {B : Type 0} (q : Read B) (T : B → List Lexeme → Type 0) (lq : Lawf
 
 -- ---- all terms of an operand
 
+-- a further term begins with its sign,
 signed_starts : (m : ℕ) → eqb 43 m ≡ false → eqb 45 m ≡ false → (x : Term) (ts : List Lexeme) → signed_says x ts → Starts (is_mark m) ts
 signed_starts m e f x ts (inl s) = record { token = Mark 43; back = s.back; parts = lead (Mark 43) ts s; is = e }
 signed_starts m e f x ts (inr s) = record { token = Mark 45; back = s.back; parts = lead (Mark 45) ts s; is = f }
 
+-- and so do further terms, or with the bracket
 more_starts : (n : ℕ) (xs : List Term) (ts : List Lexeme) → More 93 signed_says n xs ts → Starts (is_mark 42) ts
 more_starts n [] ts s = record { token = Mark 93; back = []; parts = s.0; is = refl }
 more_starts n (x ∷ xs) ts s =
@@ -209,17 +226,20 @@ more_starts n (x ∷ xs) ts s =
     let a = signed_starts 42 refl refl x j.front j.one in
     record { token = a.token; back = a.back ++ j.back; parts = j.parts ∙ ap (λ (l : List Lexeme). l ++ j.back) a.parts; is = a.is }
 
+-- further terms are read exactly
 Lawful-further : (n : ℕ) → Lawful (more_at 93 signed_at n) (More 93 signed_says n)
 Lawful-further = Lawful-more 93 signed_at signed_says (λ n l. Lawful-signed_then (more_at 93 signed_at n) (More 93 signed_says n) l (more_starts n)) (signed_starts 93 refl refl)
 
 abbrev Terms : List Term → List Lexeme → Type 0
 Terms = Made cons (Both term_says (More 93 signed_says most))
 
+-- all terms by the first and the others
 terms_there : (xs : List Term) (ts : List Lexeme) → Terms xs ts → terms_says xs ts
 terms_there xs ts s =
     let j = s.says in
     subst (λ (l : List Term). terms_says l ts) (sym s.value) (record { front = j.front; back = j.back; parts = j.parts; one = j.one; two = j.two.0 }, j.two.1)
 
+-- and the same the other way
 terms_back : (xs : List Term) (ts : List Lexeme) → terms_says xs ts → Terms xs ts
 terms_back [] ts s = absurd s
 terms_back (x ∷ xs) ts s =
