@@ -1,5 +1,5 @@
 -- Operands are read exactly.
-use Rattle.std.proofs.Common.{◌≡◌, ℕ, List, [], ◌∷◌, Option, Some, None, refl, sym, subst}
+use Rattle.std.proofs.Common.{◌≡◌, List, [], ◌∷◌, Option, Some, None, refl, sym, subst}
 use Rattle.std.specs.Option.{option_to_list}
 use lib.Dec.{eqb}
 use Rattle.ia32_code.specs.declared.instruction.Reg.TheVariants.{Eax}
@@ -9,7 +9,7 @@ use Rattle.tal_syntax.specs.declared.form.Arg.{Arg}
 use Rattle.tal_syntax.specs.declared.form.Arg.TheVariants as arg
 use Rattle.tal_syntax.specs.declared.instructions.Operands.{Operands}
 use Rattle.tal_syntax.specs.declared.instructions.Operands.TheVariants as operands
-use Rattle.tal_syntax.specs.Sentences.{Joined, token, ◌⊕◌}
+use Rattle.tal_syntax.specs.Sentences.{◌⊕◌}
 use Rattle.tal_syntax.specs.Grammar.{mark, name, number, line_end, comma, type_says, terms_says, arg_says, count_says, called_says, target_says, alone_says, pair_says, up_to_three_say, none_says, args_say}
 use Rattle.tal_syntax.specs.Reading.{Read, reads, cons, name_at, end_at}
 use Rattle.tal_syntax.specs.Operands.{arg_of, arg_at, count_of, count_at, called_of, called_at, target_at, last_at, alone, pair_at, third_of, third_at, second_of, second_at, up_to_three_at, args_at}

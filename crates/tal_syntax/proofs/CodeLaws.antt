@@ -6,7 +6,6 @@ use Rattle.text_tokens.specs.declared.token.Keyword.TheVariants as key
 use Rattle.tal_syntax.specs.declared.form.TypeText.{TypeText}
 use Rattle.tal_syntax.specs.declared.form.Form.{Form}
 use Rattle.tal_syntax.specs.declared.form.Form.TheVariants as form
-use Rattle.tal_syntax.specs.Sentences.{Joined}
 use Rattle.tal_syntax.specs.Grammar.{type_says, reg_type_says, list_says, slots_says, args_say, code_says}
 use Rattle.tal_syntax.specs.Reading.{Read, rows_at}
 use Rattle.tal_syntax.specs.Rows.{type_at}

@@ -1,5 +1,5 @@
 -- The lines outside classes and functions are read exactly.
-use Rattle.std.proofs.Common.{◌≡◌, ◌≢◌, ℕ, ℤ, pos, Bool, true, false, cond, List, [], ◌∷◌, ◌++◌, Option, Some, None, refl, sym, ap, subst, ◌∙◌}
+use Rattle.std.proofs.Common.{◌≡◌, ◌≢◌, ℕ, ℤ, pos, true, false, List, [], ◌∷◌, ◌++◌, Option, Some, None, refl, sym, ap, subst, ◌∙◌}
 use lib.Dec.{eqb}
 use Rattle.ia32_code.specs.declared.instruction.Reg.{Reg}
 use Rattle.ia32_code.specs.declared.instruction.Reg.TheVariants.{Eax, Esp}
@@ -7,19 +7,17 @@ use Rattle.text_tokens.specs.Token.{Lexeme, Key, Register, Name, Number, Mark, E
 use Rattle.text_tokens.specs.declared.token.Keyword.{Keyword}
 use Rattle.text_tokens.specs.declared.token.Keyword.TheVariants as key
 use Rattle.tal_syntax.specs.declared.form.RegType.{RegType}
-use Rattle.tal_syntax.specs.declared.form.TypeText.{TypeText}
-use Rattle.tal_syntax.specs.declared.form.TypeText.TheVariants as ty
 use Rattle.tal_syntax.specs.declared.form.Form.{Form}
 use Rattle.tal_syntax.specs.declared.form.Form.TheVariants as form
-use Rattle.tal_syntax.specs.Sentences.{Joined, token, ◌⊕◌}
-use Rattle.tal_syntax.specs.Grammar.{name, number, mark, line_end, type_says, typed_says, reg_type_says, list_says, numbers_says, parent_says, outside_says}
-use Rattle.tal_syntax.specs.Reading.{Read, both, reads, choose, by_key, is_mark, mark_at, number_at, rows_at, typed_at, of_typed, typed, end_at}
+use Rattle.tal_syntax.specs.Sentences.{token, ◌⊕◌}
+use Rattle.tal_syntax.specs.Grammar.{name, number, type_says, typed_says, reg_type_says, list_says, numbers_says, parent_says, outside_says}
+use Rattle.tal_syntax.specs.Reading.{Read, both, reads, by_key, is_mark, number_at, rows_at, typed_at, of_typed, typed}
 use Rattle.tal_syntax.specs.Rows.{type_at, reg_type, reg_type_at}
 use Rattle.tal_syntax.specs.Forms.{numbers_of, numbers_at, parent_of, parent_at, extern_key, extern_at, outside_key, outside_at, heap_at, stacks_at, entry_at, sig_at, kind_at, static_at, data_at, outer_data_at, class_at, func_at}
 use Rattle.tal_syntax.proofs.Lawful.{Lawful, Made, Both, Nothing, nothing, Lawful-done, Lawful-both, Lawful-reads, Lawful-same}
 use Rattle.tal_syntax.proofs.LawfulChoices.{Chosen, Lawful-choose, Lawful-one, Opened, opened_law, behind_key, each_key, key_there, law_of, led, led_by_mark, lead}
 use Rattle.tal_syntax.proofs.TokenLaws.{Lawful-name, Lawful-number, Lawful-mark, Lawful-end, marked, ended, some_is}
-use Rattle.tal_syntax.proofs.TypeLaws.{Lawful-type, type_starts}
+use Rattle.tal_syntax.proofs.TypeLaws.{Lawful-type}
 use Rattle.tal_syntax.proofs.ListLaws.{Lawful-rows, Starts}
 
 -- ---- registers with their types

@@ -1,8 +1,8 @@
 -- A reader reads exactly the sentences of a language, and refuses the first token after which no sentence can follow.
-use Rattle.std.proofs.Common.{◌≡◌, List, [], ◌∷◌, ◌++◌, Option, Some, None, Result, Ok, Err, refl, sym, ap, subst, ◌∙◌, append_assoc}
+use Rattle.std.proofs.Common.{◌≡◌, List, [], ◌∷◌, ◌++◌, Result, Ok, Err, refl, sym, ap, subst, ◌∙◌, append_assoc}
 use Rattle.text_tokens.specs.Token.{Lexeme}
-use Rattle.tal_syntax.specs.Reading.{Read, ◌>>=◌, done, both, reads, choose, one_of}
-use Rattle.tal_syntax.specs.Sentences.{Joined, ◌⊕◌}
+use Rattle.tal_syntax.specs.Reading.{Read, ◌>>=◌, done, both, reads}
+use Rattle.tal_syntax.specs.Sentences.{◌⊕◌}
 
 -- the same answer, whatever follows the refused token
 abbrev pub Stuck : {A : Type 0} → Read A → List Lexeme → List Lexeme → Type 0

@@ -1,11 +1,11 @@
 -- Readers that the first token decides.
-use Rattle.std.proofs.Common.{◌≡◌, ℕ, Bool, true, false, cond, List, [], ◌∷◌, ◌++◌, Option, Some, None, Result, Ok, Err, refl, sym, ap, subst, ◌∙◌}
+use Rattle.std.proofs.Common.{◌≡◌, ℕ, Bool, true, false, cond, List, [], ◌∷◌, ◌++◌, Option, Some, None, Ok, Err, refl, sym, ap, subst, ◌∙◌}
 use Rattle.std.proofs.lemmas.Bool.{eqb-true}
 use lib.Dec.{eqb}
 use Rattle.text_tokens.specs.Token.{Lexeme, Key, Mark}
 use Rattle.text_tokens.specs.declared.token.Keyword.{Keyword}
 use Rattle.tal_syntax.specs.Reading.{Read, choose, one_of, by_key}
-use Rattle.tal_syntax.specs.Sentences.{Joined, token, ◌⊕◌}
+use Rattle.tal_syntax.specs.Sentences.{token, ◌⊕◌}
 use Rattle.tal_syntax.proofs.Lawful.{Lawful, Lives, Refusal, Took, Stuck, Made, Lawful-same, ok_is, err_is}
 
 -- a token that is picked, and a sentence behind it

@@ -1,8 +1,7 @@
 -- A reader with another one behind it, where what the first takes goes by the next token.
-use Rattle.std.proofs.Common.{◌≡◌, ℕ, Bool, true, false, List, [], ◌∷◌, ◌++◌, Option, Some, None, Result, Ok, Err, refl, sym, ap, ◌∙◌}
+use Rattle.std.proofs.Common.{◌≡◌, ℕ, Bool, true, false, List, [], ◌∷◌, ◌++◌, Option, Some, None, Result, Ok, refl, sym, ap, ◌∙◌}
 use Rattle.text_tokens.specs.Token.{Lexeme}
 use Rattle.tal_syntax.specs.Reading.{Read, ◌>>=◌, both, choose, is_mark, if_mark}
-use Rattle.tal_syntax.specs.Sentences.{Joined, ◌⊕◌}
 use Rattle.tal_syntax.proofs.Lawful.{Lawful, Lives, Stuck, Both}
 use Rattle.tal_syntax.proofs.LawfulChoices.{Chosen, Lawful-choose, goes, stays, law_of}
 

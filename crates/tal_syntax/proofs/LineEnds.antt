@@ -1,11 +1,11 @@
 -- The line's end is a line's last token and no other, and the last token of each sentence.
-use Rattle.std.proofs.Common.{◌≡◌, ℕ, zero, suc, ◌+◌, Bool, true, false, cond, drop, List, [], ◌∷◌, ◌++◌, Option, Some, None, refl, sym, ap, subst, ◌∙◌, append_assoc}
+use Rattle.std.proofs.Common.{◌≡◌, ℕ, zero, suc, ◌+◌, Bool, true, false, cond, drop, List, [], ◌∷◌, ◌++◌, Option, Some, None, refl, sym, ap, ◌∙◌, append_assoc}
 use Rattle.std.specs.Prelude.{ℤ, pos, neg_ℤ, nat_le, ◌==◌, ◌&&◌}
 use Rattle.std.specs.List.{take_while}
 use Rattle.text_tokens.specs.Bytes.{is_blank, is_letter, is_digit, is_name_byte, is_mark_byte, is_allowed}
 use Rattle.text_tokens.specs.Token.{Lexeme, Key, Register, Mnemonic, Name, Number, Bad, EndOfLine, Placed, lexemes_of}
 use Rattle.text_tokens.specs.Lexing.{placed, tokens_from, line_tokens}
-use Rattle.text_tokens.specs.Pieces.{PieceView, piece_in, piece_at, token_of, word_piece, number_piece, negative_piece, one_byte, behind_mark, glues}
+use Rattle.text_tokens.specs.Pieces.{PieceView, piece_in, piece_at, token_of, glues}
 use Rattle.text_tokens.specs.Numbers.{signed, unsigned}
 use Rattle.text_tokens.specs.Words.{word_of}
 use Rattle.text_tokens.specs.declared.words.Word.{Word}

@@ -1,10 +1,10 @@
 -- Readers of lists read exactly the sentences of their rows.
-use Rattle.std.proofs.Common.{◌≡◌, ℕ, zero, suc, ◌≤◌, Bool, true, false, List, [], ◌∷◌, ◌++◌, length, Option, Some, None, Ok, Err, refl, sym, ap, subst, ◌∙◌, arith, ◌⊎◌, inl, inr, append_assoc}
+use Rattle.std.proofs.Common.{◌≡◌, ℕ, zero, suc, ◌≤◌, Bool, true, false, List, [], ◌∷◌, ◌++◌, length, Ok, Err, refl, sym, ap, subst, ◌∙◌, arith, ◌⊎◌, inl, inr}
 use Rattle.std.proofs.lemmas.Bool.{eqb-true}
 use Rattle.std.proofs.lemmas.Bool.Decides.{nat_tests}
 use lib.Dec.{eqb}
 use Rattle.text_tokens.specs.Token.{Lexeme, Mark}
-use Rattle.tal_syntax.specs.Sentences.{Joined, ◌⊕◌}
+use Rattle.tal_syntax.specs.Sentences.{◌⊕◌}
 use Rattle.tal_syntax.specs.Grammar.{mark, comma, more_says, list_says}
 use Rattle.tal_syntax.specs.Reading.{Read, done, both, reads, cons, is_mark, if_mark, mark_at, more_at, most, some_rows, comma_at, rows_at}
 use Rattle.tal_syntax.proofs.Lawful.{Lawful, Refusal, Took, Stuck, Made, Both, Nothing, nothing, Lawful-done, Lawful-both, Lawful-reads, Lawful-same}

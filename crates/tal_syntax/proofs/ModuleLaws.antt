@@ -1,13 +1,11 @@
 -- What is read of a text is what its sentences say.
-use Rattle.std.proofs.Common.{◌≡◌, ℕ, ◌+◌, Bool, true, false, cond, length, List, [], ◌∷◌, ◌++◌, Option, Some, None, Result, Ok, Err, refl, sym, ap, subst, ◌∙◌, append_assoc, append-nil}
+use Rattle.std.proofs.Common.{◌≡◌, ℕ, ◌+◌, Bool, true, false, cond, length, List, [], ◌∷◌, ◌++◌, Option, Some, None, Result, Ok, Err, refl, sym, ap, subst, ◌∙◌, append-nil}
 use Rattle.text_tokens.specs.Token.{Lexeme, EndOfLine, Placed, lexemes_of, long_name, is_long}
 use Rattle.text_tokens.specs.Lexing.{line_tokens}
-use Rattle.tal_syntax.specs.Reading.{Read}
 use Rattle.tal_syntax.specs.Faults.{NoLong}
 use Rattle.tal_syntax.specs.Forms.{form_at, outside_at, member_at, code_at}
 use Rattle.tal_syntax.specs.Grammar.{form_says}
-use Rattle.tal_syntax.specs.Lines.{lines}
-use Rattle.tal_syntax.specs.Text.{LineFault, passed, whole, refusal, refused_or_long, taken_or_long, no_token, line_at, after_line, is_outside, numbered, line_fault, is_last, fault, text_end, behind_line, read_lines, text_at, GivesText}
+use Rattle.tal_syntax.specs.Text.{LineFault, passed, whole, taken_or_long, no_token, line_at, after_line, is_outside, numbered, line_fault, is_last, fault, text_end, behind_line, read_lines, text_at, GivesText}
 use Rattle.tal_syntax.specs.Modules.{LineOf, LinesOf, TextOf, NoModule}
 use Rattle.std.specs.Prelude.{IfOk}
 use Rattle.tal_syntax.specs.declared.fault.TextFault.{TextFault}
@@ -20,7 +18,7 @@ use Rattle.tal_syntax.specs.declared.module.TextLine.{TextLine}
 use Rattle.tal_syntax.proofs.Lawful.{Lawful}
 use Rattle.tal_syntax.proofs.FaultLaws.{no_long}
 use Rattle.tal_syntax.proofs.LinePlaces.{passed_is}
-use Rattle.tal_syntax.proofs.LineEnds.{EndsOnce, Ends, line_ends, none_behind, form_ends}
+use Rattle.tal_syntax.proofs.LineEnds.{EndsOnce, line_ends, none_behind, form_ends}
 use Rattle.tal_syntax.proofs.MemberLaws.{Lawful-member}
 use Rattle.tal_syntax.proofs.DeclarationLaws.{Lawful-outside}
 use Rattle.tal_syntax.proofs.CodeLaws.{Lawful-code}

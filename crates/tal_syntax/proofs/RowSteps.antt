@@ -5,7 +5,7 @@ use Rattle.std.proofs.lemmas.Bool.{eqb-true}
 use Rattle.std.proofs.lemmas.Bool.Decides.{nat_tests}
 use lib.Dec.{eqb}
 use Rattle.text_tokens.specs.Token.{Lexeme, Mark}
-use Rattle.tal_syntax.specs.Reading.{Read, ◌>>=◌, Gives, GivesVia, done, both, reads, cons, if_mark, is_mark, mark_at, more_at}
+use Rattle.tal_syntax.specs.Reading.{Read, ◌>>=◌, Gives, GivesVia, done, both, reads, cons, if_mark, mark_at, more_at}
 use Rattle.tal_syntax.specs.declared.tokens_read.Stop.{Stop}
 use Rattle.tal_syntax.specs.declared.tokens_read.Stop.TheVariants.{Refused, Memory}
 

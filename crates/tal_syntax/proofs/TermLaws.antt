@@ -1,21 +1,20 @@
 -- The terms of memory operands are read exactly. A register may have a factor behind it, so each term is looked at with what
 -- follows it.
-use Rattle.std.proofs.Common.{◌≡◌, ℕ, ℤ, pos, ◌≤◌, Bool, true, false, cond, List, [], ◌∷◌, ◌++◌, length, Option, Some, None, refl, sym, ap, subst, ◌∙◌, ◌⊎◌, inl, inr, append_assoc, arith}
+use Rattle.std.proofs.Common.{◌≡◌, ℕ, ℤ, pos, Bool, true, false, cond, List, [], ◌∷◌, ◌++◌, Option, Some, None, refl, sym, ap, subst, ◌∙◌, ◌⊎◌, inl, inr, append_assoc, arith}
 use Rattle.std.proofs.lemmas.Bool.{eqb-true}
 use Rattle.std.proofs.lemmas.Bool.Decides.{Decides-int_eq}
 use Rattle.std.specs.Ordering.{int_eq}
 use lib.Dec.{eqb}
 use Rattle.ia32_code.specs.declared.instruction.Reg.{Reg}
-use Rattle.text_tokens.specs.Token.{Lexeme, Key, Register, Name, Number, Mark}
+use Rattle.text_tokens.specs.Token.{Lexeme, Key, Register, Number, Mark}
 use Rattle.text_tokens.specs.declared.token.Keyword.TheVariants as key
 use Rattle.tal_syntax.specs.declared.form.Term.{Term}
 use Rattle.tal_syntax.specs.declared.form.Term.TheVariants as term
-use Rattle.tal_syntax.specs.Sentences.{Joined, token, ◌⊕◌}
-use Rattle.tal_syntax.specs.Grammar.{mark, name, number, factor_says, term_says, Negative, signed_says, more_says, terms_says}
+use Rattle.tal_syntax.specs.Grammar.{name, number, factor_says, term_says, Negative, signed_says, terms_says}
 use Rattle.tal_syntax.specs.Reading.{Read, done, both, reads, cons, is_mark, if_mark, number_at, more_at, most, some_rows}
-use Rattle.tal_syntax.specs.Operands.{factor, of_factor, factor_at, register_at, two_names, term_of, term_at, negated, signed_of, signed_at, terms_at}
+use Rattle.tal_syntax.specs.Operands.{factor, of_factor, factor_at, register_at, term_of, term_at, negated, signed_of, signed_at, terms_at}
 use Rattle.tal_syntax.proofs.Lawful.{Lawful, Lives, Made, Both, Nothing, nothing, Lawful-done, Lawful-both, Lawful-reads, Lawful-same}
-use Rattle.tal_syntax.proofs.LawfulChoices.{Chosen, Lawful-one, law_of, led, lead}
+use Rattle.tal_syntax.proofs.LawfulChoices.{Chosen, Lawful-one, led, lead}
 use Rattle.tal_syntax.proofs.LawfulFollowed.{Lawful-as, Lawful-choose_then, both_mark}
 use Rattle.tal_syntax.proofs.TokenLaws.{Lawful-name, Lawful-number, some_is}
 use Rattle.tal_syntax.proofs.ListLaws.{Starts, Unless, More, Lawful-unless, Lawful-more}

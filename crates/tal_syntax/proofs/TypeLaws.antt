@@ -1,12 +1,12 @@
 -- Types are read exactly.
-use Rattle.std.proofs.Common.{◌≡◌, ℕ, List, [], ◌∷◌, Some, refl}
-use Rattle.text_tokens.specs.Token.{Lexeme, Key, Name}
+use Rattle.std.proofs.Common.{◌≡◌, List, [], ◌∷◌, Some, refl}
+use Rattle.text_tokens.specs.Token.{Lexeme, Key}
 use Rattle.text_tokens.specs.declared.token.Keyword.{Keyword}
 use Rattle.text_tokens.specs.declared.token.Keyword.TheVariants as key
 use Rattle.tal_syntax.specs.declared.form.TypeText.{TypeText}
 use Rattle.tal_syntax.specs.declared.form.TypeText.TheVariants as ty
 use Rattle.tal_syntax.specs.Grammar.{name, type_says}
-use Rattle.tal_syntax.specs.Reading.{Read, by_key, is_mark, name_at}
+use Rattle.tal_syntax.specs.Reading.{Read, by_key, is_mark}
 use Rattle.tal_syntax.specs.Rows.{type_key, type_at}
 use Rattle.tal_syntax.proofs.Lawful.{Lawful, Made, Nothing, nothing, Lawful-done, Lawful-reads}
 use Rattle.tal_syntax.proofs.LawfulChoices.{Chosen, Lawful-choose, behind_key, each_key, key_there, law_of, led, lead}

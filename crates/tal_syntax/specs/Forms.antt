@@ -3,7 +3,6 @@ use Rattle.std.specs.Prelude.{ℕ, ℤ, List, Option, Some, None, Bool, true, fa
 use Rattle.text_tokens.specs.Token.{Lexeme, Key, Mnemonic as Operation, Name, Mark, EndOfLine}
 use Rattle.text_tokens.specs.declared.token.Keyword.{Keyword}
 use Rattle.text_tokens.specs.declared.token.Keyword.TheVariants as key
-use Rattle.tal_syntax.specs.declared.form.RegType.{RegType}
 use Rattle.tal_syntax.specs.declared.form.TypeText.{TypeText}
 use Rattle.tal_syntax.specs.declared.form.Form.{Form}
 use Rattle.tal_syntax.specs.declared.form.Form.TheVariants as form

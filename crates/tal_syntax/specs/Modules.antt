@@ -1,5 +1,5 @@
 -- A text by the sentences of its lines.
-use Rattle.std.specs.Prelude.{◌≡◌, ℕ, ◌+◌, List, [], ◌∷◌, ◌++◌, true, Option, Some, None, Result, Ok, Err}
+use Rattle.std.specs.Prelude.{◌≡◌, ℕ, ◌+◌, List, [], ◌∷◌, ◌++◌, true, Option, Some, None, Result, Err}
 use Rattle.text_tokens.specs.Token.{EndOfLine, Placed, lexemes_of}
 use Rattle.text_tokens.specs.Lexing.{line_tokens}
 use Rattle.tal_syntax.specs.Faults.{NoLong}

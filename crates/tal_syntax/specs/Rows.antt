@@ -1,5 +1,5 @@
 -- Reading types, and lists of rows.
-use Rattle.std.specs.Prelude.{◌≡◌, ℕ, ℤ, List, [], ◌∷◌, Option, Some, None, Bool, true, false}
+use Rattle.std.specs.Prelude.{◌≡◌, ℕ, List, ◌∷◌, Option, Some, None, Bool, true, false}
 use Rattle.ia32_code.specs.declared.instruction.Reg.{Reg}
 use Rattle.text_tokens.specs.Token.{Lexeme, Mark}
 use Rattle.text_tokens.specs.declared.token.Keyword.{Keyword}
@@ -7,7 +7,7 @@ use Rattle.text_tokens.specs.declared.token.Keyword.TheVariants as key
 use Rattle.tal_syntax.specs.declared.form.TypeText.{TypeText}
 use Rattle.tal_syntax.specs.declared.form.TypeText.TheVariants as ty
 use Rattle.tal_syntax.specs.declared.form.RegType.{RegType}
-use Rattle.tal_syntax.specs.Reading.{Read, done, both, reads, choose, by_key, name_at, number_at, typed_at, rows_at}
+use Rattle.tal_syntax.specs.Reading.{Read, done, both, reads, choose, by_key, name_at, typed_at}
 
 -- a mark was taken, or stays
 abbrev pub Peels : ℕ → Bool → List Lexeme → List Lexeme → Type 0

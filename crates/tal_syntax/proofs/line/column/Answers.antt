@@ -1,4 +1,4 @@
-use Rattle.std.proofs.Common.{◌≡◌, ◌∙◌, ap, sym}
+use Rattle.std.proofs.Common.{◌∙◌, ap, sym}
 use Rattle.tal_syntax.specs.Text.{place}
 use Rattle.tal_syntax.proofs.LinePlaces.{place_is}
 use Rattle.tal_syntax.proofs.line.column.Goals as goal

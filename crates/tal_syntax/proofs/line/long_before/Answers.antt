@@ -1,4 +1,4 @@
-use Rattle.std.proofs.Common.{◌≡◌, ◌∙◌, List, ap, sym}
+use Rattle.std.proofs.Common.{◌∙◌, List, ap, sym}
 use Rattle.text_tokens.specs.Token.{Lexeme, long_name}
 use Rattle.tal_syntax.specs.Text.{passed}
 use Rattle.tal_syntax.proofs.LinePlaces.{passed_is}

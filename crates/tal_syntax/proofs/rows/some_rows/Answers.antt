@@ -1,4 +1,4 @@
-use Rattle.std.proofs.Common.{◌≡◌, ◌∙◌, ◌-◌, ◌+◌, suc, ℕ, ap, sym, subst, refl, arith, Vec, Global}
+use Rattle.std.proofs.Common.{◌≡◌, ◌∙◌, ◌-◌, ◌+◌, suc, ℕ, ap, sym, subst, arith, Vec, Global}
 use Rattle.std.proofs.lemmas.Result.{err_from_is_err_and}
 use Rattle.tal_syntax.specs.Reading.{some_rows, most, more_at, mark_at}
 use Rattle.tal_syntax.proofs.RowSteps.{with_front, err_via, begun, row_then, row_fails, row_more, row_last, no_row, row_end, no_end}
