@@ -17,6 +17,3 @@ pub use meaning::meant;
 pub use saying::said;
 pub use texts::register_text;
 pub use words::{Mnemonic, OperandWord, OperandWords, Words};
-
-#[cfg(test)]
-mod tests;

@@ -2,4 +2,3 @@ pub mod OneEnd
 pub mod ReadFields
 pub mod WholeFiles
 pub mod NumberMeanings
-pub mod OneNumber

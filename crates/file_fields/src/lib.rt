@@ -20,6 +20,3 @@ pub use reader::{Reader, require};
 pub use rows::{Row, RowAfter};
 pub use whole::read_whole;
 pub use writing::{Part, put_all, put_counted, put_number};
-
-#[cfg(test)]
-mod tests;

@@ -28,8 +28,3 @@ pub use decoding::{Decoded, decode};
 pub use encoding::{CodeFault, encode, len_of};
 pub use instruction::{Alu, Cond, Count, Inst, Mem, Operand, Reg, Shift};
 pub use word_offsets::{WholeWords, whole_words};
-
-#[cfg(test)]
-mod table_tests;
-#[cfg(test)]
-mod tests;

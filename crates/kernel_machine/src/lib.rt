@@ -33,6 +33,3 @@ pub use run_end::RunEnd;
 pub use running::{MOST_TURNS, run};
 pub use shown::Shown;
 pub use turn::Turn;
-
-#[cfg(test)]
-mod tests;

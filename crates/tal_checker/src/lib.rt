@@ -17,6 +17,3 @@ pub mod laws;
 
 pub use answer::CheckAnswer;
 pub use checking::{Checked, check};
-
-#[cfg(test)]
-mod tests;

@@ -29,6 +29,3 @@ pub use calls::is_entry;
 pub use edges::{Edges, Rule};
 pub use flowing::{flow, pass};
 pub use places::{Place, place_of};
-
-#[cfg(test)]
-mod tests;

@@ -31,8 +31,3 @@ pub use file_fields::ImageFault;
 pub use image::Image;
 pub use image_rows::ImageRows;
 pub use parts::{ArrayPart, BlockPart, DataRow, FunctionPart, MarkPart, NumberList, TypeList};
-
-#[cfg(test)]
-mod image_tests;
-#[cfg(test)]
-mod test_image;

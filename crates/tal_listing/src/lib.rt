@@ -14,6 +14,3 @@ mod number_text;
 mod words_text;
 
 pub use functions::listing;
-
-#[cfg(test)]
-mod tests;

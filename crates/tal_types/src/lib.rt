@@ -20,6 +20,3 @@ pub use order::{context_below, same, sub, within};
 pub use signatures::{FrameRow, Sig, entry_context};
 pub use types::{FlagKind, Ty};
 pub use views::{ImageView, Mark, Span};
-
-#[cfg(test)]
-mod tests;

@@ -26,6 +26,3 @@ mod words;
 
 pub use command::verve;
 pub use status::Status;
-
-#[cfg(test)]
-mod tests;

@@ -1,4 +1,4 @@
-use crate::{Context, FlagKind, ImageView, Mark, Sig, Span, Ty, context_below, entry_context, sub};
+use tal_types::{Context, FlagKind, ImageView, Mark, Sig, Span, Ty, context_below, entry_context, sub};
 use ia32_code::Reg;
 use object_layout::{ClassRow, FieldList, FieldTy, MethodList, Shapes};
 use std::alloc::Global;

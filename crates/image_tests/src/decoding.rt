@@ -1,4 +1,4 @@
-use super::*;
+use ia32_code::*;
 use std::test::*;
 
 fn at(base: Reg, disp: u32) -> Operand {

@@ -1,4 +1,4 @@
-use crate::{Edges, Place, Rule, flow, is_entry, pass, place_of};
+use tal_flow::{Edges, Place, Rule, flow, is_entry, pass, place_of};
 use ia32_code::{Inst, Mem, Operand, Reg};
 use object_layout::{FieldTy, Shapes};
 use std::alloc::Global;

@@ -1,7 +1,7 @@
 // One spelling of each row of the table, in the order of docs/instructions.md, as another disassembler reads it.
 ghost use Rattle.std.specs.Prelude.{◌<◌, length};
 
-use super::*;
+use ia32_code::*;
 use std::process::Abort;
 use std::test::*;
 

@@ -1,9 +1,9 @@
 ghost use Rattle.std.specs.Prelude.{◌<◌, ◌^◌, length};
 
-use super::*;
 use frame_tables::FrameTable;
 use std::alloc::{AllocError, Global};
 use std::test::Fail;
+use tal_checker::{CheckAnswer, check};
 use tal_image::Image;
 use tal_types::FrameRow;
 

@@ -1,4 +1,4 @@
-use super::*;
+use code_words::*;
 use ia32_code::{Alu, Count, Inst, Mem, Operand, Reg, Shift};
 use std::test::*;
 

@@ -3,11 +3,7 @@ ghost use Rattle.std.specs.Prelude.{◌^◌, ℕ, Bool};
 ghost use Rattle.file_fields.specs.Grammar.{between, checked};
 ghost use Rattle.file_fields.specs.Laws.{EndsBy};
 
-use crate::fault::ImageFault;
-use crate::reader::Reader;
-use crate::rows::{Row, RowAfter};
-use crate::whole::read_whole;
-use crate::writing::put_counted;
+use file_fields::{ImageFault, Reader, Row, RowAfter, put_counted, read_whole};
 use std::alloc::Global;
 use std::test::*;
 

@@ -1,9 +1,9 @@
 ghost use Rattle.std.specs.Prelude.{◌<◌, ◌^◌, length};
 
-use super::*;
 use std::alloc::{AllocError, Global};
 use std::test::Fail;
 use tal_image::Image;
+use tal_listing::listing;
 
 fn push_numbers(file: &mut Vec<u8>, numbers: &[u32]) -> Result<(), AllocError> {
     for number in numbers {

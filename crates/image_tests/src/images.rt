@@ -1,6 +1,6 @@
-use crate::image::Image;
 use crate::test_image::{CODE, file};
 use std::test::*;
+use tal_image::Image;
 use tal_types::{ImageView, Mark};
 
 #[test]
