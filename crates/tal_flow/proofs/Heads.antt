@@ -23,7 +23,7 @@ use Rattle.tal_flow.specs.declared.edges.Told.TheVariants.{Equal, Unequal, Below
 use Rattle.tal_flow.specs.Forms.{form_of}
 use Rattle.tal_flow.specs.declared.operands.Resolved.{Resolved}
 use Rattle.tal_flow.specs.Places.{operand_place, resolve}
-use Rattle.tal_flow.specs.Afterwards.{without, write, store_place, store_at, store, add_head, note_head, write_high, give_kind, after_call, pop_to, after_form}
+use Rattle.tal_flow.specs.Afterwards.{write, store_place, store_at, store, add_head, note_head, write_high, give_kind, after_call, pop_to, after_form}
 use Rattle.tal_flow.specs.Edges.{refine_reg, add_pair, meet_class, meet, refine, told_by_fall, falling, falls_to}
 use Rattle.tal_flow.specs.Rules.{next_address, Falls}
 use Rattle.tal_flow.specs.Strongest.{Placed, falls_from, known_at, carried, start, at_in, At, OneHead, HasOneHead, BlocksHaveOneHead}

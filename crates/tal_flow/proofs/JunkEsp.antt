@@ -24,7 +24,7 @@ use Rattle.tal_flow.specs.Forms.{form_of}
 use Rattle.tal_flow.specs.Places.{spares_esp, operand_place, resolve}
 use Rattle.tal_flow.specs.Afterwards.{write, store_place, store, add_head, note_head, write_high, give_kind, after_call, pop_to, after_form}
 use Rattle.tal_flow.specs.Edges.{refine_reg, add_pair, not_null, meet_class, meet, refine, told_by_fall, falling, falls_to}
-use Rattle.tal_flow.specs.Rules.{operand_rule, address_spares_esp, rule_of_form, rule_of, next_address, Falls}
+use Rattle.tal_flow.specs.Rules.{operand_rule, rule_of_form, rule_of, next_address, Falls}
 use Rattle.tal_flow.specs.Strongest.{Placed, NoRuleAt, falls_from, known_at, carried, start, contexts, at_in, At, NoneFails, HasJunkEsp, BlocksHaveJunkEsp}
 use Rattle.tal_flow.proofs.LeastRules.{no_number, none-rule}
 use Rattle.tal_flow.proofs.Monotone.{no_operand_rule}

@@ -5,7 +5,7 @@ use Rattle.object_layout.specs.Classes.{ShapesView}
 use Rattle.object_layout.specs.Laws.{ClassLaws}
 use Rattle.tal_types.specs.Contexts.{LiveContext, ContextView, Dead, Live, LiveBelow, ContextBelow}
 use Rattle.tal_types.specs.Shown.{ShownImage}
-use Rattle.tal_types.proofs.Orders.{context_below-told, context_below-from, context-trans}
+use Rattle.tal_types.proofs.Orders.{context_below-told, context_below-from, ContextBelow-trans}
 use Rattle.tal_flow.specs.declared.forms.Form.{Form}
 use Rattle.tal_flow.specs.declared.forms.Form.TheVariants.{Refused, Return, Jump, Branch}
 use Rattle.tal_flow.specs.Forms.{form_of}
@@ -39,7 +39,7 @@ branching-below v l a b f h = tt
 edge_fits-below : (s : ShapesView) → ClassLaws s → (c d : ContextView) (o : Option ContextView) → ContextBelow s c d → edge_fits s d o ≡ true → edge_fits s c o ≡ true
 unfolding edge_fits
 edge_fits-below s l c d None h e = refl
-edge_fits-below s l c d (Some block) h e = context_below-from s c block (context-trans s l c d block h (context_below-told s d block e))
+edge_fits-below s l c d (Some block) h e = context_below-from s c block (ContextBelow-trans s l c d block h (context_below-told s d block e))
 
 -- what is below the dead context is dead
 is_dead-below : (s : ShapesView) (c d : ContextView) → ContextBelow s c d → is_dead d ≡ true → is_dead c ≡ true

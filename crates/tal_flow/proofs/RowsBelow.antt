@@ -15,8 +15,8 @@ use Rattle.tal_flow.specs.declared.places.Place.{Place}
 use Rattle.tal_flow.specs.declared.places.Place.TheVariants.{Display}
 use Rattle.tal_flow.specs.declared.rows.Family.{Family}
 use Rattle.tal_flow.specs.declared.rows.Family.TheVariants.{Numbers, Others}
-use Rattle.tal_flow.specs.Places.{place_type, operand_place, operand_type, resolve, is_num}
-use Rattle.tal_flow.specs.Rows.{family, has_null, is_zero, marked_class, base_of_length, length_base, first_head, class_test, display_row, bound_kind, compare_row, compare_kind, test_row, test_kind}
+use Rattle.tal_flow.specs.Places.{operand_place, operand_type, resolve, is_num}
+use Rattle.tal_flow.specs.Rows.{family, is_zero, marked_class, base_of_length, length_base, first_head, class_test, display_row, bound_kind, compare_row, compare_kind, test_row, test_kind}
 use Rattle.tal_flow.specs.Strongest.{OneHead}
 use Rattle.tal_flow.proofs.PlacesBelow.{FoundBelow, operand_place-below, operand_type-below}
 

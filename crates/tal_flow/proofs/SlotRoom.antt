@@ -11,7 +11,7 @@ use Rattle.tal_types.specs.declared.types.Ty.{Ty}
 use Rattle.tal_types.specs.Contexts.{LiveContext, same}
 use Rattle.tal_types.specs.Shown.{ShownImage}
 use Rattle.tal_flow.specs.declared.places.Place.TheVariants.{Slot, Method}
-use Rattle.tal_flow.specs.Places.{field_place, static_place, slot_place, object_place, array_place, element_place, display_place, table_place, based, stack_place, located, place_in, operand_place}
+use Rattle.tal_flow.specs.Places.{field_place, slot_place, display_place, based, stack_place, located, operand_place}
 
 -- A slot that is a place is one of the frame's.
 

@@ -3,7 +3,7 @@ use Rattle.std.proofs.lemmas.Bool.Decides.{nat_tests}
 use Rattle.object_layout.specs.Laws.{ClassLaws}
 use Rattle.tal_types.specs.Contexts.{ContextView, Dead, ContextBelow}
 use Rattle.tal_types.specs.Shown.{ShownImage}
-use Rattle.tal_types.proofs.Orders.{context-refl, context-trans}
+use Rattle.tal_types.proofs.Orders.{ContextBelow-refl, ContextBelow-trans}
 use Rattle.tal_flow.specs.Rules.{next_address}
 use Rattle.tal_flow.specs.Strongest.{Placed, NoRuleAt, falls_from, known_at, carried, start, contexts, at_in, At, NoneFails, Joined, placed_at, Chained, HasOneHead, BlocksHaveOneHead}
 use Rattle.tal_flow.proofs.Monotone.{rule-below, falls-below}
@@ -18,7 +18,7 @@ start-below v pc a b h = go (known_at v pc)
   where
     go : (o : Option ContextView) → ContextBelow v.shapes (carried a o) (carried b o)
     go None = h
-    go (Some d) = context-refl v.shapes d
+    go (Some d) = ContextBelow-refl v.shapes d
 
 -- where some contexts serve, the strongest ones do
 strongest : (v : ShownImage) → ClassLaws v.shapes → BlocksHaveOneHead v → (xs : List Placed) (cs : List ContextView) (a b : ContextView) → ContextBelow v.shapes a b
@@ -27,7 +27,7 @@ strongest v l blocks [] cs a b h one n j = tt
 strongest v l blocks (x ∷ xs) [] a b h one n j = absurd n
 strongest v l blocks (x ∷ xs) (c ∷ cs) a b h one n j =
     let s = start v x.pc a in
-    let k : ContextBelow v.shapes s c = context-trans v.shapes l s (start v x.pc b) c (start-below v x.pc a b h) j.0 in
+    let k : ContextBelow v.shapes s c = ContextBelow-trans v.shapes l s (start v x.pc b) c (start-below v x.pc a b h) j.0 in
     let o : HasOneHead s = start-head v blocks x.pc a one in
     let r = rule-below v l s c x.pc x.inst x.len k o n.0 in
     (r, strongest v l blocks xs cs (falls_from v s x) (falls_from v c x) (falls-below v l s c x.pc x.inst x.len k o n.0) (falls-head v s x o) n.1 j.1)
@@ -35,7 +35,7 @@ strongest v l blocks (x ∷ xs) (c ∷ cs) a b h one n j =
 -- the strongest contexts join
 itself-joined : (v : ShownImage) (xs : List Placed) (a : ContextView) → Joined v xs (contexts v xs a) a
 itself-joined v [] a = tt
-itself-joined v (x ∷ xs) a = (context-refl v.shapes (start v x.pc a), itself-joined v xs (falls_from v (start v x.pc a) x))
+itself-joined v (x ∷ xs) a = (ContextBelow-refl v.shapes (start v x.pc a), itself-joined v xs (falls_from v (start v x.pc a) x))
 
 -- some contexts serve exactly where the strongest do
 pub serve-exactly : (v : ShownImage) → ClassLaws v.shapes → BlocksHaveOneHead v → (xs : List Placed)

@@ -192,9 +192,9 @@ context_below-from s (Live a) Dead h = absurd h
 context_below-from s (Live a) (Live b) h = live_below-from s a b h
 
 -- each context is below itself
-pub context-refl : (s : ShapesView) (a : ContextView) → ContextBelow s a a
-context-refl s Dead = tt
-context-refl s (Live a) = record {
+pub ContextBelow-refl : (s : ShapesView) (a : ContextView) → ContextBelow s a a
+ContextBelow-refl s Dead = tt
+ContextBelow-refl s (Live a) = record {
   regs = λ r. sub-refl s (a.regs r);
   slots = all_sub-refl s a.slots;
   kind = kind_below-refl a.kind;
@@ -203,8 +203,8 @@ context-refl s (Live a) = record {
 }
 
 -- what is below a live context is below what that is below
-live-trans : (s : ShapesView) → ClassLaws s → (a b c : LiveContext) → LiveBelow s a b → LiveBelow s b c → LiveBelow s a c
-live-trans s l a b c g h = record {
+LiveBelow-trans : (s : ShapesView) → ClassLaws s → (a b c : LiveContext) → LiveBelow s a b → LiveBelow s b c → LiveBelow s a c
+LiveBelow-trans s l a b c g h = record {
   regs = λ r. sub-trans s l _ _ _ (g.regs r) (h.regs r);
   slots = all_sub-trans s l _ _ _ g.slots h.slots;
   kind = kind_below-trans _ _ _ g.kind h.kind;
@@ -213,8 +213,8 @@ live-trans s l a b c g h = record {
 }
 
 -- what is below a context is below what that is below
-pub context-trans : (s : ShapesView) → ClassLaws s → (a b c : ContextView) → ContextBelow s a b → ContextBelow s b c → ContextBelow s a c
-context-trans s l Dead b c g h = tt
-context-trans s l (Live a) Dead c g h = absurd g
-context-trans s l (Live a) (Live b) Dead g h = absurd h
-context-trans s l (Live a) (Live b) (Live c) g h = live-trans s l a b c g h
+pub ContextBelow-trans : (s : ShapesView) → ClassLaws s → (a b c : ContextView) → ContextBelow s a b → ContextBelow s b c → ContextBelow s a c
+ContextBelow-trans s l Dead b c g h = tt
+ContextBelow-trans s l (Live a) Dead c g h = absurd g
+ContextBelow-trans s l (Live a) (Live b) Dead g h = absurd h
+ContextBelow-trans s l (Live a) (Live b) (Live c) g h = LiveBelow-trans s l a b c g h

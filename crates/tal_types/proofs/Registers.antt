@@ -46,9 +46,9 @@ at_place s a b l m h k d e i =
     (subst (λ j. sub s (get_or a j Junk) (get_or b j Junk) ≡ true) n here)
 
 -- two lists of eight types are below each other where each register's is
-pub registers-below : (s : ShapesView) (a b : List Ty) → length a ≡ 8 → length b ≡ 8 → all_sub s a b ≡ every (λ r. sub s (type_at a r) (type_at b r))
+pub all_sub-registers : (s : ShapesView) (a b : List Ty) → length a ≡ 8 → length b ≡ 8 → all_sub s a b ≡ every (λ r. sub s (type_at a r) (type_at b r))
 unfolding type_at
-registers-below s a b l m = same_tests _ _
+all_sub-registers s a b l m = same_tests _ _
     (λ e. every-from (λ r. sub s (get_or a (number r) Junk) (get_or b (number r) Junk))
     (λ r. all_sub-told s a b e (number r) Junk Junk (omega (arith, number-below r))))
     (λ e. sym (all_sub-from s a b (omega arith) (λ k d x h. at_place s a b l m e k d x h)))
@@ -64,26 +64,26 @@ has_all-bits a b e = has_all-from _ _ (λ r t h.
     grind (arith, nat_tests))
 
 -- a bit below 64 is that of a pair of registers
-pair-of_bit : (i : ℕ) → i < 64 → 8 * number (reg (i / 8)) + number (reg (i % 8)) ≡ i
-pair-of_bit i l = rw (number-reg (i / 8) (omega arith), number-reg (i % 8) (omega arith)) (omega arith)
+pair_of_bit : (i : ℕ) → i < 64 → 8 * number (reg (i / 8)) + number (reg (i % 8)) ≡ i
+pair_of_bit i l = rw (number-reg (i / 8) (omega arith), number-reg (i % 8) (omega arith)) (omega arith)
 
 -- where a set has all of another, it has each bit of it
-bit-kept : (a b i : ℕ) → has_all (pair_in a) (pair_in b) ≡ true → i < 64 → bit_at b i ≡ 1 → bit_at a i ≡ 1
+bit_kept : (a b i : ℕ) → has_all (pair_in a) (pair_in b) ≡ true → i < 64 → bit_at b i ≡ 1 → bit_at a i ≡ 1
 unfolding pair_in
-bit-kept a b i h l e =
-    let place = pair-of_bit i l in
+bit_kept a b i h l e =
+    let place = pair_of_bit i l in
     let told = has_all-told (pair_in a) (pair_in b) (reg (i / 8)) (reg (i % 8)) h (subst (λ k. nat_eq (bit_at b k) 1 ≡ true) (sym place) (grind (arith, nat_tests))) in
     let there = subst (λ k. nat_eq (bit_at a k) 1 ≡ true) place told in
     grind (arith, nat_tests)
 
 -- a set that has all of another keeps it where both are met
-pub bits-from_has_all : (a b : ℕ) → b < 2 ^ 64 → has_all (pair_in a) (pair_in b) ≡ true → bit_and a b ≡ b
-bits-from_has_all a b l h = same_from_bits (bit_and a b) b (λ i.
+pub bits_from_has_all : (a b : ℕ) → b < 2 ^ 64 → has_all (pair_in a) (pair_in b) ≡ true → bit_and a b ≡ b
+bits_from_has_all a b l h = same_from_bits (bit_and a b) b (λ i.
     let both = bit_at_and a b i in
     let small = bit_at-lt b i in
     let other = bit_at-lt a i in
     ⊎_elim
-    (λ (low : i < 64). let kept = bit-kept a b i h low in grind arith)
+    (λ (low : i < 64). let kept = bit_kept a b i h low in grind arith)
     (λ (high : 64 ≤ i). let none = bit_at_above b 64 i l high in omega arith)
     (cases_lt i 64))
 
@@ -91,4 +91,4 @@ bits-from_has_all a b l h = same_from_bits (bit_and a b) b (λ i.
 pub has_all-test : (a b : ℕ) → b < 2 ^ 64 → nat_eq (bit_and a b) b ≡ has_all (pair_in a) (pair_in b)
 has_all-test a b l = same_tests _ _
     (λ e. has_all-bits a b (grind (arith, nat_tests)))
-    (λ e. let same = bits-from_has_all a b l e in grind (arith, nat_tests))
+    (λ e. let same = bits_from_has_all a b l e in grind (arith, nat_tests))

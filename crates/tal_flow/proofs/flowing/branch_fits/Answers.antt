@@ -1,4 +1,4 @@
-use Rattle.tal_types.specs.Kept.{live_of, context_of}
+use Rattle.tal_types.specs.Kept.{live_of}
 use Rattle.tal_flow.proofs.EdgeRules.{jump-fits, taken-fits, elsewhere-fits}
 use Rattle.tal_flow.proofs.flowing.branch_fits.Goals as goal
 

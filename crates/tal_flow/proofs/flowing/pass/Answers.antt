@@ -1,6 +1,5 @@
-use Rattle.std.proofs.Common.{◌≡◌, None, Some, sym, ◌∙◌}
+use Rattle.std.proofs.Common.{None, Some, sym, ◌∙◌}
 use Rattle.tal_types.specs.Kept.{context_of}
-use Rattle.tal_flow.specs.Trials.{rule_number}
 use Rattle.tal_flow.proofs.EdgeRules.{whole-rule, whole-falls}
 use Rattle.tal_flow.proofs.LeastRules.{rule-least, rule-none}
 use Rattle.tal_flow.proofs.flowing.pass.Goals as goal

@@ -1,4 +1,4 @@
-use Rattle.std.proofs.Common.{◌≡◌, true, false, sym, arith}
+use Rattle.std.proofs.Common.{◌≡◌, true, false, arith}
 use Rattle.tal_flow.proofs.EdgeRules.{dead-rule, dead-falls, live-rule, live-falls}
 use Rattle.tal_flow.proofs.flowing.pass_form.Goals as goal
 

@@ -1,5 +1,4 @@
 use Rattle.std.proofs.Common.{refl}
-use Rattle.tal_types.specs.Kept.{live_of}
 use Rattle.tal_types.proofs.Meanings.{same_live}
 use Rattle.tal_flow.specs.Afterwards.{add_head}
 use Rattle.tal_flow.proofs.known.add_head.Goals as goal

@@ -1,5 +1,4 @@
 use Rattle.std.proofs.Common.{refl}
-use Rattle.tal_types.specs.Kept.{live_of}
 use Rattle.tal_types.proofs.Meanings.{same_live, pair_in-zero}
 use Rattle.tal_flow.specs.Afterwards.{after_call}
 use Rattle.tal_flow.proofs.Fields.{type_at-first}

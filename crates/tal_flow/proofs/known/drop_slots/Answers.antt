@@ -1,5 +1,4 @@
 use Rattle.std.proofs.Common.{refl, arith}
-use Rattle.tal_types.specs.Kept.{live_of}
 use Rattle.tal_types.proofs.Meanings.{same_live}
 use Rattle.tal_flow.proofs.Fields.{take-dropped, depth-most}
 use Rattle.tal_flow.proofs.known.drop_slots.Goals as goal

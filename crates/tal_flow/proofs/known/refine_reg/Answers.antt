@@ -1,5 +1,4 @@
 use Rattle.std.proofs.Common.{refl, arith}
-use Rattle.tal_types.specs.Kept.{live_of}
 use Rattle.tal_types.proofs.Meanings.{same_live}
 use Rattle.tal_flow.specs.Edges.{refine_reg}
 use Rattle.tal_flow.proofs.Fields.{type_at-set, esp-kept}

@@ -1,5 +1,5 @@
-use Rattle.tal_types.proofs.Orders.{context-refl, context-trans}
+use Rattle.tal_types.proofs.Orders.{ContextBelow-refl, ContextBelow-trans}
 use Rattle.tal_types.proofs.laws.contexts_are_ordered.Goals as goal
 
 pub returns : goal.returns
-returns c = record { reflexive = context-refl; transitive = context-trans }
+returns c = record { reflexive = ContextBelow-refl; transitive = ContextBelow-trans }
