@@ -1,5 +1,5 @@
 -- What was read of files tells which causes do not hold of them, and which do.
-use Rattle.std.specs.Prelude.{Option, Some, None, IsSomeAnd}
+use Rattle.std.specs.Prelude.{Option, Some, None, IsSomeAnd, Result, Ok, Err, IfErr}
 use Rattle.std.proofs.Common.{◌≡◌, ◌≢◌, ◌⊎◌, ◌≤◌, ◌<◌, ℕ, ◌+◌, List, [], ◌∷◌, take, length, Bor, inl, inr, refl, sym, ◌∙◌, subst, arith}
 use Rattle.outside.specs.FileMaps.{FileMap, Gives, Lacks}
 use Rattle.tal_image.specs.Image.{ImageParts}
@@ -14,7 +14,7 @@ use Rattle.tal_checker.specs.declared.answer.CheckAnswer.TheVariants as answer
 use Rattle.kernel_machine.specs.Built.{IsBuilt, FirstOutside, first_of, fields_outside}
 use Rattle.verve_tool.specs.Commands.{RunWords, Request, Run, Check, Listing, causes, Serves, Loaded, NothingStops}
 use Rattle.verve_tool.specs.Lines.{fault_line}
-use Rattle.verve_tool.specs.Causes.{Missing, Long, Malformed, IllTyped, Unbuilt, Eventful, Holds, Fails, NoneHolds, FileRead, HoldsImage, TypedImage}
+use Rattle.verve_tool.specs.Causes.{Cause, Missing, Long, Malformed, IllTyped, Unbuilt, Eventful, Holds, Fails, NoneHolds, FileRead, HoldsImage, TypedImage}
 use Rattle.verve_tool.specs.Seen.{FilesSeen}
 use Rattle.verve_tool.specs.Stops.{StopsBy, StopsAt, TellsFirst, stop_of_fault, stop_of_answer}
 use Rattle.verve_tool.proofs.CauseLists.{none_of_both, stops_more, stops_later, stops_by_bytes}
@@ -55,6 +55,19 @@ not_long (Some files) name most bytes f = λ line h. within_or_above most (lengt
 pub read_stops_none : (told : Option FileMap) (name : List ℕ) (most : ℕ) (bytes : List ℕ) → FileRead told name most bytes
     → NoneHolds told (Missing name ∷ Long name most ∷ [])
 read_stops_none told name most bytes f = (not_missing told name most bytes f.read, (not_long told name most bytes f, tt))
+
+-- an image file that was not read stops a command that begins with it
+pub unread_stops : (before after : FilesSeen) (name : List ℕ) (rest : List Cause) (s : Stop)
+    → StopsAt before after (Missing name ∷ Long name IMAGE_MOST ∷ []) s → StopsAt before after (Missing name ∷ Long name IMAGE_MOST ∷ rest) s
+unread_stops before after name rest s h = stops_more before after (Missing name ∷ Long name IMAGE_MOST ∷ []) rest s h
+
+-- one that was read stops it by what it holds
+pub held_stops : {T : Type 0} (before after : FilesSeen) (name bytes : List ℕ) (rest : List Cause) (r : Result T Stop) → FileRead before.told name IMAGE_MOST bytes
+    → IfErr r (λ s. StopsBy before.told rest s) → IfErr r (λ s. StopsAt before after (Missing name ∷ Long name IMAGE_MOST ∷ rest) s)
+held_stops before after name bytes rest (Ok x) file h = tt
+held_stops before after name bytes rest (Err s) file h =
+    stops_later before after (Missing name ∷ Long name IMAGE_MOST ∷ []) rest s (read_stops_none before.told name IMAGE_MOST bytes file)
+    (stops_by_bytes before after rest s h)
 
 -- told files hold one image
 same_image : OneMeaning → (files : FileMap) (name : List ℕ) (i j : ImageParts) → HoldsImage (Some files) name i → HoldsImage (Some files) name j → i ≡ j

@@ -1,7 +1,23 @@
-use Rattle.std.proofs.Common.{refl, ◌∙◌, arith}
+use Rattle.std.proofs.Common.{refl, ◌∙◌, arith, inl}
+use Rattle.std.proofs.lemmas.Result.{err_from_is_err_and}
+use Rattle.verve_tool.specs.Commands.{Run}
 use Rattle.verve_tool.specs.Stops.{run_of}
-use Rattle.verve_tool.proofs.Endings.{acted_run}
+use Rattle.verve_tool.proofs.Endings.{acted_stopped, acted_wanting, acted_run, no_puts}
 use Rattle.verve_tool.proofs.runs.act_run.Goals as goal
+
+pub returns-in_err-checked : goal.returns-in_err-checked
+returns-in_err-checked g c =
+    let p = err_from_is_err_and c.from_residual.result c.from_residual.ensures.1 in
+    rw (p.1, p.2) (acted_stopped _ (Run (run_of c.args.run)) _
+    (record { silent = refl; unrun = record { no_entries = c.requires.clear; none_kept = c.requires.empty } })
+    (inl (record { no_entries = c.requires.clear; none_kept = c.requires.empty })) c.in_err-checked.ensures.stopped c.in_err-checked.ensures.reads (no_puts _))
+
+pub returns-in_err-machine : goal.returns-in_err-machine
+returns-in_err-machine g c =
+    let p = err_from_is_err_and c.from_residual-in_err-machine.result c.from_residual-in_err-machine.ensures.1 in
+    rw (p.1, p.2) (acted_wanting _ (Run (run_of c.args.run))
+    (record { silent = refl; unrun = record { no_entries = c.requires.clear; none_kept = c.requires.empty } })
+    (inl (record { no_entries = c.requires.clear; none_kept = c.requires.empty })) c.in_ok-checked.ensures.reads (no_puts _))
 
 pub returns : goal.returns
 returns g c =
