@@ -1,9 +1,7 @@
 // Small formats: numbers within limits, and numbers that rise.
-ghost use Rattle.std.specs.Prelude.{◌^◌, ℕ, Bool};
 ghost use Rattle.file_fields.specs.Grammar.{between, checked};
-ghost use Rattle.file_fields.specs.Laws.{EndsBy};
 
-use file_fields::{ImageFault, Reader, Row, RowAfter, put_counted, read_whole};
+use file_fields::{ImageFault, Reader, Row, RowAfter};
 use std::alloc::Global;
 use std::test::*;
 
@@ -43,11 +41,6 @@ impl RowAfter<Limits, u32> for u32 {
     }
 }
 
-/// A file that ends inside its one number is short.
-fn one_number_is_short()
-    ensures { (ok : ℕ → Bool) → (condition : ℕ) → EndsBy (checked ok condition) (2 ^ 31) }
-{}
-
 const LIMITS: Limits = Limits { low: 1, high: 3 };
 
 #[test]
@@ -72,28 +65,5 @@ fn rows_look_at_those_before_them(rt: HostRuntime) -> Result<(), Fail> {
     let mut again = Reader::new(&file);
     let refused = again.rows_after::<Limits, u32, u32>(rt.alloc(), &LIMITS, 2, 5);
     assert_eq!(rt; refused.err(), Some(ImageFault::Bad { at: 0, field: 8 }));
-    Ok(())
-}
-
-#[test]
-fn a_whole_file_has_nothing_behind_it(rt: HostRuntime) -> Result<(), Fail> {
-    one_number_is_short();
-    let one = read_whole::<Limits, u32>(rt.alloc(), &[2, 0, 0, 0], &LIMITS);
-    assert_eq!(rt; one, Ok(2));
-    let more = read_whole::<Limits, u32>(rt.alloc(), &[2, 0, 0, 0, 0], &LIMITS);
-    assert_eq!(rt; more, Err(ImageFault::Rest { at: 4 }));
-    let none = read_whole::<Limits, u32>(rt.alloc(), &[], &LIMITS);
-    assert_eq!(rt; none, Err(ImageFault::Short { at: 0 }));
-    Ok(())
-}
-
-#[test]
-fn parts_are_written_behind_their_count(rt: HostRuntime) -> Result<(), Fail> {
-    let mut file = Vec::new(rt.alloc());
-    put_counted::<Limits, u32>(&mut file, &[1, 258])?;
-    assert_eq!(rt;
-        file.as_slice(),
-        [2, 0, 0, 0, 1, 0, 0, 0, 2, 1, 0, 0].as_slice()
-    );
     Ok(())
 }

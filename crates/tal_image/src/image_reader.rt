@@ -15,7 +15,7 @@ use crate::image_rows::ImageRows;
 use crate::laws::{image_ends, read_as_fields};
 use crate::mark_words::MarkWords;
 use crate::parts::{ArrayPart, BlockPart, FunctionPart, Header, MarkPart, Tables};
-use crate::row_reader::{Entries, Kinds, arrays, field_types, functions};
+use crate::row_reader::{Entries, Kinds, field_types};
 use file_fields::{ImageFault, Reader, Row, read_whole};
 use object_layout::{ClassRow, FieldList, KindRow};
 use std::alloc::Global;
@@ -67,7 +67,12 @@ fn table_rows(alloc: Global, reader: &mut Reader<'_>) -> Result<TableRows, Image
     let header = header(reader)?;
     let tables = Tables::of(&header);
     let sigs = reader.rows::<Tables, Sig>(alloc, &tables, header.sigs)?;
-    let functions = functions(alloc, reader, &tables, header.functions, header.code)?;
+    let functions = reader.rows_after::<Tables, u32, FunctionPart>(
+        alloc,
+        &tables,
+        header.functions,
+        header.code,
+    )?;
     let places = Entries {
         sigs: &sigs,
         functions: &functions,
@@ -80,7 +85,12 @@ fn table_rows(alloc: Global, reader: &mut Reader<'_>) -> Result<TableRows, Image
         tables,
         rows: &kinds,
     };
-    let arrays = arrays(alloc, reader, &rows, header.arrays, header.statics)?;
+    let arrays = reader.rows_after::<Kinds<'_>, u32, ArrayPart>(
+        alloc,
+        &rows,
+        header.arrays,
+        header.statics,
+    )?;
     Ok(TableRows {
         header,
         sigs,

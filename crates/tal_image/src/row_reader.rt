@@ -1,10 +1,10 @@
 // The rows of the tables: types, signatures, functions, entries, array kinds and data arrays, each with the limits of what it
 // names.
-ghost use Rattle.std.specs.Prelude.{◌≡◌, ◌≤◌, ◌+◌, ◌-◌, ◌==◌, ℕ, length, IfOk};
-ghost use Rattle.std.specs.List.{list_all, sum_by};
-ghost use Rattle.file_fields.specs.Grammar.{Grammar, checked, each, many};
-ghost use Rattle.file_fields.specs.Reading.{GivesAt, GivesView, run};
-ghost use Rattle.tal_image.specs.Conditions.{type_fits, length_fits, entry_fits, starts_stack, kind_fits, array_fits, array_room, with_array, most_words, numbers_given};
+ghost use Rattle.std.specs.Prelude.{◌≡◌, ◌≤◌, ◌+◌, ◌==◌, ℕ, length, IfOk};
+ghost use Rattle.std.specs.List.{list_all};
+ghost use Rattle.file_fields.specs.Grammar.{Grammar, checked, each};
+ghost use Rattle.file_fields.specs.Reading.{GivesAt, run};
+ghost use Rattle.tal_image.specs.Conditions.{type_fits, length_fits, entry_fits, starts_stack, kind_fits, array_fits, with_array, most_words, numbers_given};
 ghost use Rattle.tal_image.specs.Fields.{tables_of, type_field, field_type_field, sig_fields, function_fields, kind_fields, any_number, array_fields, after_function};
 ghost use Rattle.tal_image.specs.Image.{type_tag};
 
@@ -223,22 +223,6 @@ impl RowAfter<Tables, u32> for FunctionPart {
     }
 }
 
-/// The next functions, so many, with so many bytes of code.
-pub(crate) fn functions(
-    alloc: Global,
-    reader: &mut Reader<'_>,
-    tables: &Tables,
-    count: u32,
-    code: u32,
-) -> Result<Vec<FunctionPart>, ImageFault>
-    ensures gives { GivesView (λ v. v.items) result (run (many count (function_fields tables.now) after_function code) reader.old.file.now reader.old.at) reader.new.at }
-    ensures file { reader.new.file ≡ reader.old.file }
-    ensures room { IfOk result (λ v. sum_by (λ f. f.length) v.items ≤ code) }
-{
-    let rows = reader.rows_after::<Tables, u32, FunctionPart>(alloc, tables, count, code)?;
-    Ok(rows)
-}
-
 /// What the function at which a stack begins must be one of: the functions, and their signatures.
 #[derive(Drop)]
 pub(crate) struct Entries<'a> {
@@ -323,20 +307,4 @@ impl<'a> RowAfter<Kinds<'a>, u32> for ArrayPart {
             numbers: NumberList::of(numbers),
         })
     }
-}
-
-/// The next data arrays, so many, behind so many words of statics.
-pub(crate) fn arrays(
-    alloc: Global,
-    reader: &mut Reader<'_>,
-    kinds: &Kinds<'_>,
-    count: u32,
-    statics: u32,
-) -> Result<Vec<ArrayPart>, ImageFault>
-    ensures gives { GivesView (λ v. v.items) result (run (many count (λ later used. array_fields kinds.now.tables kinds.now.rows.now used) with_array statics) reader.old.file.now reader.old.at) reader.new.at }
-    ensures file { reader.new.file ≡ reader.old.file }
-    ensures room { statics ≤ most_words → IfOk result (λ v. statics + sum_by array_room v.items ≤ most_words) }
-{
-    let rows = reader.rows_after::<Kinds<'_>, u32, ArrayPart>(alloc, kinds, count, statics)?;
-    Ok(rows)
 }

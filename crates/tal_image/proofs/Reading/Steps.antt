@@ -49,27 +49,35 @@ module _ (t : Tables) (functions : List FunctionPart) (number above : ℕ) (take
 
 module _ (file : List ℕ) (at : ℕ) (h : Header) (a : ℕ) (eh : run header_fields file at ≡ Ok (h, a))
     (sigs : List Sig) (b : ℕ) (es : run (sigs_part h) file a ≡ Ok (sigs, b))
-    (functions : List FunctionPart) (d : ℕ) (ef : run (functions_part h) file b ≡ Ok (functions, d))
-    (entries : List ℕ) (g : ℕ) (ee : run (entries_part h sigs functions) file d ≡ Ok (entries, g))
-    (classes : List ClassRow) (k : ℕ) (ec : run (classes_part h functions) file g ≡ Ok (classes, k)) where
-  pub no_kinds : (e : ImageFault) → Fails e (run (kinds_part h) file k) → Fails e (front_at file at)
+    (functions : List FunctionPart) (d : ℕ) (ef : run (functions_part h) file b ≡ Ok (functions, d)) where
+  pub no_entries : (e : ImageFault) → Fails e (run (entries_part h sigs functions) file d) → Fails e (front_at file at)
   unfolding front_at
-  no_kinds e q = rw (eh, es, ef, ee, ec) (refused e (run (kinds_part h) file k) _ q)
+  no_entries e q = rw (eh, es, ef) (refused e (run (entries_part h sigs functions) file d) _ q)
 
-  module _ (kinds : List KindRow) (l : ℕ) (ek : run (kinds_part h) file k ≡ Ok (kinds, l)) where
-    pub no_statics : (e : ImageFault) → Fails e (run (statics_part h) file l) → Fails e (front_at file at)
+  module _ (entries : List ℕ) (g : ℕ) (ee : run (entries_part h sigs functions) file d ≡ Ok (entries, g)) where
+    pub no_classes : (e : ImageFault) → Fails e (run (classes_part h functions) file g) → Fails e (front_at file at)
     unfolding front_at
-    no_statics e q = rw (eh, es, ef, ee, ec, ek) (refused e (run (statics_part h) file l) _ q)
+    no_classes e q = rw (eh, es, ef, ee) (refused e (run (classes_part h functions) file g) _ q)
 
-    module _ (statics : List FieldTy) (m : ℕ) (et : run (statics_part h) file l ≡ Ok (statics, m)) where
-      pub no_arrays : (e : ImageFault) → Fails e (run (arrays_part h kinds) file m) → Fails e (front_at file at)
+    module _ (classes : List ClassRow) (k : ℕ) (ec : run (classes_part h functions) file g ≡ Ok (classes, k)) where
+      pub no_kinds : (e : ImageFault) → Fails e (run (kinds_part h) file k) → Fails e (front_at file at)
       unfolding front_at
-      no_arrays e q = rw (eh, es, ef, ee, ec, ek, et) (refused e (run (arrays_part h kinds) file m) _ q)
+      no_kinds e q = rw (eh, es, ef, ee, ec) (refused e (run (kinds_part h) file k) _ q)
 
-      pub tables_read : (arrays : List ArrayPart) (end : ℕ) → run (arrays_part h kinds) file m ≡ Ok (arrays, end)
-          → front_at file at ≡ Ok (record { header = h; sigs = sigs; functions = functions; entries = entries; classes = classes; kinds = kinds; statics = statics; arrays = arrays }, end)
-      unfolding front_at
-      tables_read arrays end ea = rw (eh, es, ef, ee, ec, ek, et, ea) refl
+      module _ (kinds : List KindRow) (l : ℕ) (ek : run (kinds_part h) file k ≡ Ok (kinds, l)) where
+        pub no_statics : (e : ImageFault) → Fails e (run (statics_part h) file l) → Fails e (front_at file at)
+        unfolding front_at
+        no_statics e q = rw (eh, es, ef, ee, ec, ek) (refused e (run (statics_part h) file l) _ q)
+
+        module _ (statics : List FieldTy) (m : ℕ) (et : run (statics_part h) file l ≡ Ok (statics, m)) where
+          pub no_arrays : (e : ImageFault) → Fails e (run (arrays_part h kinds) file m) → Fails e (front_at file at)
+          unfolding front_at
+          no_arrays e q = rw (eh, es, ef, ee, ec, ek, et) (refused e (run (arrays_part h kinds) file m) _ q)
+
+          pub tables_read : (arrays : List ArrayPart) (end : ℕ) → run (arrays_part h kinds) file m ≡ Ok (arrays, end)
+              → front_at file at ≡ Ok (record { header = h; sigs = sigs; functions = functions; entries = entries; classes = classes; kinds = kinds; statics = statics; arrays = arrays }, end)
+          unfolding front_at
+          tables_read arrays end ea = rw (eh, es, ef, ee, ec, ek, et, ea) refl
 
 -- ---- the code, and what is said of it
 
