@@ -14,7 +14,7 @@ use Rattle.ia32_code.specs.declared.operand_form.OperandForm.TheVariants.{Direct
 use Rattle.ia32_code.specs.OperandForms.{number, modrm_byte, after_modrm, FormFits, IsMemory}
 use Rattle.ia32_code.specs.Table.{line}
 use Rattle.ia32_code.specs.Spells.{modrm_bytes, trailing_bytes, ModRmFits, TrailingFits, Filled, text}
-use Rattle.ia32_code.specs.WholeWords.{WordPlace, Within, AtEnd, WordedForm, worded, Filling, other_form, other_number, inner_word, end_word, whole_word, HasWord, Fillable, EndStays}
+use Rattle.ia32_code.specs.WholeWords.{WordPlace, Within, AtEnd, WordedForm, worded, Filling, other_form, other_number, inner_word, end_word, whole_word, Fillable, EndStays}
 
 some_is : {A : Type 0} (x y : A) → Some x ≡ Some y → x ≡ y
 some_is x y e = cc

@@ -19,7 +19,7 @@ use Rattle.ia32_code.specs.declared.spelling.Spelling.{Spelling}
 use Rattle.ia32_code.specs.OperandForms.{number, reg, sign_extended, operand, FormFits}
 use Rattle.ia32_code.specs.Table.{alu_number, shift_number}
 use Rattle.ia32_code.specs.Spells.{Filled, meaning}
-use Rattle.ia32_code.specs.Canonical.{fits_byte, is_eax, shortest_form, fill, with_form, without_modrm, alu_imm, test_imm, imul_imm, canonical_row}
+use Rattle.ia32_code.specs.Canonical.{fits_byte, is_eax, fill, with_form, without_modrm, alu_imm, test_imm, imul_imm}
 use Rattle.ia32_code.specs.Order.{Precedes, IsFirst}
 use Rattle.ia32_code.proofs.OperandForms.{number-reg}
 use Rattle.ia32_code.proofs.ShortestForm.{extended_fits, Better, best_form}

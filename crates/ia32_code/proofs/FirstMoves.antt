@@ -1,5 +1,5 @@
 -- MOV, LEA, and what has one operand: none of their spellings precedes the canonical one.
-use Rattle.std.proofs.Common.{◌≡◌, ℕ, ◌%◌, ◌^◌, ◌<◌, Bool, true, false, eqb, ◌&&◌, length, Some, refl, sym, ap, ◌∙◌, arith, lit<, inl, inr}
+use Rattle.std.proofs.Common.{◌≡◌, ℕ, ◌%◌, ◌^◌, ◌<◌, Bool, true, false, eqb, ◌&&◌, length, refl, sym, ap, arith, lit<, inl, inr}
 use Rattle.std.proofs.lemmas.Bool.{eqb-true, cases_Bool}
 use Rattle.std.proofs.lemmas.List.{length-append}
 use Rattle.ia32_code.specs.declared.instruction.Reg.{Reg}

@@ -15,7 +15,7 @@ use Rattle.ia32_code.specs.OperandForms.{reg}
 use Rattle.ia32_code.specs.Table.{line}
 use Rattle.ia32_code.specs.Opcodes.{row_with, row_with_digit}
 use Rattle.ia32_code.specs.Canonical.{fill}
-use Rattle.ia32_code.specs.Reading.{CodeReader, given, none, seq, byte_at, word_at, four_bytes, disp_at, sib_at, form_at, trailing_at, end_at, modrm_at, digit_at, row_at, by_modrm_at, opened_at, spelling_at}
+use Rattle.ia32_code.specs.Reading.{CodeReader, given, seq, byte_at, word_at, four_bytes, disp_at, sib_at, form_at, trailing_at, end_at, modrm_at, digit_at, row_at, by_modrm_at, opened_at, spelling_at}
 use Rattle.ia32_code.proofs.OpcodeRows.{HasDigitRow, digit_row}
 use Rattle.ia32_code.proofs.TakesFront.{TakesFront, Readable, TakesFront-byte_at, Readable-byte_at, TakesFront-given, Readable-given, TakesFront-none, TakesFront-seq, Readable-seq, TakesFront-byte, TakesFront-cond}
 

@@ -7,7 +7,7 @@ use Rattle.ia32_code.specs.declared.reading.Stop.{Stop}
 use Rattle.ia32_code.specs.declared.reading.Stop.TheVariants.{Short, Unknown}
 use Rattle.ia32_code.specs.declared.row.Row.{Row}
 use Rattle.ia32_code.specs.declared.row.ModRm.{ModRm}
-use Rattle.ia32_code.specs.declared.row.ModRm.TheVariants.{Absent, Register, Memory, Digit}
+use Rattle.ia32_code.specs.declared.row.ModRm.TheVariants.{Absent, Memory, Digit}
 use Rattle.ia32_code.specs.declared.row.Trailing.{Trailing}
 use Rattle.ia32_code.specs.declared.row.Trailing.TheVariants as trailing
 use Rattle.ia32_code.specs.declared.operand_form.Displacement.{Displacement}

@@ -1,17 +1,15 @@
 -- The whole words of a spelling: the displacement or address within it, and the number, address or distance at its end.
 use Rattle.std.specs.Prelude.{◌≡◌, ℕ, ◌+◌, ◌*◌, ◌<◌, ◌^◌, List, [], ◌∷◌, ◌++◌, length, Option, Some, None, option_map}
 use Rattle.std.specs.Int.{w32, to_le_bytes}
-use Rattle.ia32_code.specs.declared.instruction.Reg.{Reg}
 use Rattle.ia32_code.specs.declared.spelling.Spelling.{Spelling}
 use Rattle.ia32_code.specs.declared.word_offsets.WholeWords.{WholeWords}
 use Rattle.ia32_code.specs.declared.row.ModRm.{ModRm}
-use Rattle.ia32_code.specs.declared.row.ModRm.TheVariants.{Absent, Register, Memory, Digit}
+use Rattle.ia32_code.specs.declared.row.ModRm.TheVariants.{Absent}
 use Rattle.ia32_code.specs.declared.row.Trailing.{Trailing}
 use Rattle.ia32_code.specs.declared.row.Trailing.TheVariants.{Nothing, Byte, Word}
-use Rattle.ia32_code.specs.declared.operand_form.Displacement.{Displacement}
-use Rattle.ia32_code.specs.declared.operand_form.Displacement.TheVariants.{NoDisp, Disp8, Disp32}
+use Rattle.ia32_code.specs.declared.operand_form.Displacement.TheVariants.{Disp32}
 use Rattle.ia32_code.specs.declared.operand_form.OperandForm.{OperandForm}
-use Rattle.ia32_code.specs.declared.operand_form.OperandForm.TheVariants.{Direct, Based, Absolute, Indexed, Unbased}
+use Rattle.ia32_code.specs.declared.operand_form.OperandForm.TheVariants.{Based, Absolute, Indexed, Unbased}
 use Rattle.ia32_code.specs.OperandForms.{number, modrm_byte}
 use Rattle.ia32_code.specs.Table.{line}
 use Rattle.ia32_code.specs.Spells.{modrm_bytes, trailing_bytes, Filled, text}

@@ -1,4 +1,4 @@
-use Rattle.std.proofs.Common.{◌≡◌, ◌-◌, Some, Ok, refl, sym, ap, ◌∙◌, length, List, ℕ, arith}
+use Rattle.std.proofs.Common.{◌-◌, Some, refl, sym, ap, ◌∙◌, length, List, ℕ, arith}
 use Rattle.ia32_code.specs.declared.spelling.Spelling.{Spelling}
 use Rattle.ia32_code.specs.Spells.{meaning}
 use Rattle.ia32_code.specs.Reading.{spelling_at}
