@@ -9,8 +9,9 @@
 // where none holds, and `Leaves` what any command leaves of its files and its output.
 //
 // A further command is a module with its `act_..`, a variant of `Command` and a line in `read_words` and in `act`. Its
-// definitions are a row each of `Request` and `WordsOf`, `causes`, `Serves`, `Did` with `MayEnd`, and `Written` with
-// `PartWritten`, and a row of `Cause`, `status_of` and `Holds` for each cause of its own.
+// definitions are a row each of `Request` and `WordsOf`, `causes`, `Serves` and `Did`; of `MayEnd` where it ends other
+// than by `Done`, of `MayHaveRun` where it runs something, of `Written` and `PartWritten` where its text goes into a
+// file; and of `Cause`, `status_of` and `Holds` for each cause of its own.
 #![tactic(auto)]
 
 mod checks;
