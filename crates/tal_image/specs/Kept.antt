@@ -4,9 +4,10 @@ use Rattle.object_layout.specs.declared.rows.ClassRow.{ClassRow}
 use Rattle.tal_types.specs.declared.views.Span.{Span}
 use Rattle.tal_image.specs.declared.parts.ArrayPart.{ArrayPart}
 use Rattle.tal_image.specs.declared.image.Image.TheInside.{Inside}
+use Rattle.tal_image.specs.declared.image_reader.PlacedRows.TheInside.{Inside as Placed}
 use Rattle.tal_image.specs.Image.{parent_number, parts_of}
 use Rattle.object_layout.specs.Areas.{code_start, statics_start}
-use Rattle.tal_image.specs.Conditions.{array_room}
+use Rattle.tal_image.specs.Conditions.{array_room, fun_rows}
 use Rattle.tal_image.specs.Formed.{Formed}
 use Rattle.tal_image.specs.Shown.{spans, shapes_of}
 
@@ -18,6 +19,11 @@ data_place statics offset = statics_start + 4 * (statics + offset)
 unfoldable pub array_offsets : ℕ → List ArrayPart → List ℕ
 array_offsets at [] = []
 array_offsets at (a ∷ arrays) = at ∷ array_offsets (at + array_room a) arrays
+
+-- beside the rows are their functions with their addresses, and where their data arrays begin
+pub record ArePlaced (a : Placed) : Type 0 where
+  pub funs : a.funs.items ≡ fun_rows code_start a.rows.functions.items
+  pub offsets : a.offsets.items ≡ array_offsets 0 a.rows.arrays.items
 
 -- the rows are an image's, and beside them are the table of its classes, where its functions begin, and where its data
 -- arrays begin

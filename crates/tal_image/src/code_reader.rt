@@ -158,7 +158,7 @@ pub(crate) struct MarkPlaces<'a> {
 }
 
 impl<'a> RowAfter<MarkPlaces<'a>, u64> for MarkPart {
-    ghost fields = { λ p later least. mark_where (offset_fits p.starts.now least) (mark_says p.words.now.tables p.words.now.starts.items (map (data_place p.words.now.statics) p.words.now.offsets.items) p.starts.now) };
+    ghost fields = { λ p later least. mark_where (offset_fits p.starts.now least) (mark_says p.words.now.tables (map (λ f. f.address) p.words.now.funs.items) (map (data_place p.words.now.statics) p.words.now.offsets.items) p.starts.now) };
 
     ghost after = { after_mark };
 

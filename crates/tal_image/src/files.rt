@@ -23,7 +23,7 @@ impl Image {
     {
         one_meaning();
         let rows = image_rows(alloc, bytes)?;
-        Ok(Image::of(alloc, rows)?)
+        Ok(Image::placed(alloc, rows)?)
     }
 
     /// The numbers of the file's header.

@@ -5,6 +5,7 @@ ghost use Rattle.tal_image.specs.Formed.{Formed};
 ghost use Rattle.tal_image.specs.Image.{parts_of};
 ghost use Rattle.tal_image.specs.Shown.{shapes_of};
 
+use crate::image_reader::PlacedRows;
 use crate::image_rows::ImageRows;
 use crate::parts::{BlockPart, MarkPart};
 use crate::placement::{addresses, array_offsets, fun_rows};
@@ -66,9 +67,29 @@ impl Image {
         ensures { IfOk result (λ i. i ≡ parts_of rows) }
     {
         let funs = fun_rows(alloc, &rows.functions)?;
+        let offsets = array_offsets(alloc, &rows.arrays)?;
+        Image::placed(
+            alloc,
+            PlacedRows {
+                rows,
+                funs,
+                offsets,
+            },
+        )
+    }
+
+    /// The image of these rows, which keep the conditions of image files.
+    pub(crate) fn placed(alloc: Global, placed: PlacedRows) -> Result<Image, NoMemory>
+        requires { Formed placed }
+        ensures { IfOk result (λ i. i ≡ placed) }
+    {
+        let PlacedRows {
+            rows,
+            funs,
+            offsets,
+        } = placed;
         let shapes = shapes(alloc, &rows, &funs)?;
         let starts = addresses(alloc, &funs)?;
-        let offsets = array_offsets(alloc, &rows.arrays)?;
         Ok(Image {
             rows,
             shapes,

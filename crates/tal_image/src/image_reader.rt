@@ -2,11 +2,13 @@
 ghost use Rattle.std.specs.Prelude.{◌≡◌, ◌⊎◌, ◌≤◌, ◌-◌, take, drop, IfOk, IfErr};
 ghost use Rattle.file_fields.specs.declared.fault.ImageFault.TheVariants.{NoMemory as no_memory};
 ghost use Rattle.file_fields.specs.Grammar.{AreBytes};
-ghost use Rattle.file_fields.specs.Reading.{GivesView};
+ghost use Rattle.file_fields.specs.Reading.{GivesAt, GivesView};
 ghost use Rattle.tal_image.specs.Formed.{ImageOf};
 ghost use Rattle.tal_image.specs.Fields.{FirstFault};
 ghost use Rattle.tal_image.specs.ImageReading.{front_parts_of, behind_of, front_at, behind_at, image_at, FitsMemory};
-ghost use Rattle.tal_image.specs.Image.{parts_of};
+ghost use Rattle.object_layout.specs.Areas.{code_start};
+ghost use Rattle.tal_image.specs.Conditions.{fun_rows};
+ghost use Rattle.tal_image.specs.Kept.{array_offsets};
 
 use crate::class_reader::classes;
 use crate::code_reader::{BlockPlaces, MarkPlaces, code, function_starts};
@@ -17,7 +19,7 @@ use crate::mark_words::MarkWords;
 use crate::parts::{ArrayPart, BlockPart, FunctionPart, Header, MarkPart, Tables};
 use crate::row_reader::{Entries, Kinds, field_types};
 use file_fields::{ImageFault, Reader, Row, read_whole};
-use object_layout::{ClassRow, FieldList, KindRow};
+use object_layout::{ClassRow, FieldList, FunRow, KindRow};
 use std::alloc::Global;
 use std::marker::Model;
 use tal_types::Sig;
@@ -35,26 +37,35 @@ pub(crate) struct TableRows {
     pub arrays: Vec<ArrayPart>,
 }
 
-/// The code and what is said of it.
+/// The code and what is said of it, and where the functions and the data arrays lie.
 #[derive(Drop)]
 pub(crate) struct CodeRows {
     pub code: Vec<u8>,
     pub blocks: Vec<BlockPart>,
     pub marks: Vec<MarkPart>,
+    pub funs: Vec<FunRow>,
+    pub offsets: Vec<u32>,
 }
 
-/// An image file's rows. Contracts see them as the image's parts.
+/// An image's rows, its functions with their addresses, and where its data arrays begin, in words from the first. Contracts
+/// see them as the image's parts.
 #[derive(Drop)]
-pub(crate) struct FileRows {
+pub(crate) struct PlacedRows {
     pub rows: ImageRows,
+    pub funs: Vec<FunRow>,
+    pub offsets: Vec<u32>,
 }
 
-impl Model for FileRows {
+impl Model for PlacedRows {
     ghost use Rattle.tal_image.specs.Image.{ImageParts, parts_of};
 
     ghost Value = { ImageParts };
 
-    ghost view = { λ file. parts_of file.rows };
+    ghost use Rattle.tal_image.specs.Kept.{ArePlaced};
+
+    ghost view = { λ placed. parts_of placed.rows };
+
+    ghost invariant = { ArePlaced };
 }
 
 /// The tables.
@@ -123,6 +134,8 @@ fn code_rows(
     requires { FitsMemory (front_parts_of front.now) }
     ensures gives { GivesView behind_of result (behind_at (front_parts_of front.now) reader.old.file.now reader.old.at) reader.new.at }
     ensures file { reader.new.file ≡ reader.old.file }
+    ensures funs { IfOk result (λ rows. rows.funs.items ≡ fun_rows code_start front.now.functions.items) }
+    ensures offsets { IfOk result (λ rows. rows.offsets.items ≡ array_offsets 0 front.now.arrays.items) }
 {
     let tables = Tables::of(&front.header);
     let words = MarkWords::behind(alloc, front)?;
@@ -155,6 +168,8 @@ fn code_rows(
         code,
         blocks,
         marks,
+        funs: words.funs,
+        offsets: words.offsets,
     })
 }
 
@@ -163,28 +178,32 @@ fn are_bytes(file: &[u8])
     ensures { AreBytes file.now }
 {}
 
-impl Row<()> for FileRows {
+impl Row<()> for PlacedRows {
     ghost use Rattle.tal_image.specs.Fields.{image_fields};
 
     ghost fields = { λ _. image_fields };
 
-    fn read(alloc: Global, reader: &mut Reader<'_>, _context: &()) -> Result<FileRows, ImageFault> {
+    fn read(
+        alloc: Global,
+        reader: &mut Reader<'_>,
+        _context: &(),
+    ) -> Result<PlacedRows, ImageFault> {
         ia32_code::laws::decoded_law();
         are_bytes(reader.file);
         let rows = image(alloc, reader)?;
-        Ok(FileRows { rows })
+        Ok(rows)
     }
 }
 
 /// A whole image.
 #[tactic(auto, unfolding(crate::specs::ImageReading::image_at))]
-fn image(alloc: Global, reader: &mut Reader<'_>) -> Result<ImageRows, ImageFault>
-    ensures gives { GivesView parts_of result (image_at reader.old.file.now reader.old.at) reader.new.at }
+fn image(alloc: Global, reader: &mut Reader<'_>) -> Result<PlacedRows, ImageFault>
+    ensures gives { GivesAt result (image_at reader.old.file.now reader.old.at) reader.new.at }
     ensures file { reader.new.file ≡ reader.old.file }
 {
     let front = table_rows(alloc, reader)?;
     let behind = code_rows(alloc, reader, &front)?;
-    Ok(ImageRows {
+    let rows = ImageRows {
         heap_words: front.header.heap_words,
         stacks: front.header.stacks,
         sigs: front.sigs,
@@ -197,16 +216,21 @@ fn image(alloc: Global, reader: &mut Reader<'_>) -> Result<ImageRows, ImageFault
         code: behind.code,
         blocks: behind.blocks,
         marks: behind.marks,
+    };
+    Ok(PlacedRows {
+        rows,
+        funs: behind.funs,
+        offsets: behind.offsets,
     })
 }
 
 /// The rows of the image for which the bytes stand; else their first fault, or want of memory.
-pub(crate) fn image_rows(alloc: Global, bytes: &[u8]) -> Result<ImageRows, ImageFault>
-    ensures ok { IfOk result (λ rows. ImageOf bytes.now (parts_of rows)) }
+pub(crate) fn image_rows(alloc: Global, bytes: &[u8]) -> Result<PlacedRows, ImageFault>
+    ensures ok { IfOk result (λ rows. ImageOf bytes.now rows) }
     ensures fault { IfErr result (λ fault. (fault ≡ no_memory) ⊎ FirstFault bytes.now fault) }
 {
     read_as_fields();
     image_ends();
-    let FileRows { rows } = read_whole::<(), FileRows>(alloc, bytes, &())?;
+    let rows = read_whole::<(), PlacedRows>(alloc, bytes, &())?;
     Ok(rows)
 }

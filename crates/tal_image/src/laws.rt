@@ -4,14 +4,14 @@ ghost use Rattle.file_fields.specs.Laws.{EndsBy};
 ghost use Rattle.tal_image.specs.Fields.{image_fields};
 ghost use Rattle.tal_image.specs.Laws.{OneMeaning, ReadAsFields, EachIsOne, FormedShapes};
 
-use crate::image_reader::FileRows;
+use crate::image_reader::PlacedRows;
 
 /// What a file stands for is one thing: one image, or one first fault, and not both.
 pub fn one_meaning()
     ensures { OneMeaning }
 {
     read_as_fields();
-    file_fields::laws::one_meaning::<FileRows>();
+    file_fields::laws::one_meaning::<PlacedRows>();
 }
 
 /// The file of an image is its fields one after another: whoever reads fields that are sound to the end of a file has read
@@ -29,7 +29,7 @@ pub fn each_is_one()
     ensures { EachIsOne }
 {
     read_as_fields();
-    file_fields::laws::each_is_one::<FileRows>();
+    file_fields::laws::each_is_one::<PlacedRows>();
 }
 
 /// The classes and array kinds of an image are a table without a fault, and keep the laws of classes.

@@ -5,7 +5,7 @@ use Rattle.file_fields.specs.Composed.{passed_on}
 use Rattle.tal_image.specs.Fields.{image_fields}
 use Rattle.tal_image.specs.ImageReading.{image_at}
 use Rattle.tal_image.proofs.Reading.Images.{image_run}
-use Rattle.tal_image.proofs.image_reader.FileRowsRowUnit.read.Goals as goal
+use Rattle.tal_image.proofs.image_reader.PlacedRowsRowUnit.read.Goals as goal
 
 pub returns-in_err-rows-clause-gives : goal.returns-in_err-rows-clause-gives
 returns-in_err-rows-clause-gives c =
