@@ -1,15 +1,14 @@
 ghost use Rattle.std.specs.Prelude.{◌≡◌};
 ghost use Rattle.tal_types.specs.Kept.{live_of};
-ghost use Rattle.tal_flow.specs.Seen.{see_move, see_compare, see_test, see};
+ghost use Rattle.tal_flow.specs.Seen.{see};
 
 use crate::calls::{Called, call_by, call_to};
-use crate::forms::Form;
+use crate::forms::{Form, Operands};
 use crate::functions::{fits_result, has_block};
 use crate::known::register;
 use crate::operands::{Reads, Resolved, immediate_type, reads_of, resolve, storable};
 use crate::rows::{compare_kind, test_kind};
-use ia32_code::{Cond, Mem, Reg};
-use object_layout::Shapes;
+use ia32_code::{Cond, Mem, Operand, Reg};
 use tal_types::{Context, FlagKind, ImageView, Ty};
 
 /// An instruction by what typing says of it, with its operands resolved where it stands.
@@ -48,23 +47,62 @@ pub enum Seen {
     Nothing,
 }
 
-fn see_move(shapes: &Shapes, d: Resolved, x: Resolved) -> Seen
-    ensures { result ≡ see_move shapes.now d x }
+// Each of these resolves the operands of one form, so that no instruction pays for the operands of another.
+
+/// An operation on numbers.
+fn see_compute<V: ImageView>(
+    image: &V,
+    context: &Context,
+    pc: u32,
+    sources: &Operands,
+    d: &Operand,
+    wide: bool,
+    kind: Option<FlagKind>,
+) -> Seen
+    ensures { result ≡ see (V.shown image.now) (live_of context.now) pc (Form.Compute sources.now d.now wide kind) }
 {
-    let fits = storable(shapes, x.ty, &d);
+    let reads = reads_of(image, context, pc, sources.as_slice());
+    let destination = resolve(image, context, pc, d);
+    Seen::Compute {
+        reads,
+        destination,
+        wide,
+        kind,
+    }
+}
+
+/// A MOV.
+fn see_move<V: ImageView>(image: &V, context: &Context, pc: u32, d: &Operand, x: &Operand) -> Seen
+    ensures { result ≡ see (V.shown image.now) (live_of context.now) pc (Form.Move d.now x.now) }
+{
+    let d = resolve(image, context, pc, d);
+    let x = resolve(image, context, pc, x);
+    let fits = storable(image.shapes(), x.ty, &d);
     Seen::Move(d, x, fits)
 }
 
-fn see_compare(shapes: &Shapes, context: &Context, d: Resolved, x: Resolved) -> Seen
-    ensures { result ≡ see_compare shapes.now (live_of context.now) d x }
+/// A CMP.
+fn see_compare<V: ImageView>(
+    image: &V,
+    context: &Context,
+    pc: u32,
+    d: &Operand,
+    x: &Operand,
+) -> Seen
+    ensures { result ≡ see (V.shown image.now) (live_of context.now) pc (Form.Compare d.now x.now) }
 {
-    let kind = compare_kind(shapes, context, &d, &x);
+    let d = resolve(image, context, pc, d);
+    let x = resolve(image, context, pc, x);
+    let kind = compare_kind(image.shapes(), context, &d, &x);
     Seen::Compare(d, x, kind)
 }
 
-fn see_test(d: Resolved, x: Resolved) -> Seen
-    ensures { result ≡ see_test d x }
+/// A TEST.
+fn see_test<V: ImageView>(image: &V, context: &Context, pc: u32, d: &Operand, x: &Operand) -> Seen
+    ensures { result ≡ see (V.shown image.now) (live_of context.now) pc (Form.TestBits d.now x.now) }
 {
+    let d = resolve(image, context, pc, d);
+    let x = resolve(image, context, pc, x);
     let kind = test_kind(&d, &x);
     Seen::TestBits(d, x, kind)
 }
@@ -80,28 +118,11 @@ pub(crate) fn see<V: ImageView>(image: &V, context: &Context, pc: u32, form: &Fo
             destination,
             wide,
             kind,
-        } => Seen::Compute {
-            reads: reads_of(image, context, pc, sources.as_slice()),
-            destination: resolve(image, context, pc, destination),
-            wide: *wide,
-            kind: *kind,
-        },
-        Form::Move(d, x) => see_move(
-            image.shapes(),
-            resolve(image, context, pc, d),
-            resolve(image, context, pc, x),
-        ),
+        } => see_compute(image, context, pc, sources, destination, *wide, *kind),
+        Form::Move(d, x) => see_move(image, context, pc, d, x),
         Form::Address(r, m) => Seen::Address(*r, *m),
-        Form::Compare(d, x) => see_compare(
-            image.shapes(),
-            context,
-            resolve(image, context, pc, d),
-            resolve(image, context, pc, x),
-        ),
-        Form::TestBits(d, x) => see_test(
-            resolve(image, context, pc, d),
-            resolve(image, context, pc, x),
-        ),
+        Form::Compare(d, x) => see_compare(image, context, pc, d, x),
+        Form::TestBits(d, x) => see_test(image, context, pc, d, x),
         Form::PushOf(x) => Seen::PushOf(resolve(image, context, pc, x)),
         Form::PopTo(r) => Seen::PopTo(*r),
         Form::DropSlots(bytes) => Seen::DropSlots(*bytes, immediate_type(image, pc, *bytes)),
