@@ -1,0 +1,2 @@
+pub mod NumberClass
+pub mod NumberObjects
