@@ -36,6 +36,7 @@ no_reference (Class zero) n k = of_number _
 no_reference (Class (suc c)) n k = of_none _
 no_reference (Kind q) n k = none_and _
 
+-- so the table is plain
 pub plain_table : (s : ShapesView) → s ≡ number_rows → IsPlain s
 plain_table s e = subst IsPlain (sym e) (record { there = omega arith; few = omega arith; plain = none })
   where

@@ -1,8 +1,8 @@
 // A heap that lines of a case are played on.
-ghost use Rattle.std.specs.Prelude.{◌≡◌};
 
-use crate::good_roots::{Listed, are_good, begins, is_object_word};
+use crate::good_roots::{Listed, are_good};
 use crate::number_class::number_table;
+use crate::places::{begins, is_object_word};
 use free_index::FreeIndex;
 use free_index::laws::object_write_keeps_lists;
 use heap_words::Heap;
@@ -14,7 +14,8 @@ use object_layout::areas::table_address;
 use std::alloc::Global;
 use std::marker::Model;
 
-/// A heap with the index of its free blocks, and the table of its objects' class. Each call tests what it asks of the heap.
+/// A heap with the index of its free blocks, and the table of its objects' class. Each call tests what it asks of
+/// the heap.
 #[derive(Drop)]
 pub struct CaseHeap {
     heap: Heap,
@@ -75,7 +76,8 @@ impl CaseHeap {
         Some(self.heap.word(i))
     }
 
-    /// Writes the word of the class into the used block at a place, which it answers. None where there is no such block.
+    /// Writes the word of the class into the used block at a place, which it answers. None where there is no such
+    /// block.
     pub fn put_object(&mut self, at: u32) -> Option<u32> {
         self.write(at.checked_add(2)?, table_address(0))?;
         Some(at)
@@ -90,8 +92,8 @@ impl CaseHeap {
         Some(collect(&mut self.heap, &mut self.index, &self.shapes, &mut roots))
     }
 
-    /// Joins a free block with the free one behind it, and answers the size of the one that they make. The index is then
-    /// built anew.
+    /// Joins a free block with the free one behind it, and answers the size of the one that they make. The index is
+    /// then built anew.
     pub fn join(&mut self, at: u32) -> Option<u32> {
         if !begins(&self.heap, at) || self.heap.used(at) {
             return None;

@@ -1,14 +1,15 @@
-// Cases of a heap: lines that take, give and write blocks, and that collect with roots that keep objects. The file that the
-// one word of the command line names has them, as `data/cases`, which says at its head how one is written. What each line
-// came to is printed.
+// Cases of a heap: lines that take, give and write blocks, and that collect with roots that keep objects. The file that
+// the one word of the command line names has them, as `data/cases`, which says at its head how one is written. What
+// each line came to is printed.
 //
-// An object is of the one class of a table, which has one number field. So it refers to nothing, and a collection keeps the
-// objects that its roots name. Whether these are good is found by looking at the heap (`good_roots`).
+// An object is of the one class of a table, which has one number field. So it refers to nothing, and a collection keeps
+// the objects that its roots name. Whether these are good is found by looking at the heap (`good_roots`).
 #![tactic(auto)]
 
 mod case_heap;
 mod good_roots;
 mod number_class;
+mod places;
 mod script;
 
 use no_memory::NoMemory;

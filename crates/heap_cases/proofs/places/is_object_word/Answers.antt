@@ -1,6 +1,6 @@
 use Rattle.std.proofs.Common.{sym, ◌∙◌}
 use Rattle.heap_cases.proofs.NumberObjects.{object_place}
-use Rattle.heap_cases.proofs.good_roots.is_object_word.Goals as goal
+use Rattle.heap_cases.proofs.places.is_object_word.Goals as goal
 
 pub returns-clause-inside : goal.returns-clause-inside
 returns-clause-inside c = λ _.

@@ -1,6 +1,6 @@
 use Rattle.std.proofs.Common.{◌-◌, ◌≤◌}
 use Rattle.heap_words.specs.Blocks.{Begins}
-use Rattle.heap_cases.proofs.good_roots.find_block.Given as goal
+use Rattle.heap_cases.proofs.places.find_block.Given as goal
 
 abbrev pub invariant-loop-next : goal.invariant-loop-next
 invariant-loop-next l = record { begins : Begins l.heap l.at; behind : l.at ≤ l.i }
