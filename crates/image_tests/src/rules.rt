@@ -1,8 +1,8 @@
-use tal_flow::{Edges, Place, Rule, flow, is_entry, pass, place_of};
 use ia32_code::{Inst, Mem, Operand, Reg};
 use object_layout::{FieldTy, Shapes};
 use std::alloc::Global;
 use std::test::Fail;
+use tal_flow::{Edges, Place, Rule, flow, is_entry, pass, place_of};
 use tal_types::{Context, ImageView, Mark, Sig, Span, Ty, entry_context};
 
 const START: u32 = 0x100000;

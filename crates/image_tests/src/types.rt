@@ -1,8 +1,10 @@
-use tal_types::{Context, FlagKind, ImageView, Mark, Sig, Span, Ty, context_below, entry_context, sub};
 use ia32_code::Reg;
 use object_layout::{ClassRow, FieldList, FieldTy, MethodList, Shapes};
 use std::alloc::Global;
 use std::test::Fail;
+use tal_types::{
+    Context, FlagKind, ImageView, Mark, Sig, Span, Ty, context_below, entry_context, sub,
+};
 
 fn two_classes(alloc: Global) -> Result<Shapes, Fail> {
     let root = ClassRow {
