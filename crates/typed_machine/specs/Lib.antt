@@ -1,0 +1,16 @@
+-- Values, objects and states.
+pub mod Values
+pub mod Stores
+pub mod States
+-- The code, and what an instruction does to a state.
+pub mod Code
+pub mod Operands
+pub mod Words
+pub mod Effects
+-- Turns and runs.
+pub mod Switches
+pub mod Turns
+-- Which states are typed.
+pub mod Frames
+pub mod Typing
+pub mod Examples

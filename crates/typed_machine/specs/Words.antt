@@ -1,0 +1,30 @@
+-- The words of registers, as instructions compute with them.
+use Rattle.std.specs.Prelude.{ℕ, ◌+◌, ◌-◌, ◌*◌, List, [], ◌∷◌, length}
+use Rattle.ia32_code.specs.declared.instruction.Reg.{Reg}
+use Rattle.ia32_code.specs.declared.instruction.Reg.TheVariants.{Eax, Ecx, Edx, Ebx, Ebp, Esi, Edi}
+use Rattle.object_layout.specs.Areas.{stacks_start}
+use Rattle.ia32_step.specs.Operands.{WordState}
+use Rattle.typed_machine.specs.Values.{Value, Word}
+use Rattle.typed_machine.specs.States.{State, places_of}
+
+-- the address above a stack's last word
+abbrev pub upper_end : ℕ → ℕ
+upper_end stack = stacks_start + 16384 * (stack + 1)
+
+-- ESP of a stack with so many words
+abbrev pub stack_pointer : ℕ → ℕ → ℕ
+stack_pointer stack depth = upper_end stack - 4 * depth
+
+-- the words of the registers by their numbers, where ESP has this word
+abbrev pub register_words : List ℕ → (Reg → Value) → ℕ → List ℕ
+register_words places regs esp =
+    Word places (regs Eax) ∷ Word places (regs Ecx) ∷ Word places (regs Edx) ∷ Word places (regs Ebx) ∷ esp
+    ∷ Word places (regs Ebp) ∷ Word places (regs Esi) ∷ Word places (regs Edi) ∷ []
+
+-- ESP of a state
+abbrev pub esp_of : State → ℕ
+esp_of s = stack_pointer s.current (length s.values)
+
+-- the words that an instruction computes with, where the word in memory that it reads is this one
+unfoldable pub words_of : State → ℕ → WordState
+words_of s w = record { regs = register_words (places_of s) s.thread.regs (esp_of s); flags = s.thread.flags; pc = s.thread.place; memory = λ a. w }

@@ -1,0 +1,5 @@
+use Rattle.typed_safety.proofs.FormedImages.{image_laws}
+use Rattle.typed_safety.proofs.laws.formed_images_tell.Goals as goal
+
+pub returns : goal.returns
+returns c = image_laws c.front_law.ensures c.spelling_length.ensures c.formed_shapes.ensures

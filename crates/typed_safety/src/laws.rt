@@ -1,0 +1,43 @@
+// What holds of the definitions alone: each law is a function with nothing to do, whose clause is the law.
+ghost use Rattle.typed_safety.specs.Laws.{FormedImagesTell, InstructionsKeepTyping, WellTypedImagesKeepTyping, TurnsKeepTyping, RunsAreTyped};
+
+/// A formed image tells what typed instructions rest on: its classes keep the laws of classes, its methods are its functions,
+/// at its blocks instructions begin, and what its marks stand for has the marks' types and words.
+pub fn formed_images_tell()
+    ensures { FormedImagesTell }
+{
+    ia32_code::laws::front_law();
+    ia32_code::laws::spelling_length();
+    tal_image::laws::formed_shapes();
+}
+
+/// From a typed state an instruction is never ill typed. The state that it moves on to is typed; a call of the Nucleus has its
+/// arguments, and its reply is awaited; and a run that ends has a number in EAX.
+pub fn instructions_keep_typing()
+    ensures { InstructionsKeepTyping }
+{}
+
+/// In a well typed image an instruction stands at the place of each typed state, and it keeps typing.
+pub fn well_typed_images_keep_typing()
+    ensures { WellTypedImagesKeepTyping }
+{
+    formed_images_tell();
+    tal_checker::laws::accepted_runs();
+}
+
+/// In a well typed image a turn from a typed state leads to a typed state, whether an interrupt is accepted, or an instruction
+/// moves on, faults or ends a stack. There is no turn at a call of the Nucleus alone.
+pub fn turns_keep_typing()
+    ensures { TurnsKeepTyping }
+{
+    formed_images_tell();
+    tal_checker::laws::accepted_runs();
+}
+
+/// Each run of a well typed image has come to a typed state, and goes on unless it has come to a call of the Nucleus.
+pub fn runs_are_typed()
+    ensures { RunsAreTyped }
+{
+    formed_images_tell();
+    tal_checker::laws::accepted_runs();
+}
