@@ -1,0 +1,65 @@
+-- Laws of words that stand for a state: of the words at spots, and of the running stack.
+use Rattle.std.specs.Prelude.{◌≡◌, ◌≢◌, ℕ, ◌-◌, ◌<◌, ◌≤◌, ◌==◌, Bool, true, List, ◌∷◌, length, drop, Some, if◌then◌else◌}
+use Rattle.ia32_code.specs.declared.instruction.Reg.TheVariants.{Esp}
+use Rattle.ia32_code.specs.declared.instruction.Mem.{Mem}
+use Rattle.ia32_step.specs.declared.cpu.Cpu.{Cpu}
+use Rattle.ia32_step.specs.Operands.{address_of}
+use Rattle.tal_image.specs.Image.{ImageParts}
+use Rattle.tal_image.specs.Shown.{shown}
+use Rattle.typed_machine.specs.Values.{Value, Word}
+use Rattle.typed_machine.specs.States.{State, places_of, with_values, most_values}
+use Rattle.typed_machine.specs.Operands.{Spot, AtStatic, AtSlot, AtValue, AtLength, AtHead, AtMethod, AtDisplay, spot_of, spot_word, write_spot}
+use Rattle.typed_machine.specs.Words.{esp_of}
+use Rattle.word_machine.specs.Memory.{MemoryView, word_of, is_mapped}
+use Rattle.word_machine.specs.Standing.{MemoryStands}
+use Rattle.word_machine.specs.Following.{Grounds}
+
+-- the object that a spot belongs to, if it belongs to one, lives
+abbrev pub SpotLives : (ℕ → Bool) → Spot → Type 0
+SpotLives live (AtValue i j) = live i ≡ true
+SpotLives live (AtLength i) = live i ≡ true
+SpotLives live (AtHead i) = live i ≡ true
+SpotLives live (AtStatic j) = Unit {0}
+SpotLives live (AtSlot i) = Unit {0}
+SpotLives live (AtMethod c j) = Unit {0}
+SpotLives live (AtDisplay c d) = Unit {0}
+
+-- the word at an address changes, and no other
+abbrev pub Written : MemoryView → MemoryView → ℕ → ℕ → Type 0
+Written before after a w = (b : ℕ) → word_of after b ≡ (if b == a then Some w else word_of before b)
+
+-- the word at a spot stands at the operand's address; ESP is no index, as in each operand that is spelled
+abbrev pub SpotsAreRead : Type 0
+SpotsAreRead =
+    (image : ImageParts) (live : ℕ → Bool) (s : State) (cpu : Cpu) (m : MemoryView) → Grounds image live s cpu m
+    → (x : Mem) → x.index ≢ Some Esp → (spot : Spot) (w : ℕ) → spot_of (shown image).shapes s x ≡ Some spot → SpotLives live spot
+    → spot_word (shown image).shapes s spot ≡ Some w → word_of m (address_of x cpu.regs) ≡ Some w
+
+-- where the word there becomes that of a value, the memory stands for the state with this value at the spot
+abbrev pub SpotsAreWritten : Type 0
+SpotsAreWritten =
+    (image : ImageParts) (live : ℕ → Bool) (s : State) (cpu : Cpu) (m : MemoryView) → Grounds image live s cpu m
+    → (x : Mem) → x.index ≢ Some Esp → (spot : Spot) → spot_of (shown image).shapes s x ≡ Some spot → SpotLives live spot
+    → (v : Value) (t : State) → write_spot (shown image) s spot v ≡ Some t
+    → (after : MemoryView) → Written m after (address_of x cpu.regs) (Word (places_of s) v) → MemoryStands image live t after
+
+-- a stack that is not full has a word below its top; where that becomes the word of a value, the memory stands for the state
+-- with this value on top
+pub record PushLaw (image : ImageParts) (live : ℕ → Bool) (s : State) (m : MemoryView) : Type 0 where
+  pub there : is_mapped m (esp_of s - 4) ≡ true
+  pub pushed : (v : Value) (after : MemoryView) → Written m after (esp_of s - 4) (Word (places_of s) v)
+      → MemoryStands image live (with_values (v ∷ s.values) s) after
+
+abbrev pub ValuesArePushed : Type 0
+ValuesArePushed =
+    (image : ImageParts) (live : ℕ → Bool) (s : State) (cpu : Cpu) (m : MemoryView) → Grounds image live s cpu m
+    → length s.values < most_values → PushLaw image live s m
+
+-- the word on top is that of the value on top, and values are dropped without a change of any word
+pub record DropLaw (image : ImageParts) (live : ℕ → Bool) (s : State) (m : MemoryView) : Type 0 where
+  pub top : (v : Value) (vs : List Value) → s.values ≡ v ∷ vs → word_of m (esp_of s) ≡ Some (Word (places_of s) v)
+  pub dropped : (n : ℕ) → n ≤ length s.values → MemoryStands image live (with_values (drop n s.values) s) m
+
+abbrev pub ValuesAreDropped : Type 0
+ValuesAreDropped =
+    (image : ImageParts) (live : ℕ → Bool) (s : State) (cpu : Cpu) (m : MemoryView) → Grounds image live s cpu m → DropLaw image live s m

@@ -1,0 +1,26 @@
+// What holds of words that stand for a typed state: each law is a function with nothing to do, whose clause is the law.
+ghost use Rattle.word_machine.specs.Laws.{SpotsAreRead, SpotsAreWritten, ValuesArePushed, ValuesAreDropped};
+
+/// The word at a spot of the state stands at the address of the operand that points there.
+pub fn spots_are_read()
+    ensures { SpotsAreRead }
+{
+    typed_safety::laws::formed_images_tell();
+}
+
+/// Where that word becomes the word of a value, the memory stands for the state with this value at the spot.
+pub fn spots_are_written()
+    ensures { SpotsAreWritten }
+{
+    typed_safety::laws::formed_images_tell();
+}
+
+/// A stack that is not full has a word below its top, and a value is pushed by writing its word there.
+pub fn values_are_pushed()
+    ensures { ValuesArePushed }
+{}
+
+/// The word on top of the running stack is that of the value on top; values are dropped without a change of any word.
+pub fn values_are_dropped()
+    ensures { ValuesAreDropped }
+{}
