@@ -1,7 +1,7 @@
 // What holds of words that stand for a typed state: each law is a function with nothing to do, whose clause is the law.
 ghost use Rattle.word_machine.specs.Laws.{SpotsAreRead, SpotsAreWritten, ValuesArePushed, ValuesAreDropped};
 
-/// The word at a spot of the state stands at the address of the operand that points there.
+/// The word at a spot of the state stands at the address of the operand that points there, whose index is not ESP.
 pub fn spots_are_read()
     ensures { SpotsAreRead }
 {
@@ -18,7 +18,9 @@ pub fn spots_are_written()
 /// A stack that is not full has a word below its top, and a value is pushed by writing its word there.
 pub fn values_are_pushed()
     ensures { ValuesArePushed }
-{}
+{
+    typed_safety::laws::formed_images_tell();
+}
 
 /// The word on top of the running stack is that of the value on top; values are dropped without a change of any word.
 pub fn values_are_dropped()

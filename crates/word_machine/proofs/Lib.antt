@@ -1,0 +1,10 @@
+pub mod Lists
+pub mod Holding
+pub mod Bounds
+pub mod Tables
+pub mod Changing
+pub mod Stacks
+pub mod Spots
+pub mod Reading
+pub mod Replacing
+pub mod Writing

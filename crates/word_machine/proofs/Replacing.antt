@@ -1,0 +1,81 @@
+-- A store where one value of an object was replaced: each object stands where it stood, with as many values.
+use Rattle.std.proofs.Common.{◌≡◌, ◌≢◌, ◌⊎◌, inl, inr, ◌+◌, ◌%◌, ◌≤◌, ℕ, zero, suc, Bool, Some, arith, refl, ◌∙◌, ap, [], ◌∷◌, ◌++◌, length, slice_get, slice_set}
+use Rattle.std.proofs.lemmas.List.{length-set}
+use Rattle.typed_machine.specs.Values.{Value, ObjectShape, InstanceOf, ArrayOf}
+use Rattle.typed_machine.specs.Stores.{Object, Store, places_in, set_value, with_value}
+use Rattle.typed_machine.specs.States.{State}
+use Rattle.word_machine.specs.Standing.{head_values, object_values, end_of, IsInside, ObjectsLie}
+
+-- the places stay
+pub places-set : (store : Store) (i j : ℕ) (v : Value) → places_in (set_value store i j v) ≡ places_in store
+places-set [] i j v = refl
+places-set (o ∷ os) zero j v = refl
+places-set (o ∷ os) (suc i) j v = rw (places-set os i j v) refl
+
+-- the object whose value is replaced, or another one of before
+abbrev pub Replaced : Store → ℕ → ℕ → Value → ℕ → Object → Type 0
+Replaced store i j v k p = ((o : Object) × (slice_get store i ≡ Some o) × (k ≡ i) × (p ≡ with_value j v o)) ⊎ ((k ≢ i) × (slice_get store k ≡ Some p))
+
+-- each object is one of these
+pub store-read : (store : Store) (i j : ℕ) (v : Value) (k : ℕ) (p : Object) → slice_get (set_value store i j v) k ≡ Some p → Replaced store i j v k p
+store-read [] i j v k p h = absurd cc
+store-read (o ∷ os) zero j v zero p h = inl (o, refl, refl, cc)
+store-read (o ∷ os) zero j v (suc k) p h = inr (λ e. omega arith, h)
+store-read (o ∷ os) (suc i) j v zero p h = inr (λ e. omega arith, h)
+store-read (o ∷ os) (suc i) j v (suc k) p h = behind (store-read os i j v k p h)
+  where
+    behind : Replaced os i j v k p → Replaced (o ∷ os) (suc i) j v (suc k) p
+    behind (inl (q, there, at, is)) = inl (q, there, omega arith, is)
+    behind (inr (other, there)) = inr (λ e. other (omega arith), there)
+
+-- the words of an object whose value is replaced
+pub words-set : (o : Object) (j : ℕ) (v : Value) → object_values (with_value j v o) ≡ slice_set (object_values o) (length (head_values o.shape) + j) v
+unfolding object_values head_values
+words-set o j v = go o.shape
+  where
+    go : (shape : ObjectShape) → head_values shape ++ slice_set o.values j v ≡ slice_set (head_values shape ++ o.values) (length (head_values shape) + j) v
+    go (InstanceOf c) = let at : 1 + j ≡ suc j = omega arith in rw at refl
+    go (ArrayOf k n) = let at : 2 + j ≡ suc (suc j) = omega arith in rw at refl
+
+-- an object of before
+record Stood (store : Store) (k : ℕ) (p : Object) : Type 0 where
+  before : Object
+  there : slice_get store k ≡ Some before
+  place : p.place ≡ before.place
+  count : length (object_values p) ≡ length (object_values before)
+
+-- where each object stood
+stood : (store : Store) (i j : ℕ) (v : Value) (k : ℕ) (p : Object) → slice_get (set_value store i j v) k ≡ Some p → Stood store k p
+stood store i j v k p h = go (store-read store i j v k p h)
+  where
+    go : Replaced store i j v k p → Stood store k p
+    go (inl (o, there, at, is)) = record {
+      before = o;
+      there = rw at there;
+      place = rw is refl;
+      count = rw (is, words-set o j v) (length-set (object_values o) (length (head_values o.shape) + j) v);
+    }
+    go (inr (other, there)) = record { before = p; there = there; place = refl; count = refl }
+
+-- it is inside where that one was
+stood-inside : (s : State) (store : Store) (k : ℕ) (p : Object) (q : Stood store k p) → IsInside s q.before → IsInside s p
+stood-inside s store k p q (inl (low, top)) = let place = q.place in let count = q.count in inl (omega arith, omega arith)
+stood-inside s store k p q (inr (low, top)) = let place = q.place in let count = q.count in inr (omega arith, omega arith)
+
+-- two of them are apart where those were
+stood-apart : (store : Store) (k l : ℕ) (p r : Object) (q : Stood store k p) (t : Stood store l r) → (end_of q.before ≤ t.before.place) ⊎ (end_of t.before ≤ q.before.place)
+    → (end_of p ≤ r.place) ⊎ (end_of r ≤ p.place)
+stood-apart store k l p r q t (inl below) = let place = q.place in let count = q.count in let other = t.place in inl (omega arith)
+stood-apart store k l p r q t (inr above) = let place = q.place in let other = t.place in let count = t.count in inr (omega arith)
+
+-- so objects lie as they did
+pub still-lie : (live : ℕ → Bool) (s : State) (i j : ℕ) (v : Value) → ObjectsLie live s → ObjectsLie live (record s { store = set_value s.store i j v })
+still-lie live s i j v lie = record {
+  short = lie.short;
+  aligned = λ k p lives h. let q = stood s.store i j v k p h in ap (λ n. n % 4) q.place ∙ lie.aligned k q.before lives q.there;
+  inside = λ k p lives h. let q = stood s.store i j v k p h in stood-inside s s.store k p q (lie.inside k q.before lives q.there);
+  apart = λ k l p r lives live_too differ h e.
+      let q = stood s.store i j v k p h in
+      let t = stood s.store i j v l r e in
+      stood-apart s.store k l p r q t (lie.apart k l q.before t.before lives live_too differ q.there t.there);
+}

@@ -1,0 +1,118 @@
+-- The running stack: the word on top, and what pushing and dropping leave.
+use Rattle.std.proofs.Common.{◌≡◌, ◌≢◌, ◌⊎◌, inl, inr, ⊎_elim, ◌+◌, ◌-◌, ◌*◌, ◌<◌, ◌≤◌, ◌==◌, ℕ, Bool, true, false, if◌then◌else◌, arith, refl, subst, List, [], ◌∷◌, length, drop, slice_get}
+use Rattle.std.specs.Option.{option_map_or}
+use Rattle.std.proofs.lemmas.Bool.Decides.{nat_tests}
+use Rattle.std.proofs.lemmas.List.{length-drop}
+use Rattle.object_layout.specs.Areas.{stacks_start}
+use Rattle.object_layout.specs.Laws.{ClassLaws}
+use Rattle.tal_image.specs.Shown.{shapes_of}
+use Rattle.typed_machine.specs.Stores.{Object}
+use Rattle.std.proofs.lemmas.Bool.{cases_lt}
+use Rattle.ia32_step.specs.declared.cpu.Cpu.{Cpu}
+use Rattle.tal_image.specs.Image.{ImageParts}
+use Rattle.typed_machine.specs.Values.{Value, Word}
+use Rattle.typed_machine.specs.States.{State, places_of, with_values, most_values}
+use Rattle.typed_machine.specs.Words.{stack_pointer, esp_of}
+use Rattle.word_machine.specs.Memory.{MemoryView}
+use Rattle.word_machine.specs.Standing.{Holds, object_values, kept_values, values_at, IsInside, MemoryStands}
+use Rattle.word_machine.specs.Following.{Grounds}
+use Rattle.word_machine.specs.Laws.{Written, PushLaw, DropLaw}
+use Rattle.word_machine.proofs.Holding.{Outside, holds-pushed, holds-dropped}
+use Rattle.word_machine.proofs.Changing.{tables-kept, descriptors-kept, room-kept, statics-kept, object-kept, stack-kept}
+use Rattle.word_machine.proofs.Bounds.{few-stacks, runs-there}
+
+-- the words of a stack where it has these values
+abbrev Deep : MemoryView → State → ℕ → List Value → Type 0
+Deep m s n values = Holds m (places_of s) (stack_pointer n (length values)) values
+
+-- what holds of a stack's values holds of them where the running stack has others, if it holds of those
+pub stacks-with : (P : ℕ → List Value → Type 0) (s : State) (values : List Value) (n : ℕ) → (n ≡ s.current → P n values) → ((n == s.current) ≡ false → P n (values_at s n))
+    → P n (values_at (with_values values s) n)
+unfolding values_at
+stacks-with P s values n here other = go (n == s.current) refl (λ e. rw e at (other e))
+  where
+    kept : List Value
+    kept = option_map_or kept_values (slice_get s.stacks n) []
+
+    go : (b : Bool) → (n == s.current) ≡ b → ((n == s.current) ≡ false → P n kept) → P n (if b then values else kept)
+    go true e f = here (grind (arith, nat_tests))
+    go false e f = f e
+
+module _ (image : ImageParts) (live : ℕ → Bool) (s : State) (cpu : Cpu) (m : MemoryView) (g : Grounds image live s cpu m) where
+  -- the values of the running stack
+  pub running-values : values_at s s.current ≡ s.values
+  unfolding values_at
+  running-values = let e : (s.current == s.current) ≡ true = grind (arith, nat_tests) in rw e refl
+
+  -- their words
+  pub running-holds : Holds m (places_of s) (esp_of s) s.values
+  running-holds = subst (λ values. Deep m s s.current values) running-values (g.stand.memory.stacks s.current (runs-there image live s cpu m g))
+
+  -- the running stack is not too deep
+  pub running-short : length s.values ≤ 4096
+  running-short = g.typed.thread.room
+
+  module _ (laws : ClassLaws (shapes_of image)) (after : MemoryView) (a w : ℕ) (written : Written m after a w) where
+    -- where a word of the running stack changed, the memory stands for other values of this stack if their words are there
+    pub stack-written : (values : List Value) → stacks_start + 16384 * s.current ≤ a → a < stacks_start + 16384 * (s.current + 1) → Deep after s s.current values
+        → MemoryStands image live (with_values values s) after
+    stack-written values low high holds =
+        let memory = g.stand.memory in
+        record {
+          tables = tables-kept image live s cpu m g after a w written laws (omega arith);
+          descriptors = descriptors-kept image live s cpu m g after a w written laws (omega arith);
+          statics = let short = memory.lie.short in statics-kept image live s cpu m g after a w written (inr (omega arith));
+          objects = λ i o lives there. object-kept image live s cpu m g after a w written i o lives there (apart o (memory.lie.inside i o lives there));
+          stacks = λ n there. stacks-with (Deep after s) s values n (λ is. rw is holds) (λ other. stack-kept image live s cpu m g after a w written n there (beside n other));
+          room = room-kept image live s cpu m g after a w written;
+          lie = record { short = memory.lie.short; aligned = memory.lie.aligned; inside = memory.lie.inside; apart = memory.lie.apart };
+        }
+      where
+        apart : (o : Object) → IsInside s o → Outside a o.place (length (object_values o))
+        apart o (inl (above, below)) = inr (omega arith)
+        apart o (inr (above, below)) = let few = few-stacks image live s cpu m g in let there = runs-there image live s cpu m g in inl (omega arith)
+
+        beside : (n : ℕ) → (n == s.current) ≡ false → (a < stacks_start + 16384 * n) ⊎ (stacks_start + 16384 * (n + 1) ≤ a)
+        beside n other = let differ : n ≢ s.current = grind (arith, nat_tests) in ⊎_elim (λ (l : n < s.current). inr (omega arith)) (λ (l : s.current ≤ n). inl (omega arith)) (cases_lt n s.current)
+
+  -- a value is pushed
+  pub values-pushed : ClassLaws (shapes_of image) → length s.values < most_values → PushLaw image live s m
+  values-pushed laws few =
+      let room = running-short in
+      let runs = runs-there image live s cpu m g in
+      record {
+        there = g.stand.memory.room (esp_of s - 4) (omega arith) (omega arith) (omega arith);
+        pushed = λ v after written.
+            let base : esp_of s ≡ esp_of s - 4 + 4 = omega arith in
+            let grown : stack_pointer s.current (length (v ∷ s.values)) ≡ esp_of s - 4 = omega arith in
+            stack-written laws after (esp_of s - 4) (Word (places_of s) v) written (v ∷ s.values) (omega arith) (omega arith)
+            (rw grown (holds-pushed m after (esp_of s - 4) (Word (places_of s) v) written (places_of s) (esp_of s) s.values running-holds v base refl));
+      }
+
+  -- values are dropped
+  dropped : (n : ℕ) → n ≤ length s.values → MemoryStands image live (with_values (drop n s.values) s) m
+  dropped n few =
+      let memory = g.stand.memory in
+      record {
+        tables = memory.tables;
+        descriptors = memory.descriptors;
+        statics = memory.statics;
+        objects = memory.objects;
+        stacks = λ k there. stacks-with (λ j values. Deep m s j values) s (drop n s.values) k (λ is. rw is shorter) (λ other. memory.stacks k there);
+        room = memory.room;
+        lie = record { short = memory.lie.short; aligned = memory.lie.aligned; inside = memory.lie.inside; apart = memory.lie.apart };
+      }
+    where
+      shorter : Deep m s s.current (drop n s.values)
+      shorter =
+          let fewer = length-drop n s.values in
+          let room = running-short in
+          let up : stack_pointer s.current (length (drop n s.values)) ≡ esp_of s + 4 * n = omega arith in
+          rw up (holds-dropped m (places_of s) (esp_of s) n s.values running-holds)
+
+  -- the law
+  pub values-dropped : DropLaw image live s m
+  values-dropped = record {
+    top = λ v vs is. let same : esp_of s ≡ esp_of s + 4 * 0 = omega arith in rw same (running-holds 0 v (rw is refl));
+    dropped = dropped;
+  }

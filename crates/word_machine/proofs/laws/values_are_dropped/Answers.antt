@@ -1,0 +1,5 @@
+use Rattle.word_machine.proofs.Stacks.{values-dropped}
+use Rattle.word_machine.proofs.laws.values_are_dropped.Goals as goal
+
+pub returns : goal.returns
+returns c = values-dropped
