@@ -8,3 +8,7 @@ pub mod Spots
 pub mod Reading
 pub mod Replacing
 pub mod Writing
+pub mod Areas
+pub mod FirstRows
+pub mod FirstData
+pub mod FirstState

@@ -28,7 +28,7 @@ module _ (s : ShapesView) (laws : ClassLaws s) (c : ℕ) (there : c < length s.c
       length-padded 53 (map (λ f. (fun_row s f).address) (Methods s c)) (omega arith)
 
   -- a table has 64 words
-  length-table : length (table s c) ≡ 64
+  pub length-table : length (table s c) ≡ 64
   unfolding table
   length-table =
       let display = padded 8 (map table_address (lineage s c)) in
@@ -50,7 +50,7 @@ module _ (s : ShapesView) (laws : ClassLaws s) (c : ℕ) (there : c < length s.c
       rw at (behind-read display methods k ∙ front-read addresses _ k _ address)
 
 -- a word of a table, of a class that is there
-table-there : (s : ShapesView) (c k w : ℕ) → table_word s c k ≡ Some w → (c < length s.classes) × (slice_get (table s c) k ≡ Some w)
+pub table-there : (s : ShapesView) (c k w : ℕ) → table_word s c k ≡ Some w → (c < length s.classes) × (slice_get (table s c) k ≡ Some w)
 unfolding table_word
 table-there s c k w h = go (nat_lt c (length s.classes)) refl h
   where
@@ -86,16 +86,17 @@ method-word s laws c k f h =
     let test : nat_lt c (length s.classes) ≡ true = grind (arith, nat_tests) in
     rw test (method-read s laws c there k f h)
 
--- a word of a descriptor stands below the statics
-pub descriptor-below : (s : ShapesView) → ClassLaws s → (d k w : ℕ) → descriptor_word s d k ≡ Some w → descriptor_address d + 4 * k < statics_start
-unfolding descriptor_address descriptor_word Element descriptor
-descriptor-below s laws d k w h = go (slice_get s.kinds d) refl h
+-- a word of a descriptor, of a kind that is there
+pub descriptor-there : (s : ShapesView) (d k w : ℕ) → descriptor_word s d k ≡ Some w → (d < length s.kinds) × (k < 4)
+unfolding descriptor_word Element descriptor
+descriptor-there s d k w h = go (slice_get s.kinds d) refl h
   where
     go : (o : Option KindRow) → slice_get s.kinds d ≡ o
-        → option_and_then (λ t. slice_get (descriptor t) k) (option_map (λ (row : KindRow). row.element) o) ≡ Some w → descriptors_start + 16 * d + 4 * k < statics_start
+        → option_and_then (λ t. slice_get (descriptor t) k) (option_map (λ (row : KindRow). row.element) o) ≡ Some w → (d < length s.kinds) × (k < 4)
     go None e h = absurd cc
-    go (Some row) e h =
-        let kind = slice_get_within s.kinds d row e in
-        let few = laws.few_kinds in
-        let word : k < 4 = slice_get_within (descriptor row.element) k w h in
-        omega arith
+    go (Some row) e h = (slice_get_within s.kinds d row e, slice_get_within (descriptor row.element) k w h)
+
+-- it stands below the statics
+pub descriptor-below : (s : ShapesView) → ClassLaws s → (d k w : ℕ) → descriptor_word s d k ≡ Some w → descriptor_address d + 4 * k < statics_start
+unfolding descriptor_address
+descriptor-below s laws d k w h = let there = descriptor-there s d k w h in let few = laws.few_kinds in omega arith

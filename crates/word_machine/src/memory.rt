@@ -1,19 +1,31 @@
-ghost use Rattle.std.specs.Prelude.{◌≡◌, ℕ, ◌≤◌, ◌<◌, ◌+◌, ◌*◌, ◌%◌, Bool, true, IfOk, length, slice_get};
+ghost use Rattle.std.specs.Prelude.{◌≡◌, ℕ, ◌≤◌, ◌<◌, ◌+◌, ◌*◌, ◌%◌, ◌==◌, Bool, true, ◌++◌, length, replicate, slice_get, is_some, Some, IfOk, if◌then◌else◌};
 ghost use Rattle.object_layout.specs.Areas.{statics_start, stacks_start};
+ghost use Rattle.object_layout.specs.Classes.{table_word, descriptor_word};
+ghost use Rattle.tal_image.specs.Shown.{shapes_of, data_words};
 ghost use Rattle.typed_machine.specs.States.{first_state};
 ghost use Rattle.typed_machine.specs.Words.{upper_end};
-ghost use Rattle.word_machine.specs.Memory.{word_of, is_mapped};
+ghost use Rattle.word_machine.specs.Laws.{Written};
+ghost use Rattle.word_machine.specs.Memory.{word_in, word_of, is_mapped};
 ghost use Rattle.word_machine.specs.Standing.{MemoryStands};
 
 use ia32_step::Bus;
 use no_memory::NoMemory;
-use object_layout::areas::{DESCRIPTORS_START, STACKS_START, STATICS_START, TABLES_START};
+use object_layout::areas::{
+    DESCRIPTORS_START, STACKS_START, STATICS_START, TABLES_START, word_index,
+};
 use std::alloc::Global;
 use std::marker::Model;
 use tal_image::Image;
+use tal_types::ImageView;
 
 /// How many words a stack has at most.
 pub const STACK_WORDS: usize = 4096;
+
+/// How many words a class table has.
+const TABLE_WORDS: u32 = 64;
+
+/// How many words a descriptor has.
+const DESCRIPTOR_WORDS: u32 = 4;
 
 /// The memory of a machine, without its code: class tables, descriptors, statics with the data arrays behind them, and stacks.
 ///
@@ -39,7 +51,14 @@ impl Memory {
     pub fn new(alloc: Global, image: &Image) -> Result<Memory, NoMemory>
         ensures { IfOk result (λ m. (live : ℕ → Bool) → MemoryStands image.now live (first_state image.now) m) }
     {
-        Err(NoMemory)
+        image.formed();
+        tal_image::laws::formed_shapes();
+        Ok(Memory {
+            tables: table_words(alloc, image)?,
+            descriptors: descriptor_words(alloc, image)?,
+            statics: static_words(alloc, image)?,
+            stacks: zeros(alloc, STACK_WORDS * image.stacks() as usize)?,
+        })
     }
 
     /// The words of a stack from its top, which ESP tells, to its bottom.
@@ -52,11 +71,9 @@ impl Memory {
         ensures count { 4 * length result.now + esp ≡ upper_end stack }
         ensures each { (k : ℕ) → k < length result.now → slice_get result.now k ≡ word_of self.now (esp + 4 * k) }
     {
+        let top = ((esp - STACKS_START) / 4) as usize;
         let end = STACK_WORDS * (stack as usize + 1);
-        let depth = (STACKS_START as usize + 4 * end - esp as usize) / 4;
-        let (_, above) = self.stacks.split_at(end - depth);
-        let (words, _) = above.split_at(depth);
-        words
+        words_between(&self.stacks, top, end)
     }
 
     /// The words of the first so many statics.
@@ -66,8 +83,39 @@ impl Memory {
         ensures count { length result.now ≡ count }
         ensures each { (k : ℕ) → k < count → slice_get result.now k ≡ word_of self.now (statics_start + 4 * k) }
     {
-        let (statics, _) = self.statics.split_at(count as usize);
-        statics
+        words_between(&self.statics, 0, count as usize)
+    }
+
+    /// The word at an address, if one stands there.
+    #[tactic(auto, unfolding(crate::specs::Memory::word_of))]
+    fn word(&self, address: u32) -> Option<u32>
+        ensures { result ≡ word_of self.now address }
+    {
+        if address >= STACKS_START {
+            word_in(&self.stacks, STACKS_START, address)
+        } else if address >= STATICS_START {
+            word_in(&self.statics, STATICS_START, address)
+        } else if address >= DESCRIPTORS_START {
+            word_in(&self.descriptors, DESCRIPTORS_START, address)
+        } else {
+            word_in(&self.tables, TABLES_START, address)
+        }
+    }
+
+    /// Puts a word at an address, where one stands.
+    fn put(&mut self, address: u32, word: u32)
+        requires { is_mapped self.old address ≡ true }
+        ensures { Written self.old self.new address word }
+    {
+        if address >= STACKS_START {
+            put_in(&mut self.stacks, STACKS_START, address, word);
+        } else if address >= STATICS_START {
+            put_in(&mut self.statics, STATICS_START, address, word);
+        } else if address >= DESCRIPTORS_START {
+            put_in(&mut self.descriptors, DESCRIPTORS_START, address, word);
+        } else {
+            put_in(&mut self.tables, TABLES_START, address, word);
+        }
     }
 }
 
@@ -78,13 +126,95 @@ impl Bus for Memory {
 
     ghost word_at = { word_at };
 
+    #[tactic(auto, unfolding(crate::specs::Memory::is_mapped))]
     fn mapped(&self, address: u32) -> bool {
-        address % 4 == 0
+        self.word(address).is_some()
     }
 
+    #[tactic(auto, unfolding(crate::specs::Memory::word_at))]
     fn load(&self, address: u32) -> u32 {
-        0
+        self.word(address).unwrap_or(0)
     }
 
-    fn store(&mut self, address: u32, word: u32) {}
+    fn store(&mut self, address: u32, word: u32) {
+        self.put(address, word);
+    }
+}
+
+/// The word at an address, among those of an area that begins at `start`.
+fn word_in(words: &[u32], start: u32, address: u32) -> Option<u32>
+    ensures { result ≡ word_in start words.now address }
+{
+    let index = word_index(start, address)?;
+    words.get(index as usize).copied()
+}
+
+/// Puts a word at an address, where one stands among those of an area that begins at `start`.
+fn put_in(words: &mut Vec<u32>, start: u32, address: u32, word: u32)
+    requires { is_some (word_in start words.old.items address) ≡ true }
+    ensures { (a : ℕ) → word_in start words.new.items a ≡ (if a == address then Some word else word_in start words.old.items a) }
+{
+    words[((address - start) / 4) as usize] = word;
+}
+
+/// The words from number `first` up to number `end`.
+fn words_between(words: &[u32], first: usize, end: usize) -> &[u32]
+    requires order { first ≤ end }
+    requires there { (k : ℕ) → first ≤ k → k < end → k < length words.now }
+    ensures count { first + length result.now ≡ end }
+    ensures each { (k : ℕ) → k < length result.now → slice_get result.now k ≡ slice_get words.now (first + k) }
+{
+    if first == end {
+        return &[];
+    }
+    &words[first..end]
+}
+
+/// So many words that are 0.
+fn zeros(alloc: Global, count: usize) -> Result<Vec<u32>, NoMemory>
+    ensures { IfOk result (λ words. words.items ≡ replicate count 0) }
+{
+    Ok(vec![in alloc; 0u32; count]?)
+}
+
+/// The words of the class tables, one table behind another.
+fn table_words(alloc: Global, image: &Image) -> Result<Vec<u32>, NoMemory>
+    ensures { IfOk result (λ words. (c k : ℕ) → c < length image.now.classes → k < 64
+        → slice_get words.items (64 * c + k) ≡ table_word (shapes_of image.now) c k) }
+{
+    let shapes = image.shapes();
+    let mut words = Vec::new(alloc);
+    for i in 0..TABLE_WORDS * image.classes() {
+        let word = shapes.table_word(i / TABLE_WORDS, i % TABLE_WORDS);
+        words.push(word.unwrap())?;
+    }
+    Ok(words)
+}
+
+/// The words of the descriptors, one descriptor behind another.
+fn descriptor_words(alloc: Global, image: &Image) -> Result<Vec<u32>, NoMemory>
+    ensures { IfOk result (λ words. (d k : ℕ) → d < length image.now.kinds → k < 4
+        → slice_get words.items (4 * d + k) ≡ descriptor_word (shapes_of image.now) d k) }
+{
+    let shapes = image.shapes();
+    let mut words = Vec::new(alloc);
+    for i in 0..DESCRIPTOR_WORDS * image.kinds() {
+        let word = shapes.descriptor_word(i / DESCRIPTOR_WORDS, i % DESCRIPTOR_WORDS);
+        words.push(word.unwrap())?;
+    }
+    Ok(words)
+}
+
+/// The words of the statics, which are 0, with the data arrays behind them.
+fn static_words(alloc: Global, image: &Image) -> Result<Vec<u32>, NoMemory>
+    ensures { IfOk result (λ words. words.items ≡ replicate (length image.now.statics) 0 ++ data_words image.now) }
+{
+    image.formed();
+    let mut words = zeros(alloc, image.statics().len())?;
+    let mut i = 0;
+    while let Some(word) = image.data_word(i) {
+        words.push(word)?;
+        i += 1;
+    }
+    Ok(words)
 }
