@@ -11,7 +11,7 @@ use Rattle.word_machine.specs.Memory.{MemoryView}
 use Rattle.word_machine.specs.Standing.{kept_values, values_at}
 use Rattle.word_machine.specs.Following.{Grounds}
 
-module _ (image : ImageParts) (live : ℕ → Bool) (s : State) (cpu : Cpu) (m : MemoryView) (g : Grounds image live s cpu m) where
+module _ {image : ImageParts} {live : ℕ → Bool} {s : State} {cpu : Cpu} {m : MemoryView} (g : Grounds image live s cpu m) where
   -- there are 64 stacks at most
   pub few-stacks : image.stacks ≤ 64
   few-stacks = let h = g.well_typed.formed.condition_2 in grind (arith, nat_tests)

@@ -1,40 +1,44 @@
 -- What stays of the words of a state where one word of the memory changes.
-use Rattle.std.proofs.Common.{◌≡◌, ◌⊎◌, inl, inr, ◌+◌, ◌*◌, ◌%◌, ◌<◌, ◌≤◌, ◌==◌, ℕ, Bool, true, false, if◌then◌else◌, Some, is_some, arith, refl, ◌∙◌, length, slice_get}
+use Rattle.std.proofs.Common.{◌≡◌, ◌⊎◌, inl, inr, ◌+◌, ◌*◌, ◌%◌, ◌<◌, ◌≤◌, ◌==◌, ℕ, Bool, true, false, if◌then◌else◌, Some, is_some, arith, refl, ◌∙◌, List, length, slice_get}
 use Rattle.ia32_step.specs.declared.cpu.Cpu.{Cpu}
 use Rattle.object_layout.specs.Areas.{statics_start, stacks_start, table_address, descriptor_address}
 use Rattle.object_layout.specs.Classes.{table_word, descriptor_word}
 use Rattle.object_layout.specs.Laws.{ClassLaws}
 use Rattle.tal_image.specs.Image.{ImageParts}
 use Rattle.tal_image.specs.Shown.{shapes_of}
+use Rattle.typed_machine.specs.Values.{Value}
 use Rattle.typed_machine.specs.Stores.{Object}
 use Rattle.typed_machine.specs.States.{State, places_of}
 use Rattle.typed_machine.specs.Words.{stack_pointer}
 use Rattle.word_machine.specs.Memory.{MemoryView, word_of, is_mapped}
 use Rattle.word_machine.specs.Standing.{Holds, object_values, values_at}
 use Rattle.word_machine.specs.Following.{Grounds}
-use Rattle.word_machine.specs.Laws.{Written}
-use Rattle.word_machine.proofs.Holding.{Outside, word-kept, holds-kept}
+use Rattle.word_machine.proofs.Holding.{Outside, Change, word-kept, holds-kept}
 use Rattle.word_machine.proofs.Tables.{table-below, descriptor-below}
 use Rattle.word_machine.proofs.Bounds.{stack-short}
 
--- the words of the values of a stack
-abbrev pub StackHolds : MemoryView → State → ℕ → Type 0
-StackHolds m s n = Holds m (places_of s) (stack_pointer n (length (values_at s n))) (values_at s n)
+-- the words of stack n, where it has these values
+abbrev pub StackHolds : MemoryView → State → ℕ → List Value → Type 0
+StackHolds m s n values = Holds m (places_of s) (stack_pointer n (length values)) values
 
-module _ (image : ImageParts) (live : ℕ → Bool) (s : State) (cpu : Cpu) (m : MemoryView) (g : Grounds image live s cpu m) (after : MemoryView) (a w : ℕ) (written : Written m after a w) where
+module _ {image : ImageParts} {live : ℕ → Bool} {s : State} {cpu : Cpu} {m : MemoryView} (g : Grounds image live s cpu m) {after : MemoryView} {a w : ℕ}
+    (c : Change m after a w) where
   -- the class tables, where the address is not below the statics
-  pub tables-kept : ClassLaws (shapes_of image) → statics_start ≤ a → (c k v : ℕ) → table_word (shapes_of image) c k ≡ Some v → word_of after (table_address c + 4 * k) ≡ Some v
-  tables-kept laws high c k v h = let below = table-below (shapes_of image) laws c k v h in word-kept m after a w written (table_address c + 4 * k) (λ z. omega arith) ∙ g.stand.memory.tables c k v h
+  pub tables-kept : ClassLaws (shapes_of image) → statics_start ≤ a → (d k v : ℕ) → table_word (shapes_of image) d k ≡ Some v
+      → word_of after (table_address d + 4 * k) ≡ Some v
+  tables-kept laws high d k v h =
+      let below = table-below (shapes_of image) laws d k v h in word-kept c (table_address d + 4 * k) (λ z. omega arith) ∙ g.stand.memory.tables d k v h
 
   -- the descriptors
-  pub descriptors-kept : ClassLaws (shapes_of image) → statics_start ≤ a → (d k v : ℕ) → descriptor_word (shapes_of image) d k ≡ Some v → word_of after (descriptor_address d + 4 * k) ≡ Some v
+  pub descriptors-kept : ClassLaws (shapes_of image) → statics_start ≤ a → (d k v : ℕ) → descriptor_word (shapes_of image) d k ≡ Some v
+      → word_of after (descriptor_address d + 4 * k) ≡ Some v
   descriptors-kept laws high d k v h =
-      let below = descriptor-below (shapes_of image) laws d k v h in word-kept m after a w written (descriptor_address d + 4 * k) (λ z. omega arith) ∙ g.stand.memory.descriptors d k v h
+      let below = descriptor-below (shapes_of image) laws d k v h in word-kept c (descriptor_address d + 4 * k) (λ z. omega arith) ∙ g.stand.memory.descriptors d k v h
 
   -- all words of the stacks are still there
   pub room-kept : (b : ℕ) → stacks_start ≤ b → b < stacks_start + 16384 * image.stacks → b % 4 ≡ 0 → is_mapped after b ≡ true
   unfolding is_mapped
-  room-kept b low high aligned = rw (written b) (go (b == a))
+  room-kept b low high aligned = rw (c.written b) (go (b == a))
     where
       go : (t : Bool) → is_some (if t then Some w else word_of m b) ≡ true
       go true = refl
@@ -42,16 +46,17 @@ module _ (image : ImageParts) (live : ℕ → Bool) (s : State) (cpu : Cpu) (m :
 
   -- the statics
   pub statics-kept : Outside a statics_start (length s.statics) → Holds after (places_of s) statics_start s.statics
-  statics-kept out = holds-kept m after a w written (places_of s) statics_start s.statics g.stand.memory.statics out
+  statics-kept out = holds-kept c (places_of s) statics_start s.statics g.stand.memory.statics out
 
   -- an object that lives
-  pub object-kept : (i : ℕ) (o : Object) → live i ≡ true → slice_get s.store i ≡ Some o → Outside a o.place (length (object_values o)) → Holds after (places_of s) o.place (object_values o)
-  object-kept i o lives there out = holds-kept m after a w written (places_of s) o.place (object_values o) (g.stand.memory.objects i o lives there) out
+  pub object-kept : (i : ℕ) (o : Object) → live i ≡ true → slice_get s.store i ≡ Some o → Outside a o.place (length (object_values o))
+      → Holds after (places_of s) o.place (object_values o)
+  object-kept i o lives there out = holds-kept c (places_of s) o.place (object_values o) (g.stand.memory.objects i o lives there) out
 
   -- a stack that the address is not in
-  pub stack-kept : (n : ℕ) → n < image.stacks → (a < stacks_start + 16384 * n) ⊎ (stacks_start + 16384 * (n + 1) ≤ a) → StackHolds after s n
-  stack-kept n there out = holds-kept m after a w written (places_of s) (stack_pointer n (length (values_at s n))) (values_at s n) (g.stand.memory.stacks n there) (outside out)
+  pub stack-kept : (n : ℕ) → n < image.stacks → (a < stacks_start + 16384 * n) ⊎ (stacks_start + 16384 * (n + 1) ≤ a) → StackHolds after s n (values_at s n)
+  stack-kept n there out = holds-kept c (places_of s) (stack_pointer n (length (values_at s n))) (values_at s n) (g.stand.memory.stacks n there) (outside out)
     where
       outside : (a < stacks_start + 16384 * n) ⊎ (stacks_start + 16384 * (n + 1) ≤ a) → Outside a (stack_pointer n (length (values_at s n))) (length (values_at s n))
-      outside (inl low) = let short = stack-short image live s cpu m g n in inl (omega arith)
-      outside (inr high) = let short = stack-short image live s cpu m g n in inr (omega arith)
+      outside (inl low) = let short = stack-short g n in inl (omega arith)
+      outside (inr high) = let short = stack-short g n in inr (omega arith)

@@ -12,14 +12,18 @@ use Rattle.word_machine.proofs.Lists.{set-read, drop-read}
 abbrev pub Outside : ℕ → ℕ → ℕ → Type 0
 Outside a base count = (a < base) ⊎ (base + 4 * count ≤ a)
 
-module _ (before after : MemoryView) (a w : ℕ) (written : Written before after a w) where
+-- one word of a memory changed
+pub record Change (before after : MemoryView) (a w : ℕ) : Type 0 where
+  pub written : Written before after a w
+
+module _ {before after : MemoryView} {a w : ℕ} (c : Change before after a w) where
   -- the word at another address stays
   pub word-kept : (b : ℕ) → b ≢ a → word_of after b ≡ word_of before b
-  word-kept b other = let e : (b == a) ≡ false = grind (arith, nat_tests) in written b ∙ rw e refl
+  word-kept b other = let e : (b == a) ≡ false = grind (arith, nat_tests) in c.written b ∙ rw e refl
 
   -- the word at the address is the one that was written
   pub word-put : (b : ℕ) → b ≡ a → word_of after b ≡ Some w
-  word-put b is = let e : (b == a) ≡ true = grind (arith, nat_tests) in written b ∙ rw e refl
+  word-put b is = let e : (b == a) ≡ true = grind (arith, nat_tests) in c.written b ∙ rw e refl
 
   module _ (places : List ℕ) (base : ℕ) (values : List Value) (h : Holds before places base values) where
     -- words that the address is none of stay
@@ -42,6 +46,7 @@ module _ (before after : MemoryView) (a w : ℕ) (written : Written before after
         let same : a + 4 * suc k ≡ base + 4 * k = omega arith in rw same (word-kept (base + 4 * k) (λ z. omega arith) ∙ h k u e)
 
 -- the values behind the first so many stand that much further up
-pub holds-dropped : (m : MemoryView) (places : List ℕ) (base n : ℕ) (values : List Value) → Holds m places base values → Holds m places (base + 4 * n) (drop n values)
+pub holds-dropped : (m : MemoryView) (places : List ℕ) (base n : ℕ) (values : List Value) → Holds m places base values
+    → Holds m places (base + 4 * n) (drop n values)
 holds-dropped m places base n values h k v e =
     let same : base + 4 * n + 4 * k ≡ base + 4 * (n + k) = omega arith in rw same (h (n + k) v (sym (drop-read n values k) ∙ e))

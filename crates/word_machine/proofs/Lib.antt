@@ -5,8 +5,8 @@ pub mod Tables
 pub mod Changing
 pub mod Stacks
 pub mod Spots
+pub mod Objects
 pub mod Reading
-pub mod Replacing
 pub mod Writing
 pub mod Areas
 pub mod FirstRows

@@ -1,8 +1,8 @@
 -- The word at a spot's place is that of what the state has there.
-use Rattle.std.proofs.Common.{◌≡◌, ◌≢◌, inl, inr, ◌+◌, ◌*◌, ◌^◌, ◌<◌, ℕ, Bool, true, Option, Some, None, arith, refl, ◌∙◌, ap, List, ◌++◌, length, slice_get, slice_index}
+use Rattle.std.proofs.Common.{◌≡◌, ◌≢◌, inl, inr, ◌+◌, ◌*◌, ◌^◌, ◌<◌, ℕ, Bool, true, Option, Some, None, arith, refl, ◌∙◌, List, ◌++◌, length, slice_get, slice_index}
 use Rattle.std.specs.Option.{option_map, option_and_then}
 use Rattle.std.proofs.Math.Nat.{mod-eq_of_lt}
-use Rattle.std.proofs.lemmas.Option.{slice_get-map, slice_get_within, get_or_from_slice_get}
+use Rattle.std.proofs.lemmas.Option.{slice_get_within}
 use Rattle.ia32_code.specs.declared.instruction.Reg.TheVariants.{Esp}
 use Rattle.ia32_code.specs.declared.instruction.Mem.{Mem}
 use Rattle.ia32_step.specs.declared.cpu.Cpu.{Cpu}
@@ -25,21 +25,14 @@ use Rattle.word_machine.specs.Laws.{SpotLives}
 use Rattle.word_machine.proofs.Lists.{behind-read}
 use Rattle.word_machine.proofs.Bounds.{few-stacks, runs-there}
 use Rattle.word_machine.proofs.Tables.{table-below, method-word}
-use Rattle.word_machine.proofs.Stacks.{running-holds, running-short}
+use Rattle.word_machine.proofs.Objects.{object-place, object-shape, shape-object}
+use Rattle.word_machine.proofs.Stacks.{running-holds}
 use Rattle.word_machine.proofs.Spots.{head_count, spot_place, spot-address}
 
 -- a word stands at an address of 32 bits
 record Stands (m : MemoryView) (a w : ℕ) : Type 0 where
   below : a < 2 ^ 32
   there : word_of m a ≡ Some w
-
--- the place of an object, and how many words stand before its values
-pub object-place : (s : State) (i : ℕ) (o : Object) → slice_get s.store i ≡ Some o → slice_index (places_of s) i ≡ o.place
-object-place s i o h =
-    get_or_from_slice_get (places_of s) i o.place 0 (slice_get-map (λ (p : Object). p.place) s.store i ∙ ap (option_map (λ (p : Object). p.place)) h)
-
-pub object-shape : (s : State) (i : ℕ) (o : Object) → slice_get s.store i ≡ Some o → slice_get (state.shapes_of s) i ≡ Some o.shape
-object-shape s i o h = slice_get-map (λ (p : Object). p.shape) s.store i ∙ ap (option_map (λ (p : Object). p.shape)) h
 
 -- the object that a spot's value is of
 read-object : (s : State) (i j : ℕ) (v : Value) → value_at s.store i j ≡ Some v → (o : Object) × (slice_get s.store i ≡ Some o) × (slice_get o.values j ≡ Some v)
@@ -51,24 +44,12 @@ read-object s i j v h = go (slice_get s.store i) refl h
     go None e f = absurd cc
     go (Some o) e f = (o, e, f)
 
--- the object whose shape tells a value
-shape-object : (s : State) (i : ℕ) (f : ObjectShape → Option Value) (v : Value) → option_and_then f (slice_get (state.shapes_of s) i) ≡ Some v
-    → (o : Object) × (slice_get s.store i ≡ Some o) × (f o.shape ≡ Some v)
-shape-object s i f v h = go (slice_get s.store i) refl
-  where
-    go : (o : Option Object) → slice_get s.store i ≡ o → (o : Object) × (slice_get s.store i ≡ Some o) × (f o.shape ≡ Some v)
-    go None e =
-        let none : slice_get (state.shapes_of s) i ≡ None = slice_get-map (λ (p : Object). p.shape) s.store i ∙ ap (option_map (λ (p : Object). p.shape)) e in
-        let nothing = rw none at h in
-        absurd cc
-    go (Some o) e = (o, e, rw (object-shape s i o e) at h)
-
 -- an object ends below 2^32
 pub inside-below : (s : State) (o : Object) → IsInside s o → end_of o < 2 ^ 32
 inside-below s o (inl (above, below)) = omega arith
 inside-below s o (inr (above, below)) = omega arith
 
-module _ (image : ImageParts) (live : ℕ → Bool) (s : State) (cpu : Cpu) (m : MemoryView) (g : Grounds image live s cpu m) where
+module _ {image : ImageParts} {live : ℕ → Bool} {s : State} {cpu : Cpu} {m : MemoryView} (g : Grounds image live s cpu m) where
   -- a static
   static-stands : (j : ℕ) (v : Value) → slice_get s.statics j ≡ Some v → Stands m (statics_start + 4 * j) (Word (places_of s) v)
   static-stands j v h =
@@ -80,10 +61,10 @@ module _ (image : ImageParts) (live : ℕ → Bool) (s : State) (cpu : Cpu) (m :
   slot-stands : (i : ℕ) (v : Value) → slice_get s.values i ≡ Some v → Stands m (esp_of s + 4 * i) (Word (places_of s) v)
   slot-stands i v h =
       let few = slice_get_within s.values i v h in
-      let stacks = few-stacks image live s cpu m g in
-      let runs = runs-there image live s cpu m g in
-      let short = running-short image live s cpu m g in
-      record { below = omega arith; there = running-holds image live s cpu m g i v h }
+      let stacks = few-stacks g in
+      let runs = runs-there g in
+      let short = g.typed.thread.room in
+      record { below = omega arith; there = running-holds g i v h }
 
   -- a word of an object
   object-stands : (i k : ℕ) (o : Object) (v : Value) → live i ≡ true → slice_get s.store i ≡ Some o → slice_get (object_values o) k ≡ Some v
@@ -94,7 +75,8 @@ module _ (image : ImageParts) (live : ℕ → Bool) (s : State) (cpu : Cpu) (m :
       rw (object-place s i o there) (record { below = omega arith; there = g.stand.memory.objects i o lives there k v h })
 
   -- a value of an object
-  value-stands : (i j : ℕ) (v : Value) → live i ≡ true → value_at s.store i j ≡ Some v → Stands m (slice_index (places_of s) i + 4 * (head_count s i + j)) (Word (places_of s) v)
+  value-stands : (i j : ℕ) (v : Value) → live i ≡ true → value_at s.store i j ≡ Some v
+      → Stands m (slice_index (places_of s) i + 4 * (head_count s i + j)) (Word (places_of s) v)
   unfolding object_values
   value-stands i j v lives h =
       let found = read-object s i j v h in
@@ -129,7 +111,8 @@ module _ (image : ImageParts) (live : ℕ → Bool) (s : State) (cpu : Cpu) (m :
   table-stands laws c k w h = let below = table-below (shapes_of image) laws c k w h in record { below = omega arith; there = g.stand.memory.tables c k w h }
 
   -- a method
-  method-stands : ClassLaws (shapes_of image) → (c k : ℕ) (v : Value) → method_value (shapes_of image) c k ≡ Some v → Stands m (table_address c + 4 * (11 + k)) (Word (places_of s) v)
+  method-stands : ClassLaws (shapes_of image) → (c k : ℕ) (v : Value) → method_value (shapes_of image) c k ≡ Some v
+      → Stands m (table_address c + 4 * (11 + k)) (Word (places_of s) v)
   unfolding Word
   method-stands laws c k v h = go (slice_get (Methods (shapes_of image) c) k) refl h
     where
@@ -140,12 +123,14 @@ module _ (image : ImageParts) (live : ℕ → Bool) (s : State) (cpu : Cpu) (m :
           let is : Code (fun_row (shapes_of image) f).address ≡ v = cc in rw (← is) (table-stands laws c (11 + k) _ (method-word (shapes_of image) laws c k f e))
 
   -- the word of a value that there is
-  value-word : (a w : ℕ) (o : Option Value) → option_map (Word (places_of s)) o ≡ Some w → ((v : Value) → o ≡ Some v → Stands m a (Word (places_of s) v)) → Stands m a w
+  value-word : (a w : ℕ) (o : Option Value) → option_map (Word (places_of s)) o ≡ Some w
+      → ((v : Value) → o ≡ Some v → Stands m a (Word (places_of s) v)) → Stands m a w
   value-word a w None h stands = absurd cc
   value-word a w (Some v) h stands = let is : Word (places_of s) v ≡ w = cc in rw (← is) (stands v refl)
 
   -- the word at a spot
-  spot-stands : ClassLaws (shapes_of image) → (spot : Spot) (w : ℕ) → SpotLives live spot → spot_word (shapes_of image) s spot ≡ Some w → Stands m (spot_place s spot) w
+  spot-stands : ClassLaws (shapes_of image) → (spot : Spot) (w : ℕ) → SpotLives live spot → spot_word (shapes_of image) s spot ≡ Some w
+      → Stands m (spot_place s spot) w
   unfolding spot_word read_spot spot_place
   spot-stands laws (AtStatic j) w lives h = value-word _ w _ h (λ v e. static-stands j v e)
   spot-stands laws (AtSlot i) w lives h = value-word _ w _ h (λ v e. slot-stands i v e)
@@ -156,7 +141,8 @@ module _ (image : ImageParts) (live : ℕ → Bool) (s : State) (cpu : Cpu) (m :
   spot-stands laws (AtDisplay c d) w lives h = table-stands laws c (3 + d) w h
 
   -- it stands at the address of an operand that points there
-  pub spot-read : ClassLaws (shapes_of image) → (x : Mem) → x.index ≢ Some Esp → (spot : Spot) (w : ℕ) → spot_of (shapes_of image) s x ≡ Some spot → SpotLives live spot
+  pub spot-read : ClassLaws (shapes_of image) → (x : Mem) → x.index ≢ Some Esp → (spot : Spot) (w : ℕ) → spot_of (shapes_of image) s x ≡ Some spot
+      → SpotLives live spot
       → spot_word (shapes_of image) s spot ≡ Some w → word_of m (address_of x cpu.regs) ≡ Some w
   spot-read laws x spared spot w points lives h =
       let stands = spot-stands laws spot w lives h in

@@ -4,14 +4,14 @@ use Rattle.std.specs.Option.{option_map, option_and_then, option_map_or}
 use Rattle.std.proofs.lemmas.Bool.Decides.{nat_tests}
 use Rattle.ia32_code.specs.OperandForms.{number}
 use Rattle.ia32_code.specs.declared.instruction.Reg.{Reg}
-use Rattle.ia32_code.specs.declared.instruction.Reg.TheVariants.{Eax, Ecx, Edx, Ebx, Esp, Ebp, Esi, Edi}
+use Rattle.ia32_code.specs.declared.instruction.Reg.TheVariants.{Esp}
 use Rattle.ia32_code.specs.declared.instruction.Mem.{Mem}
 use Rattle.ia32_step.specs.declared.cpu.Cpu.{Cpu}
 use Rattle.ia32_step.specs.Operands.{part_of, address_of}
 use Rattle.object_layout.specs.Areas.{statics_start, table_address, word_index}
 use Rattle.object_layout.specs.Classes.{ShapesView, Methods, field_at}
 use Rattle.tal_types.specs.Contexts.{same}
-use Rattle.typed_machine.specs.Values.{Value, Number, Null, Ref, Code, Ret, Tab, Desc, ObjectShape, InstanceOf, ArrayOf, Word}
+use Rattle.typed_machine.specs.Values.{Value, Number, Ref, Ret, Tab, ObjectShape, InstanceOf, ArrayOf, Word}
 use Rattle.typed_machine.specs.States.{State, shapes_of, places_of}
 use Rattle.typed_machine.specs.Operands.{Spot, AtStatic, AtSlot, AtValue, AtLength, AtHead, AtMethod, AtDisplay, slot_count, spot_if, static_spot, slot_spot, object_spot, element_spot, table_spot, based_spot, stack_spot, located_spot, spot_of}
 use Rattle.typed_machine.specs.Words.{register_words, esp_of}
@@ -34,12 +34,7 @@ spot_place s (AtDisplay c d) = table_address c + 4 * (3 + d)
 -- a slot is one of the stack's values
 abbrev pub IsThere : State → Spot → Type 0
 IsThere s (AtSlot i) = i < length s.values
-IsThere s (AtStatic j) = Unit {0}
-IsThere s (AtValue i j) = Unit {0}
-IsThere s (AtLength i) = Unit {0}
-IsThere s (AtHead i) = Unit {0}
-IsThere s (AtMethod c m) = Unit {0}
-IsThere s (AtDisplay c d) = Unit {0}
+IsThere s spot = Unit {0}
 
 -- the byte at which a word stands
 index-byte : (first byte k : ℕ) → word_index first byte ≡ Some k → byte ≡ first + 4 * k
@@ -50,18 +45,24 @@ index-byte first byte k h = go (nat_le first byte && ((byte - first) % 4 == 0)) 
     go true e f = let at : (byte - first) / 4 ≡ k = cc in grind (arith, nat_tests)
     go false e f = absurd cc
 
+-- the spot at a byte is the one of a number that passes
+record Numbered (test : ℕ → Bool) (kind : ℕ → Spot) (first byte : ℕ) (spot : Spot) : Type 0 where
+  number_is : ℕ
+  passes : test number_is ≡ true
+  spot_is : kind number_is ≡ spot
+  byte_is : byte ≡ first + 4 * number_is
+
 -- a number that passed, as a spot
 if-index : (test : ℕ → Bool) (kind : ℕ → Spot) (first byte : ℕ) (spot : Spot) → spot_if test kind (word_index first byte) ≡ Some spot
-    → (k : ℕ) × (test k ≡ true) × (kind k ≡ spot) × (byte ≡ first + 4 * k)
+    → Numbered test kind first byte spot
 if-index test kind first byte spot h = go (word_index first byte) refl h
   where
     passed : (k : ℕ) → word_index first byte ≡ Some k → (b : Bool) → test k ≡ b → (if b then Some (kind k) else None) ≡ Some spot
-        → (k : ℕ) × (test k ≡ true) × (kind k ≡ spot) × (byte ≡ first + 4 * k)
-    passed k e true f g = (k, f, cc, index-byte first byte k e)
+        → Numbered test kind first byte spot
+    passed k e true f g = record { number_is = k; passes = f; spot_is = cc; byte_is = index-byte first byte k e }
     passed k e false f g = absurd cc
 
-    go : (o : Option ℕ) → word_index first byte ≡ o → option_and_then (λ k. if test k then Some (kind k) else None) o ≡ Some spot
-        → (k : ℕ) × (test k ≡ true) × (kind k ≡ spot) × (byte ≡ first + 4 * k)
+    go : (o : Option ℕ) → word_index first byte ≡ o → spot_if test kind o ≡ Some spot → Numbered test kind first byte spot
     go None e f = absurd cc
     go (Some k) e f = passed k e (test k) refl f
 
@@ -70,53 +71,35 @@ slots-there : (values : List Value) → slot_count values ≤ length values
 unfolding slot_count
 slots-there [] = omega arith
 slots-there (Ret a ∷ vs) = omega arith
-slots-there (Number n ∷ vs) = let more = slots-there vs in omega arith
-slots-there (Null ∷ vs) = let more = slots-there vs in omega arith
-slots-there (Ref i ∷ vs) = let more = slots-there vs in omega arith
-slots-there (Code a ∷ vs) = let more = slots-there vs in omega arith
-slots-there (Tab c ∷ vs) = let more = slots-there vs in omega arith
-slots-there (Desc k ∷ vs) = let more = slots-there vs in omega arith
+slots-there (v ∷ vs) = let more = slots-there vs in omega arith
 
 -- a register that is not ESP has its value's word
-register-word : (places : List ℕ) (regs : Reg → Value) (esp : ℕ) (r : Reg) → same r Esp ≡ false → slice_index (register_words places regs esp) (number r) ≡ Word places (regs r)
+register-word : (places : List ℕ) (regs : Reg → Value) (esp : ℕ) (r : Reg) → same r Esp ≡ false
+    → slice_index (register_words places regs esp) (number r) ≡ Word places (regs r)
 unfolding same
-register-word places regs esp Eax h = refl
-register-word places regs esp Ecx h = refl
-register-word places regs esp Edx h = refl
-register-word places regs esp Ebx h = refl
 register-word places regs esp Esp h = absurd cc
-register-word places regs esp Ebp h = refl
-register-word places regs esp Esi h = refl
-register-word places regs esp Edi h = refl
+register-word places regs esp r h = refl
 
 -- ESP's number is that of no other register
 is-esp : (r : Reg) → same r Esp ≡ true → r ≡ Esp
 unfolding same
-is-esp Eax h = absurd cc
-is-esp Ecx h = absurd cc
-is-esp Edx h = absurd cc
-is-esp Ebx h = absurd cc
 is-esp Esp h = refl
-is-esp Ebp h = absurd cc
-is-esp Esi h = absurd cc
-is-esp Edi h = absurd cc
+is-esp r h = absurd cc
 
 -- a register that is not ESP
 not-esp : (r : Reg) → Some r ≢ Some Esp → same r Esp ≡ false
 unfolding same
-not-esp Eax h = refl
-not-esp Ecx h = refl
-not-esp Edx h = refl
-not-esp Ebx h = refl
 not-esp Esp h = absurd (h refl)
-not-esp Ebp h = refl
-not-esp Esi h = refl
-not-esp Edi h = refl
+not-esp r h = refl
 
 -- a sum of words points to the spot
 record Points (s : State) (spot : Spot) (sum : ℕ) : Type 0 where
   place : sum ≡ spot_place s spot
   there : IsThere s spot
+
+-- it does where the spot is known
+points-to : (s : State) (known spot : Spot) (sum : ℕ) → known ≡ spot → sum ≡ spot_place s known → IsThere s known → Points s spot sum
+points-to s known spot sum is at there = subst (λ x. Points s x sum) is (record { place = at; there = there })
 
 module _ (v : ShapesView) (s : State) (spot : Spot) where
   -- a static
@@ -124,38 +107,41 @@ module _ (v : ShapesView) (s : State) (spot : Spot) where
   unfolding static_spot spot_place
   static-points disp h =
       let found = if-index (λ j. nat_lt j (length s.statics)) AtStatic statics_start disp spot h in
-      subst (λ x. Points s x disp) found.2 (record { place = found.3; there = tt })
+      points-to s (AtStatic found.number_is) spot disp found.spot_is found.byte_is tt
 
   -- a slot
   slot-points : (disp : ℕ) → slot_spot s disp ≡ Some spot → Points s spot (esp_of s + disp)
   unfolding slot_spot spot_place
   slot-points disp h =
       let found = if-index (λ i. nat_lt i (slot_count s.values)) AtSlot 0 disp spot h in
-      let few : found.0 < slot_count s.values = let test = found.1 in grind (arith, nat_tests) in
+      let few : found.number_is < slot_count s.values = let test = found.passes in grind (arith, nat_tests) in
       let slots = slots-there s.values in
-      let byte = found.3 in
-      subst (λ x. Points s x (esp_of s + disp)) found.2 (record { place = omega arith; there = omega arith })
+      let byte = found.byte_is in
+      points-to s (AtSlot found.number_is) spot (esp_of s + disp) found.spot_is (omega arith) (omega arith)
 
   -- a method or a display
   table-points : (c disp : ℕ) → table_spot v c disp ≡ Some spot → Points s spot (table_address c + disp)
   unfolding table_spot spot_place
   table-points c disp h = go (nat_le 44 disp) h
     where
-      go : (b : Bool) → (if b then spot_if (λ m. nat_lt m (length (Methods v c))) (AtMethod c) (word_index 44 disp) else spot_if (λ d. nat_le d 7) (AtDisplay c) (word_index 12 disp)) ≡ Some spot
+      go : (b : Bool)
+          → (if b then spot_if (λ m. nat_lt m (length (Methods v c))) (AtMethod c) (word_index 44 disp) else spot_if (λ d. nat_le d 7) (AtDisplay c) (word_index 12 disp)) ≡ Some spot
           → Points s spot (table_address c + disp)
       go true e =
-          let found = if-index (λ m. nat_lt m (length (Methods v c))) (AtMethod c) 44 disp spot e in let byte = found.3 in
-          subst (λ x. Points s x (table_address c + disp)) found.2 (record { place = omega arith; there = tt })
+          let found = if-index (λ m. nat_lt m (length (Methods v c))) (AtMethod c) 44 disp spot e in
+          let byte = found.byte_is in
+          points-to s (AtMethod c found.number_is) spot (table_address c + disp) found.spot_is (omega arith) tt
       go false e =
-          let found = if-index (λ d. nat_le d 7) (AtDisplay c) 12 disp spot e in let byte = found.3 in
-          subst (λ x. Points s x (table_address c + disp)) found.2 (record { place = omega arith; there = tt })
+          let found = if-index (λ d. nat_le d 7) (AtDisplay c) 12 disp spot e in
+          let byte = found.byte_is in
+          points-to s (AtDisplay c found.number_is) spot (table_address c + disp) found.spot_is (omega arith) tt
 
   -- a value of an object, where so many words stand before its values
-  value-points : (i j : ℕ) (shape : ObjectShape) (byte : ℕ) → slice_get (shapes_of s) i ≡ Some shape → AtValue i j ≡ spot → byte ≡ 4 * (length (head_values shape) + j)
+  value-points : (i j : ℕ) (shape : ObjectShape) (byte : ℕ) → slice_get (shapes_of s) i ≡ Some shape → AtValue i j ≡ spot
+      → byte ≡ 4 * (length (head_values shape) + j)
       → Points s spot (slice_index (places_of s) i + byte)
   unfolding spot_place
-  value-points i j shape byte e is at =
-      subst (λ x. Points s x (slice_index (places_of s) i + byte)) is (record { place = rw (e, at) refl; there = tt })
+  value-points i j shape byte e is at = points-to s (AtValue i j) spot (slice_index (places_of s) i + byte) is (rw (e, at) refl) tt
 
   -- a field
   field-points : (i c disp : ℕ) → slice_get (shapes_of s) i ≡ Some (InstanceOf c)
@@ -174,22 +160,24 @@ module _ (v : ShapesView) (s : State) (spot : Spot) where
   unfolding object_spot spot_place
   object-points i disp (InstanceOf c) e h = go (disp == 0) refl h
     where
-      go : (b : Bool) → (disp == 0) ≡ b → (if b then Some (AtHead i) else (if is_some (field_at v c disp) then option_map (AtValue i) (word_index 4 disp) else None)) ≡ Some spot
+      go : (b : Bool) → (disp == 0) ≡ b
+          → (if b then Some (AtHead i) else (if is_some (field_at v c disp) then option_map (AtValue i) (word_index 4 disp) else None)) ≡ Some spot
           → Points s spot (slice_index (places_of s) i + disp)
       go true f g =
-          let none : disp ≡ 0 = grind (arith, nat_tests) in let is : AtHead i ≡ spot = cc in
-          subst (λ x. Points s x (slice_index (places_of s) i + disp)) is (record { place = omega arith; there = tt })
+          let none : disp ≡ 0 = grind (arith, nat_tests) in
+          points-to s (AtHead i) spot (slice_index (places_of s) i + disp) (cc) (omega arith) tt
       go false f g = field-points i c disp e (is_some (field_at v c disp)) g
   object-points i disp (ArrayOf k n) e h = go (disp == 4) refl h
     where
       go : (b : Bool) → (disp == 4) ≡ b → (if b then Some (AtLength i) else None) ≡ Some spot → Points s spot (slice_index (places_of s) i + disp)
       go true f g =
-          let four : disp ≡ 4 = grind (arith, nat_tests) in let is : AtLength i ≡ spot = cc in
-          subst (λ x. Points s x (slice_index (places_of s) i + disp)) is (record { place = omega arith; there = tt })
+          let four : disp ≡ 4 = grind (arith, nat_tests) in
+          points-to s (AtLength i) spot (slice_index (places_of s) i + disp) (cc) (omega arith) tt
       go false f g = absurd cc
 
   -- an element
-  element-points : (i scale disp : ℕ) (shape : ObjectShape) (index : Value) → slice_get (shapes_of s) i ≡ Some shape → element_spot i shape index scale disp ≡ Some spot
+  element-points : (i scale disp : ℕ) (shape : ObjectShape) (index : Value) → slice_get (shapes_of s) i ≡ Some shape
+      → element_spot i shape index scale disp ≡ Some spot
       → Points s spot (slice_index (places_of s) i + Word (places_of s) index * 2 ^ scale + disp)
   unfolding element_spot Word head_values
   element-points i scale disp (ArrayOf k n) (Number j) e h = go (nat_lt j n && ((scale == 2) && (disp == 8))) refl h
@@ -206,7 +194,8 @@ module _ (v : ShapesView) (s : State) (spot : Spot) where
   element-points i scale disp shape index e h = absurd cc
 
   -- a spot at the value of a base
-  based-points : (w : Value) (x : Option Reg) (scale disp index : ℕ) → ((r : Reg) → x ≡ Some r → index ≡ Word (places_of s) (s.thread.regs r)) → (x ≡ None → index ≡ 0)
+  based-points : (w : Value) (x : Option Reg) (scale disp index : ℕ) → ((r : Reg) → x ≡ Some r → index ≡ Word (places_of s) (s.thread.regs r))
+      → (x ≡ None → index ≡ 0)
       → based_spot v s w x scale disp ≡ Some spot → Points s spot (Word (places_of s) w + index * 2 ^ scale + disp)
   unfolding Word
   based-points (Ref i) None scale disp index at none h = rw (none refl) (go (slice_get (shapes_of s) i) refl h)

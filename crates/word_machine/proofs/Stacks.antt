@@ -14,19 +14,16 @@ use Rattle.typed_machine.specs.Values.{Value, Word}
 use Rattle.typed_machine.specs.States.{State, places_of, with_values, most_values}
 use Rattle.typed_machine.specs.Words.{stack_pointer, esp_of}
 use Rattle.word_machine.specs.Memory.{MemoryView}
-use Rattle.word_machine.specs.Standing.{Holds, object_values, kept_values, values_at, IsInside, MemoryStands}
+use Rattle.word_machine.specs.Standing.{Holds, object_values, kept_values, values_at, IsInside, ObjectsLie, MemoryStands}
 use Rattle.word_machine.specs.Following.{Grounds}
-use Rattle.word_machine.specs.Laws.{Written, PushLaw, DropLaw}
-use Rattle.word_machine.proofs.Holding.{Outside, holds-pushed, holds-dropped}
-use Rattle.word_machine.proofs.Changing.{tables-kept, descriptors-kept, room-kept, statics-kept, object-kept, stack-kept}
+use Rattle.word_machine.specs.Laws.{PushLaw, DropLaw}
+use Rattle.word_machine.proofs.Holding.{Outside, Change, holds-pushed, holds-dropped}
+use Rattle.word_machine.proofs.Changing.{StackHolds, tables-kept, descriptors-kept, room-kept, statics-kept, object-kept, stack-kept}
 use Rattle.word_machine.proofs.Bounds.{few-stacks, runs-there}
 
--- the words of a stack where it has these values
-abbrev Deep : MemoryView → State → ℕ → List Value → Type 0
-Deep m s n values = Holds m (places_of s) (stack_pointer n (length values)) values
-
 -- what holds of a stack's values holds of them where the running stack has others, if it holds of those
-pub stacks-with : (P : ℕ → List Value → Type 0) (s : State) (values : List Value) (n : ℕ) → (n ≡ s.current → P n values) → ((n == s.current) ≡ false → P n (values_at s n))
+pub stacks-with : (P : ℕ → List Value → Type 0) (s : State) (values : List Value) (n : ℕ) → (n ≡ s.current → P n values)
+    → ((n == s.current) ≡ false → P n (values_at s n))
     → P n (values_at (with_values values s) n)
 unfolding values_at
 stacks-with P s values n here other = go (n == s.current) refl (λ e. rw e at (other e))
@@ -38,7 +35,11 @@ stacks-with P s values n here other = go (n == s.current) refl (λ e. rw e at (o
     go true e f = here (grind (arith, nat_tests))
     go false e f = f e
 
-module _ (image : ImageParts) (live : ℕ → Bool) (s : State) (cpu : Cpu) (m : MemoryView) (g : Grounds image live s cpu m) where
+-- where objects lie does not hang on the running stack
+same-lie : (live : ℕ → Bool) (s : State) (values : List Value) → ObjectsLie live s → ObjectsLie live (with_values values s)
+same-lie live s values lie = record { short = lie.short; aligned = lie.aligned; inside = lie.inside; apart = lie.apart }
+
+module _ {image : ImageParts} {live : ℕ → Bool} {s : State} {cpu : Cpu} {m : MemoryView} (g : Grounds image live s cpu m) where
   -- the values of the running stack
   pub running-values : values_at s s.current ≡ s.values
   unfolding values_at
@@ -46,47 +47,46 @@ module _ (image : ImageParts) (live : ℕ → Bool) (s : State) (cpu : Cpu) (m :
 
   -- their words
   pub running-holds : Holds m (places_of s) (esp_of s) s.values
-  running-holds = subst (λ values. Deep m s s.current values) running-values (g.stand.memory.stacks s.current (runs-there image live s cpu m g))
+  running-holds = subst (λ values. StackHolds m s s.current values) running-values (g.stand.memory.stacks s.current (runs-there g))
 
-  -- the running stack is not too deep
-  pub running-short : length s.values ≤ 4096
-  running-short = g.typed.thread.room
-
-  module _ (laws : ClassLaws (shapes_of image)) (after : MemoryView) (a w : ℕ) (written : Written m after a w) where
+  module _ (laws : ClassLaws (shapes_of image)) {after : MemoryView} {a w : ℕ} (c : Change m after a w) where
     -- where a word of the running stack changed, the memory stands for other values of this stack if their words are there
-    pub stack-written : (values : List Value) → stacks_start + 16384 * s.current ≤ a → a < stacks_start + 16384 * (s.current + 1) → Deep after s s.current values
+    pub stack-written : (values : List Value) → stacks_start + 16384 * s.current ≤ a → a < stacks_start + 16384 * (s.current + 1) → StackHolds after s s.current values
         → MemoryStands image live (with_values values s) after
     stack-written values low high holds =
         let memory = g.stand.memory in
         record {
-          tables = tables-kept image live s cpu m g after a w written laws (omega arith);
-          descriptors = descriptors-kept image live s cpu m g after a w written laws (omega arith);
-          statics = let short = memory.lie.short in statics-kept image live s cpu m g after a w written (inr (omega arith));
-          objects = λ i o lives there. object-kept image live s cpu m g after a w written i o lives there (apart o (memory.lie.inside i o lives there));
-          stacks = λ n there. stacks-with (Deep after s) s values n (λ is. rw is holds) (λ other. stack-kept image live s cpu m g after a w written n there (beside n other));
-          room = room-kept image live s cpu m g after a w written;
-          lie = record { short = memory.lie.short; aligned = memory.lie.aligned; inside = memory.lie.inside; apart = memory.lie.apart };
+          tables = tables-kept g c laws (omega arith);
+          descriptors = descriptors-kept g c laws (omega arith);
+          statics = let short = memory.lie.short in statics-kept g c (inr (omega arith));
+          objects = λ i o lives there. object-kept g c i o lives there (apart o (memory.lie.inside i o lives there));
+          stacks = λ n there. stacks-with (StackHolds after s) s values n (λ is. rw is holds) (λ other. stack-kept g c n there (beside n other));
+          room = room-kept g c;
+          lie = same-lie live s _ memory.lie;
         }
       where
         apart : (o : Object) → IsInside s o → Outside a o.place (length (object_values o))
         apart o (inl (above, below)) = inr (omega arith)
-        apart o (inr (above, below)) = let few = few-stacks image live s cpu m g in let there = runs-there image live s cpu m g in inl (omega arith)
+        apart o (inr (above, below)) = let few = few-stacks g in let there = runs-there g in inl (omega arith)
 
         beside : (n : ℕ) → (n == s.current) ≡ false → (a < stacks_start + 16384 * n) ⊎ (stacks_start + 16384 * (n + 1) ≤ a)
-        beside n other = let differ : n ≢ s.current = grind (arith, nat_tests) in ⊎_elim (λ (l : n < s.current). inr (omega arith)) (λ (l : s.current ≤ n). inl (omega arith)) (cases_lt n s.current)
+        beside n other =
+            let differ : n ≢ s.current = grind (arith, nat_tests) in
+            ⊎_elim (λ (l : n < s.current). inr (omega arith)) (λ (l : s.current ≤ n). inl (omega arith)) (cases_lt n s.current)
 
   -- a value is pushed
   pub values-pushed : ClassLaws (shapes_of image) → length s.values < most_values → PushLaw image live s m
   values-pushed laws few =
-      let room = running-short in
-      let runs = runs-there image live s cpu m g in
+      let room = g.typed.thread.room in
+      let runs = runs-there g in
       record {
         there = g.stand.memory.room (esp_of s - 4) (omega arith) (omega arith) (omega arith);
         pushed = λ v after written.
+            let c : Change m after (esp_of s - 4) (Word (places_of s) v) = record { written = written } in
             let base : esp_of s ≡ esp_of s - 4 + 4 = omega arith in
             let grown : stack_pointer s.current (length (v ∷ s.values)) ≡ esp_of s - 4 = omega arith in
-            stack-written laws after (esp_of s - 4) (Word (places_of s) v) written (v ∷ s.values) (omega arith) (omega arith)
-            (rw grown (holds-pushed m after (esp_of s - 4) (Word (places_of s) v) written (places_of s) (esp_of s) s.values running-holds v base refl));
+            stack-written laws c (v ∷ s.values) (omega arith) (omega arith)
+            (rw grown (holds-pushed c (places_of s) (esp_of s) s.values running-holds v base refl));
       }
 
   -- values are dropped
@@ -98,15 +98,15 @@ module _ (image : ImageParts) (live : ℕ → Bool) (s : State) (cpu : Cpu) (m :
         descriptors = memory.descriptors;
         statics = memory.statics;
         objects = memory.objects;
-        stacks = λ k there. stacks-with (λ j values. Deep m s j values) s (drop n s.values) k (λ is. rw is shorter) (λ other. memory.stacks k there);
+        stacks = λ k there. stacks-with (λ j values. StackHolds m s j values) s (drop n s.values) k (λ is. rw is shorter) (λ other. memory.stacks k there);
         room = memory.room;
-        lie = record { short = memory.lie.short; aligned = memory.lie.aligned; inside = memory.lie.inside; apart = memory.lie.apart };
+        lie = same-lie live s _ memory.lie;
       }
     where
-      shorter : Deep m s s.current (drop n s.values)
+      shorter : StackHolds m s s.current (drop n s.values)
       shorter =
           let fewer = length-drop n s.values in
-          let room = running-short in
+          let room = g.typed.thread.room in
           let up : stack_pointer s.current (length (drop n s.values)) ≡ esp_of s + 4 * n = omega arith in
           rw up (holds-dropped m (places_of s) (esp_of s) n s.values running-holds)
 

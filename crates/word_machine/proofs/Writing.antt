@@ -1,10 +1,9 @@
 -- Where the word at a spot's place becomes that of a value, the memory stands for the state with this value there.
-use Rattle.std.proofs.Common.{◌≡◌, ◌≢◌, ◌⊎◌, inl, inr, ◌+◌, ◌*◌, ◌%◌, ◌^◌, ◌<◌, ◌≤◌, ℕ, Bool, true, false, Option, Some, None, arith, refl, sym, ◌∙◌, ap, subst, length, slice_get, slice_set, slice_index}
-use Rattle.std.specs.Option.{option_map}
+use Rattle.std.proofs.Common.{◌≡◌, ◌≢◌, ◌⊎◌, inl, inr, ◌+◌, ◌*◌, ◌%◌, ◌^◌, ◌<◌, ◌≤◌, ℕ, Bool, true, false, Option, Some, None, arith, refl, sym, ◌∙◌, subst, length, slice_get, slice_set, slice_index}
 use Rattle.std.proofs.Math.Nat.{mod-eq_of_lt}
 use Rattle.std.proofs.lemmas.Bool.Decides.{nat_tests}
 use Rattle.std.proofs.lemmas.List.{length-set, length-append}
-use Rattle.std.proofs.lemmas.Option.{slice_get-map, slice_get_within}
+use Rattle.std.proofs.lemmas.Option.{slice_get_within}
 use Rattle.ia32_code.specs.declared.instruction.Reg.TheVariants.{Esp}
 use Rattle.ia32_code.specs.declared.instruction.Mem.{Mem}
 use Rattle.ia32_step.specs.declared.cpu.Cpu.{Cpu}
@@ -25,13 +24,13 @@ use Rattle.word_machine.specs.Memory.{MemoryView}
 use Rattle.word_machine.specs.Standing.{Holds, head_values, object_values, values_at, IsInside, MemoryStands, end_of}
 use Rattle.word_machine.specs.Following.{Grounds}
 use Rattle.word_machine.specs.Laws.{SpotLives, Written}
-use Rattle.word_machine.proofs.Holding.{Outside, holds-put}
+use Rattle.word_machine.proofs.Holding.{Outside, Change, holds-put}
 use Rattle.word_machine.proofs.Bounds.{few-stacks, runs-there}
 use Rattle.word_machine.proofs.Changing.{tables-kept, descriptors-kept, room-kept, statics-kept, object-kept, stack-kept}
-use Rattle.word_machine.proofs.Stacks.{running-holds, running-short, stack-written}
+use Rattle.word_machine.proofs.Stacks.{running-holds, stack-written}
 use Rattle.word_machine.proofs.Spots.{head_count, spot_place, IsThere, spot-address}
-use Rattle.word_machine.proofs.Reading.{object-place, object-shape, inside-below}
-use Rattle.word_machine.proofs.Replacing.{places-set, Replaced, store-read, words-set, still-lie}
+use Rattle.word_machine.proofs.Reading.{inside-below}
+use Rattle.word_machine.proofs.Objects.{object-place, object-shape, no-shape, places-set, Replaced, store-read, words-set, still-lie}
 
 -- a state that is provided is the one that was given, and the test held
 provided-is : (b : Bool) (u t : State) → provided b u ≡ Some t → (b ≡ true) × (u ≡ t)
@@ -60,7 +59,7 @@ value-within : (s : State) (i j : ℕ) (h : HasValue s i j) → h.object.place +
 unfolding object_values
 value-within s i j h = let both = length-append (head_values h.object.shape) h.object.values in let few = h.few in omega arith
 
-module _ (image : ImageParts) (live : ℕ → Bool) (s : State) (cpu : Cpu) (m : MemoryView) (g : Grounds image live s cpu m) where
+module _ {image : ImageParts} {live : ℕ → Bool} {s : State} {cpu : Cpu} {m : MemoryView} (g : Grounds image live s cpu m) where
   -- a value that may be written in an object is there
   value-there : (i j : ℕ) (v : Value) → may_hold (shown image) s (type_there (shown image) s i j) v ≡ true → HasValue s i j
   value-there i j v h =
@@ -68,13 +67,13 @@ module _ (image : ImageParts) (live : ℕ → Bool) (s : State) (cpu : Cpu) (m :
       go (slice_get s.store i) refl typed.0 typed.1
     where
       go : (o : Option Object) → slice_get s.store i ≡ o → (f : FieldTy) → type_there (shown image) s i j ≡ Some f → HasValue s i j
-      go None e f is = let none = slice_get-map (λ (p : Object). p.shape) s.store i ∙ ap (option_map (λ (p : Object). p.shape)) e in let nothing = rw none at is in absurd cc
+      go None e f is = let nothing = rw (no-shape s i e) at is in absurd cc
       go (Some o) e f is =
           let counted = value-counted (shown image).shapes o.shape j f (rw (object-shape s i o e) at is) in
           let count = g.typed.store.counts i o e in
           record { object = o; there = e; few = omega arith }
 
-  module _ (laws : ClassLaws (shapes_of image)) (after : MemoryView) (a w : ℕ) (written : Written m after a w) (v : Value) (is : w ≡ Word (places_of s) v) where
+  module _ (laws : ClassLaws (shapes_of image)) {after : MemoryView} {a w : ℕ} (c : Change m after a w) (v : Value) (is : w ≡ Word (places_of s) v) where
     -- a static
     static-written : (j : ℕ) → j < length s.statics → a ≡ statics_start + 4 * j → MemoryStands image live (record s { statics = slice_set s.statics j v }) after
     unfolding values_at
@@ -83,12 +82,12 @@ module _ (image : ImageParts) (live : ℕ → Bool) (s : State) (cpu : Cpu) (m :
         let short = memory.lie.short in
         let same = length-set s.statics j v in
         record {
-          tables = tables-kept image live s cpu m g after a w written laws (omega arith);
-          descriptors = descriptors-kept image live s cpu m g after a w written laws (omega arith);
-          statics = holds-put m after a w written (places_of s) statics_start s.statics memory.statics j v at is;
-          objects = λ i o lives there. object-kept image live s cpu m g after a w written i o lives there (above o (memory.lie.inside i o lives there));
-          stacks = λ n there. stack-kept image live s cpu m g after a w written n there (inl (omega arith));
-          room = room-kept image live s cpu m g after a w written;
+          tables = tables-kept g c laws (omega arith);
+          descriptors = descriptors-kept g c laws (omega arith);
+          statics = holds-put c (places_of s) statics_start s.statics memory.statics j v at is;
+          objects = λ i o lives there. object-kept g c i o lives there (above o (memory.lie.inside i o lives there));
+          stacks = λ n there. stack-kept g c n there (inl (omega arith));
+          room = room-kept g c;
           lie = record { short = rw same short; aligned = memory.lie.aligned; inside = λ i o lives there. rw same (memory.lie.inside i o lives there); apart = memory.lie.apart };
         }
       where
@@ -99,10 +98,10 @@ module _ (image : ImageParts) (live : ℕ → Bool) (s : State) (cpu : Cpu) (m :
     -- a slot
     slot-written : (i : ℕ) → i < length s.values → a ≡ esp_of s + 4 * i → MemoryStands image live (with_values (slice_set s.values i v) s) after
     slot-written i few at =
-        let short = running-short image live s cpu m g in
+        let short = g.typed.thread.room in
         let same = length-set s.values i v in
-        stack-written image live s cpu m g laws after a w written (slice_set s.values i v) (omega arith) (omega arith)
-        (rw same (holds-put m after a w written (places_of s) (esp_of s) s.values (running-holds image live s cpu m g) i v at is))
+        stack-written g laws c (slice_set s.values i v) (omega arith) (omega arith)
+        (rw same (holds-put c (places_of s) (esp_of s) s.values (running-holds g) i v at is))
 
     -- a value of an object
     value-written : (i j : ℕ) → live i ≡ true → (h : HasValue s i j) → a ≡ h.object.place + 4 * (length (head_values h.object.shape) + j)
@@ -114,12 +113,12 @@ module _ (image : ImageParts) (live : ℕ → Bool) (s : State) (cpu : Cpu) (m :
         let short = memory.lie.short in
         let places = places-set s.store i j v in
         record {
-          tables = tables-kept image live s cpu m g after a w written laws (high (memory.lie.inside i o lives h.there));
-          descriptors = descriptors-kept image live s cpu m g after a w written laws (high (memory.lie.inside i o lives h.there));
-          statics = rw places (statics-kept image live s cpu m g after a w written (inr (behind (memory.lie.inside i o lives h.there))));
+          tables = tables-kept g c laws (high (memory.lie.inside i o lives h.there));
+          descriptors = descriptors-kept g c laws (high (memory.lie.inside i o lives h.there));
+          statics = rw places (statics-kept g c (inr (behind (memory.lie.inside i o lives h.there))));
           objects = λ k p live_too there. rw places (object k p live_too (store-read s.store i j v k p there));
-          stacks = λ n there. rw places (stack-kept image live s cpu m g after a w written n there (beside n there (memory.lie.inside i o lives h.there)));
-          room = room-kept image live s cpu m g after a w written;
+          stacks = λ n there. rw places (stack-kept g c n there (beside n there (memory.lie.inside i o lives h.there)));
+          room = room-kept g c;
           lie = still-lie live s i j v memory.lie;
         }
       where
@@ -136,7 +135,7 @@ module _ (image : ImageParts) (live : ℕ → Bool) (s : State) (cpu : Cpu) (m :
 
         beside : (n : ℕ) → n < image.stacks → IsInside s h.object → (a < stacks_start + 16384 * n) ⊎ (stacks_start + 16384 * (n + 1) ≤ a)
         beside n there (inl (low, top)) = let end = within in inl (omega arith)
-        beside n there (inr (low, top)) = let few = few-stacks image live s cpu m g in inr (omega arith)
+        beside n there (inr (low, top)) = let few = few-stacks g in inr (omega arith)
 
         apart : (p : Object) → (end_of p ≤ h.object.place) ⊎ (end_of h.object ≤ p.place) → Outside a p.place (length (object_values p))
         apart p (inl below) = inr (omega arith)
@@ -147,10 +146,10 @@ module _ (image : ImageParts) (live : ℕ → Bool) (s : State) (cpu : Cpu) (m :
             let one : Some q ≡ Some h.object = sym there ∙ h.there in
             let alike : q ≡ h.object = cc in
             rw (new, alike, words-set h.object j v)
-            (holds-put m after a w written (places_of s) h.object.place (object_values h.object) (g.stand.memory.objects i h.object lives h.there)
+            (holds-put c (places_of s) h.object.place (object_values h.object) (g.stand.memory.objects i h.object lives h.there)
             (length (head_values h.object.shape) + j) v at is)
         object k p live_too (inr (other, there)) =
-            object-kept image live s cpu m g after a w written k p live_too there (apart p (g.stand.memory.lie.apart k i p h.object live_too lives other there h.there))
+            object-kept g c k p live_too there (apart p (g.stand.memory.lie.apart k i p h.object live_too lives other there h.there))
 
     -- the same by the place of the value's spot
     object-written : (i j : ℕ) → live i ≡ true → HasValue s i j → a ≡ (slice_index (places_of s) i + 4 * (head_count s i + j)) % 2 ^ 32
@@ -177,9 +176,9 @@ module _ (image : ImageParts) (live : ℕ → Bool) (s : State) (cpu : Cpu) (m :
         subst (λ u. MemoryStands image live u after) passed.1 (static-written j few (at ∙ mod-eq_of_lt below))
     spot-written (AtSlot i) there lives t h at =
         let same : with_values (slice_set s.values i v) s ≡ t = cc in
-        let stacks = few-stacks image live s cpu m g in
-        let runs = runs-there image live s cpu m g in
-        let short = running-short image live s cpu m g in
+        let stacks = few-stacks g in
+        let runs = runs-there g in
+        let short = g.typed.thread.room in
         let below : esp_of s + 4 * i < 2 ^ 32 = omega arith in
         subst (λ u. MemoryStands image live u after) same (slot-written i there (at ∙ mod-eq_of_lt below))
     spot-written (AtValue i j) there lives t h at =
@@ -187,13 +186,15 @@ module _ (image : ImageParts) (live : ℕ → Bool) (s : State) (cpu : Cpu) (m :
         subst (λ u. MemoryStands image live u after) passed.1 (object-written i j lives (value-there i j v passed.0) at)
     spot-written (AtLength i) there lives t h at = absurd cc
     spot-written (AtHead i) there lives t h at = absurd cc
-    spot-written (AtMethod c k) there lives t h at = absurd cc
-    spot-written (AtDisplay c d) there lives t h at = absurd cc
+    spot-written (AtMethod d k) there lives t h at = absurd cc
+    spot-written (AtDisplay d e) there lives t h at = absurd cc
 
   -- the law
-  pub spot-is-written : ClassLaws (shapes_of image) → (x : Mem) → x.index ≢ Some Esp → (spot : Spot) → spot_of (shapes_of image) s x ≡ Some spot → SpotLives live spot
+  pub spot-is-written : ClassLaws (shapes_of image) → (x : Mem) → x.index ≢ Some Esp → (spot : Spot) → spot_of (shapes_of image) s x ≡ Some spot
+      → SpotLives live spot
       → (v : Value) (t : State) → write_spot (shown image) s spot v ≡ Some t
       → (after : MemoryView) → Written m after (address_of x cpu.regs) (Word (places_of s) v) → MemoryStands image live t after
   spot-is-written laws x spared spot points lives v t h after written =
       let address = spot-address (shapes_of image) s spot cpu g.stand.processor x spared points in
-      spot-written laws after (address_of x cpu.regs) (Word (places_of s) v) written v refl spot address.1 lives t h address.0
+      let c : Change m after (address_of x cpu.regs) (Word (places_of s) v) = record { written = written } in
+      spot-written laws c v refl spot address.1 lives t h address.0

@@ -4,4 +4,4 @@ use Rattle.word_machine.proofs.laws.values_are_pushed.Goals as goal
 
 pub returns : goal.returns
 unfolding shown
-returns c = λ image live s cpu m g few. values-pushed image live s cpu m g (c.formed_images_tell.ensures image g.well_typed.formed).classes few
+returns c = λ image live s cpu m g few. values-pushed g (c.formed_images_tell.ensures image g.well_typed.formed).classes few

@@ -1,10 +1,40 @@
--- A store where one value of an object was replaced: each object stands where it stood, with as many values.
-use Rattle.std.proofs.Common.{◌≡◌, ◌≢◌, ◌⊎◌, inl, inr, ◌+◌, ◌%◌, ◌≤◌, ℕ, zero, suc, Bool, Some, arith, refl, ◌∙◌, ap, [], ◌∷◌, ◌++◌, length, slice_get, slice_set}
+-- The objects of a store: where each stands, and where they stand once a value of one was replaced.
+use Rattle.std.proofs.Common.{◌≡◌, ◌≢◌, ◌⊎◌, inl, inr, ◌+◌, ◌%◌, ◌≤◌, ℕ, zero, suc, Bool, Some, arith, refl, ◌∙◌, ap, [], ◌∷◌, ◌++◌, length, slice_get, slice_set, Option, None, slice_index}
+use Rattle.std.specs.Option.{option_map, option_and_then}
+use Rattle.std.proofs.lemmas.Option.{slice_get-map, get_or_from_slice_get}
 use Rattle.std.proofs.lemmas.List.{length-set}
 use Rattle.typed_machine.specs.Values.{Value, ObjectShape, InstanceOf, ArrayOf}
 use Rattle.typed_machine.specs.Stores.{Object, Store, places_in, set_value, with_value}
-use Rattle.typed_machine.specs.States.{State}
+use Rattle.typed_machine.specs.States.{State, shapes_of, places_of}
 use Rattle.word_machine.specs.Standing.{head_values, object_values, end_of, IsInside, ObjectsLie}
+
+-- ---- place and shape
+
+-- the place of an object
+pub object-place : (s : State) (i : ℕ) (o : Object) → slice_get s.store i ≡ Some o → slice_index (places_of s) i ≡ o.place
+object-place s i o h =
+    get_or_from_slice_get (places_of s) i o.place 0 (slice_get-map (λ (p : Object). p.place) s.store i ∙ ap (option_map (λ (p : Object). p.place)) h)
+
+-- its shape
+pub object-shape : (s : State) (i : ℕ) (o : Object) → slice_get s.store i ≡ Some o → slice_get (shapes_of s) i ≡ Some o.shape
+object-shape s i o h = slice_get-map (λ (p : Object). p.shape) s.store i ∙ ap (option_map (λ (p : Object). p.shape)) h
+
+-- where there is no object there is no shape
+pub no-shape : (s : State) (i : ℕ) → slice_get s.store i ≡ None → slice_get (shapes_of s) i ≡ None
+no-shape s i h = slice_get-map (λ (p : Object). p.shape) s.store i ∙ ap (option_map (λ (p : Object). p.shape)) h
+
+-- the object whose shape tells a value
+pub shape-object : (s : State) (i : ℕ) (f : ObjectShape → Option Value) (v : Value) → option_and_then f (slice_get (shapes_of s) i) ≡ Some v
+    → (o : Object) × (slice_get s.store i ≡ Some o) × (f o.shape ≡ Some v)
+shape-object s i f v h = go (slice_get s.store i) refl
+  where
+    go : (o : Option Object) → slice_get s.store i ≡ o → (o : Object) × (slice_get s.store i ≡ Some o) × (f o.shape ≡ Some v)
+    go None e =
+        let nothing = rw (no-shape s i e) at h in
+        absurd cc
+    go (Some o) e = (o, e, rw (object-shape s i o e) at h)
+
+-- ---- a value of an object replaced
 
 -- the places stay
 pub places-set : (store : Store) (i j : ℕ) (v : Value) → places_in (set_value store i j v) ≡ places_in store
@@ -63,7 +93,8 @@ stood-inside s store k p q (inl (low, top)) = let place = q.place in let count =
 stood-inside s store k p q (inr (low, top)) = let place = q.place in let count = q.count in inr (omega arith, omega arith)
 
 -- two of them are apart where those were
-stood-apart : (store : Store) (k l : ℕ) (p r : Object) (q : Stood store k p) (t : Stood store l r) → (end_of q.before ≤ t.before.place) ⊎ (end_of t.before ≤ q.before.place)
+stood-apart : (store : Store) (k l : ℕ) (p r : Object) (q : Stood store k p) (t : Stood store l r)
+    → (end_of q.before ≤ t.before.place) ⊎ (end_of t.before ≤ q.before.place)
     → (end_of p ≤ r.place) ⊎ (end_of r ≤ p.place)
 stood-apart store k l p r q t (inl below) = let place = q.place in let count = q.count in let other = t.place in inl (omega arith)
 stood-apart store k l p r q t (inr above) = let place = q.place in let other = t.place in let count = t.count in inr (omega arith)
