@@ -48,7 +48,7 @@ use Rattle.typed_safety.proofs.Families.{number-family, object-family, null-fami
 use Rattle.typed_safety.proofs.Displays.{display-row}
 
 -- where none of the three rules of CMP fails, each holds
-three-hold : (a b k : Bool) → first_failing (ask rule.EspRole a ∷ ask rule.Place b ∷ ask rule.Comparison k ∷ []) ≡ None → (a ≡ true) × (b ≡ true) × (k ≡ true)
+pub three-hold : (a b k : Bool) → first_failing (ask rule.EspRole a ∷ ask rule.Place b ∷ ask rule.Comparison k ∷ []) ≡ None → (a ≡ true) × (b ≡ true) × (k ≡ true)
 three-hold a b k e = (grind arith, grind arith, grind arith)
 
 module _ (l : Scope) (result : Ty) (c : LiveContext) (s : State) (h : StateFits l result c s) (laws : ImageLaws l.image) (runs : RunsOn l.image) where

@@ -18,6 +18,7 @@ pub mod Standing
 pub mod Branches
 pub mod CallForms
 pub mod Instructions
+pub mod DisplayWords
 pub mod FormedImages
 pub mod Resuming
 pub mod Switching

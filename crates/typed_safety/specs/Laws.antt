@@ -2,7 +2,12 @@
 use Rattle.std.specs.Prelude.{◌≡◌, ℕ, Bool, true, List, Option, Some, None, is_some, slice_get}
 use Rattle.std.specs.Option.{option_and_then}
 use Rattle.ia32_code.specs.declared.instruction.Reg.TheVariants.{Eax, Ecx}
+use Rattle.ia32_code.specs.declared.instruction.Alu.TheVariants as alu
+use Rattle.ia32_code.specs.declared.instruction.Mem.{Mem}
+use Rattle.ia32_code.specs.declared.instruction.Operand.{Operand}
+use Rattle.ia32_code.specs.declared.instruction.Operand.TheVariants.{M}
 use Rattle.ia32_code.specs.declared.instruction.Inst.{Inst}
+use Rattle.ia32_code.specs.declared.instruction.Inst.TheVariants as inst
 use Rattle.device_model.specs.declared.events.Event.{Event}
 use Rattle.object_layout.specs.Classes.{Methods, fun_row}
 use Rattle.object_layout.specs.Laws.{ClassLaws}
@@ -25,7 +30,7 @@ use Rattle.tal_checker.specs.Running.{RunsOn, instruction_in}
 use Rattle.typed_machine.specs.Values.{Number, Word, fits_among}
 use Rattle.typed_machine.specs.Stores.{Store, shapes_in, places_in}
 use Rattle.typed_machine.specs.States.{State}
-use Rattle.typed_machine.specs.Operands.{marked_value}
+use Rattle.typed_machine.specs.Operands.{AtDisplay, spot_of, spot_word, marked_value}
 use Rattle.typed_machine.specs.Code.{inst_at}
 use Rattle.typed_machine.specs.Effects.{EffectView, Moves, Faults, Calls, Ends, Effect}
 use Rattle.typed_machine.specs.Turns.{Answer, Turned, begun, TurnOf, Run, next_run, RunOf}
@@ -95,6 +100,13 @@ pub record KeepsTyping (image : ImageParts) (live : ℕ → Bool) (s : State) : 
 -- so it is in each well typed image
 abbrev pub WellTypedImagesKeepTyping : Type 0
 WellTypedImagesKeepTyping = (image : ImageParts) → WellTyped image → (live : ℕ → Bool) (s : State) → TypedAmong image live s → KeepsTyping image live s
+
+-- where CMP at the place of a typed state names a word of a display, the word is there
+abbrev pub DisplaysAreThere : Type 0
+DisplaysAreThere =
+    (image : ImageParts) → WellTyped image → (live : ℕ → Bool) (s : State) → TypedAmong image live s → (x : Placed) → instruction_in image s.thread.place ≡ Some x
+    → (a : Mem) (y : Operand) → x.inst ≡ inst.Alu alu.Cmp (M a) y → (c d : ℕ) → spot_of (shown image).shapes s a ≡ Some (AtDisplay c d)
+    → (w : ℕ) × (spot_word (shown image).shapes s (AtDisplay c d) ≡ Some w)
 
 -- an instruction that calls the Nucleus stands at the place of a state
 abbrev pub CallsNucleus : ImageParts → State → Type 0

@@ -1,5 +1,5 @@
 // What holds of the definitions alone: each law is a function with nothing to do, whose clause is the law.
-ghost use Rattle.typed_safety.specs.Laws.{FormedImagesTell, InstructionsKeepTyping, WellTypedImagesKeepTyping, TurnsKeepTyping, RunsAreTyped};
+ghost use Rattle.typed_safety.specs.Laws.{FormedImagesTell, InstructionsKeepTyping, WellTypedImagesKeepTyping, DisplaysAreThere, TurnsKeepTyping, RunsAreTyped};
 
 /// A formed image tells what typed instructions rest on: its classes keep the laws of classes, its methods are its functions,
 /// at its blocks instructions begin, and what its marks stand for has the marks' types and words.
@@ -20,6 +20,14 @@ pub fn instructions_keep_typing()
 /// In a well typed image an instruction stands at the place of each typed state, and it keeps typing.
 pub fn well_typed_images_keep_typing()
     ensures { WellTypedImagesKeepTyping }
+{
+    formed_images_tell();
+    tal_checker::laws::accepted_runs();
+}
+
+/// In a well typed image, where CMP at the place of a typed state names a word of a display, the word is there.
+pub fn displays_are_there()
+    ensures { DisplaysAreThere }
 {
     formed_images_tell();
     tal_checker::laws::accepted_runs();
