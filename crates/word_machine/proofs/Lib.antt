@@ -12,3 +12,15 @@ pub mod Areas
 pub mod FirstRows
 pub mod FirstData
 pub mod FirstState
+pub mod Spelled
+pub mod Operating
+pub mod Grounding
+pub mod OperandWords
+pub mod Putting
+pub mod Leaving
+pub mod Computing
+pub mod Comparing
+pub mod Forms
+pub mod StackForms
+pub mod Table
+pub mod Advancing

@@ -6,3 +6,5 @@ pub mod Standing
 pub mod Following
 -- The laws.
 pub mod Laws
+-- The parts of a step.
+pub mod Stepping

@@ -1,5 +1,5 @@
 -- When the words of a processor and a memory stand for a typed state: each is the word of the value that the state has there.
-use Rattle.std.specs.Prelude.{◌≡◌, ◌≢◌, ℕ, ◌+◌, ◌*◌, ◌%◌, ◌<◌, ◌≤◌, ◌⊎◌, ◌==◌, Bool, true, List, [], ◌∷◌, ◌++◌, length, Option, Some, slice_get, if◌then◌else◌}
+use Rattle.std.specs.Prelude.{◌≡◌, ◌≢◌, ℕ, ◌+◌, ◌*◌, ◌%◌, ◌<◌, ◌≤◌, ◌⊎◌, ◌==◌, Bool, true, List, [], ◌∷◌, ◌++◌, length, Some, slice_get, if◌then◌else◌}
 use Rattle.std.specs.Option.{option_map_or}
 use Rattle.ia32_step.specs.declared.cpu.Cpu.{Cpu}
 use Rattle.object_layout.specs.Areas.{statics_start, stacks_start, heap_start, table_address, descriptor_address}
@@ -9,7 +9,7 @@ use Rattle.tal_image.specs.Shown.{shapes_of}
 use Rattle.typed_machine.specs.Values.{Value, Number, Tab, Desc, ObjectShape, InstanceOf, ArrayOf, Word}
 use Rattle.typed_machine.specs.Stores.{Object}
 use Rattle.typed_machine.specs.States.{State, Stack, EmptyStack, RunningStack, YieldedStack, InterruptedStack, places_of}
-use Rattle.typed_machine.specs.Words.{upper_end, stack_pointer, register_words, esp_of}
+use Rattle.typed_machine.specs.Words.{stack_pointer, register_words, esp_of}
 use Rattle.word_machine.specs.Memory.{MemoryView, word_of, is_mapped}
 
 -- ---- what stands in the memory, as values

@@ -1,13 +1,31 @@
-ghost use Rattle.std.specs.Prelude.{◌≡◌, ◌≢◌, None};
+ghost use Rattle.std.specs.Prelude.{◌≡◌, ◌≢◌, ℕ, ◌+◌, ◌<◌, ◌%◌, ◌^◌, ◌==◌, if◌then◌else◌, None, true, slice_index, slice_set};
 ghost use Rattle.ia32_code.specs.Canonical.{Canonical};
+ghost use Rattle.ia32_step.specs.Operands.{state_of};
+ghost use Rattle.ia32_step.specs.Effects.{below_top, pushed};
+ghost use Rattle.tal_flow.specs.Rules.{next_address};
 ghost use Rattle.tal_image.specs.Image.{ImageParts};
 ghost use Rattle.typed_machine.specs.States.{State};
 ghost use Rattle.typed_machine.specs.Effects.{Effect};
+ghost use Rattle.word_machine.specs.Memory.{is_mapped, word_at};
 ghost use Rattle.word_machine.specs.Following.{StandsAt, Runs, Came};
+ghost use Rattle.word_machine.specs.Stepping.{StepLaws, is_push, is_at_limit, overflows, Left, returned, went_back};
 
-use crate::memory::Memory;
+use crate::laws;
+use crate::memory::{Memory, STACK_WORDS};
 use ia32_code::Inst;
-use ia32_step::Cpu;
+use ia32_step::{Bus, Cpu, Effect as StepEffect, exec};
+use object_layout::areas::STACKS_START;
+use tal_flow::is_entry;
+
+const ESP: usize = 4;
+
+/// The vector of the stack fault.
+const STACK_FAULT: u8 = 12;
+
+/// The address of the Nucleus's entry 0, and from each entry to the next.
+const ENTRIES_START: u32 = 0x1000;
+
+const ENTRY_BYTES: u32 = 16;
 
 /// What an instruction came to.
 #[derive(Clone, Copy, Debug, PartialEq, Eq, Drop)]
@@ -31,5 +49,101 @@ pub fn advance(cpu: &mut Cpu, memory: &mut Memory, current: u32, inst: &Inst, le
     ensures { (image : ImageParts) (s : State) → StandsAt image s cpu.old memory.old inst.now len → s.current ≡ current
         → Came result cpu.new memory.new image s (Effect image s inst.now len) }
 {
+    lawful();
+    let next = cpu.pc.wrapping_add(len as u32);
+    match execute(cpu, memory, current, inst, len) {
+        StepEffect::Next => Step::Moves,
+        StepEffect::Fault(vector) => Step::Faults(vector),
+        StepEffect::Call(target) => {
+            if is_entry(target) {
+                return Step::Calls((target - ENTRIES_START) / ENTRY_BYTES);
+            }
+            if is_at_limit(cpu, current) {
+                return Step::Faults(STACK_FAULT);
+            }
+            enter(cpu, memory, target, next);
+            Step::Moves
+        }
+        StepEffect::Return => leave(cpu, memory),
+    }
+}
+
+// Runs an instruction; what it leaves is the caller's. PUSH on a full stack is the stack fault.
+fn execute(cpu: &mut Cpu, memory: &mut Memory, current: u32, inst: &Inst, len: u8) -> StepEffect
+    requires spelled { Canonical inst.now ≢ None }
+    requires runs { Runs current inst.now len cpu.old memory.old }
+    ensures { (image : ImageParts) (s : State) → StandsAt image s cpu.old memory.old inst.now len → s.current ≡ current
+        → Left image s (next_address s.thread.place len) result (Effect image s inst.now len) cpu.new memory.new }
+{
+    lawful();
+    if overflows(inst, cpu, current) {
+        return StepEffect::Fault(STACK_FAULT);
+    }
+    exec(cpu, memory, inst, len)
+}
+
+// The laws that a step rests on: facts for the proof.
+fn lawful()
+    ensures { StepLaws }
+{
+    laws::spots_are_read();
+    laws::spots_are_written();
+    laws::values_are_pushed();
+    laws::values_are_dropped();
+    typed_safety::laws::formed_images_tell();
+    typed_safety::laws::well_typed_images_keep_typing();
+    typed_safety::laws::displays_are_there();
+}
+
+fn is_push(inst: &Inst) -> bool
+    ensures { result ≡ is_push inst.now }
+{
+    matches!(inst, Inst::Push(_))
+}
+
+// Whether ESP is at the lower end of the stack, which then is full.
+fn is_at_limit(cpu: &Cpu, stack: u32) -> bool
+    requires { stack < 64 }
+    ensures { result ≡ is_at_limit cpu.now stack }
+{
+    cpu.regs[ESP] == STACKS_START + 4 * STACK_WORDS as u32 * stack
+}
+
+// Whether the instruction pushes a word for which there is no room.
+fn overflows(inst: &Inst, cpu: &Cpu, stack: u32) -> bool
+    requires { stack < 64 }
+    ensures { result ≡ overflows inst.now cpu.now stack }
+{
+    is_push(inst) && is_at_limit(cpu, stack)
+}
+
+// Pushes the place after a call, and goes to the function.
+fn enter(cpu: &mut Cpu, memory: &mut Memory, target: u32, next: u32)
+    requires { is_mapped memory.old (below_top (state_of cpu.old (word_at memory.old))) ≡ true }
+    ensures regs { cpu.new.regs ≡ (pushed next (state_of cpu.old (word_at memory.old))).regs }
+    ensures flags { cpu.new.flags ≡ cpu.old.flags }
+    ensures place { cpu.new.pc ≡ target }
+    ensures words { (a : ℕ) → word_at memory.new a ≡ (pushed next (state_of cpu.old (word_at memory.old))).memory a }
+    ensures mapped { (a : ℕ) → is_mapped memory.new a ≡ is_mapped memory.old a }
+{
+    let top = cpu.regs[ESP].wrapping_sub(4);
+    memory.store(top, next);
+    cpu.regs[ESP] = top;
+    cpu.pc = target;
+}
+
+// Goes back to the place on top of the stack, and drops it. At the end word nothing changes.
+fn leave(cpu: &mut Cpu, memory: &Memory) -> Step
+    requires { is_mapped memory.now (slice_index cpu.old.regs 4) ≡ true }
+    ensures step { result ≡ returned (word_at memory.now (slice_index cpu.old.regs 4)) }
+    ensures cpu { cpu.new ≡ went_back (word_at memory.now (slice_index cpu.old.regs 4)) cpu.old }
+{
+    let top = cpu.regs[ESP];
+    let place = memory.load(top);
+    if place == 0 {
+        return Step::Ends;
+    }
+    cpu.regs[ESP] = top.wrapping_add(4);
+    cpu.pc = place;
     Step::Moves
 }

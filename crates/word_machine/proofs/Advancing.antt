@@ -1,0 +1,302 @@
+-- From what an instruction leaves to where its effect leads, as the code goes.
+use Rattle.std.specs.Prelude.{◌==◌, nat_le, slice_get, slice_index, slice_set, is_some, if◌then◌else◌}
+use Rattle.std.specs.Option.{option_map, option_and_then, option_map_or}
+use Rattle.std.proofs.Common.{◌≡◌, ◌≢◌, ℕ, ◌+◌, ◌-◌, ◌*◌, ◌/◌, ◌%◌, ◌^◌, ◌<◌, ◌≤◌, ◌&&◌, zero, suc, Bool, true, false, List, [], ◌∷◌, length, Option, Some, None, refl, sym, ap, ◌∙◌, arith, eqb-true}
+use Rattle.std.proofs.lemmas.Bool.{and_parts}
+use Rattle.std.proofs.lemmas.Bool.Decides.{nat_tests}
+use Rattle.ia32_code.specs.declared.instruction.Operand.{Operand}
+use Rattle.ia32_code.specs.declared.instruction.Inst.{Inst}
+use Rattle.ia32_code.specs.declared.instruction.Inst.TheVariants as inst
+use Rattle.ia32_code.specs.Canonical.{Canonical}
+use Rattle.ia32_step.specs.declared.cpu.Cpu.{Cpu}
+use Rattle.ia32_step.specs.declared.effect.Effect.{Effect as StepEffect}
+use Rattle.ia32_step.specs.declared.effect.Effect.TheVariants as left
+use Rattle.ia32_step.specs.Operands.{state_of}
+use Rattle.ia32_step.specs.Effects.{effect_of, below_top, pushed}
+use Rattle.ia32_step.specs.Reaches.{Reaches, is_system}
+use Rattle.tal_types.specs.declared.signatures.Sig.{Sig}
+use Rattle.tal_types.specs.Shown.{ShownImage}
+use Rattle.tal_flow.specs.declared.calls.Arguments.{Arguments}
+use Rattle.tal_flow.specs.Calls.{nucleus_arguments, entry_number, is_entry}
+use Rattle.tal_flow.specs.Forms.{form_of}
+use Rattle.tal_flow.specs.Rules.{next_address}
+use Rattle.tal_image.specs.Image.{ImageParts}
+use Rattle.tal_image.specs.Shown.{shown}
+use Rattle.typed_machine.specs.Values.{Value, Ret, Word, all_objects}
+use Rattle.typed_machine.specs.States.{State, places_of, with_values, most_values}
+use Rattle.typed_machine.specs.Operands.{operand_value}
+use Rattle.typed_machine.specs.Effects.{EffectView, Moves, Faults, Calls, goes_on, is_full, pushes, arguments_fit, entered, calls_function, calls_entry, entry_or, calls_to, returns_from, form_effect, Effect}
+use Rattle.typed_machine.specs.Words.{stack_pointer, register_words, esp_of}
+use Rattle.word_machine.specs.declared.step.Step.TheVariants as step
+use Rattle.word_machine.specs.Memory.{MemoryView, is_mapped, word_at}
+use Rattle.word_machine.specs.Standing.{MemoryStands, WordsStand}
+use Rattle.word_machine.specs.Following.{Grounds, StandsAt, Runs, Came}
+use Rattle.word_machine.specs.Laws.{Written, PushLaw, DropLaw}
+use Rattle.word_machine.specs.Stepping.{StepLaws, is_push, is_at_limit, overflows, Left, returned, went_back}
+use Rattle.word_machine.proofs.Grounding.{held, there, written-told, thread-stands, Begins, begins, few-stacks, few-values}
+use Rattle.word_machine.proofs.StackForms.{below-top, not-full, full}
+use Rattle.word_machine.proofs.Table.{step-of}
+use Rattle.word_machine.proofs.Leaving.{Ran, StepOf}
+
+-- what is in an effect that is there, behind a test
+passed : (t : Bool) (x : EffectView) → (if t then Some x else None) ≢ None → (if t then Some x else None) ≡ Some x
+passed true x h = refl
+passed false x h = absurd (h refl)
+
+-- ---- the limit of the stack
+
+-- ESP is at the limit where the stack is full
+limit-full : (s : State) (cpu : Cpu) → cpu.regs ≡ register_words (places_of s) s.thread.regs (esp_of s) → length s.values ≤ most_values
+    → is_at_limit cpu s.current ≡ true → most_values ≤ length s.values
+limit-full s cpu regs few h =
+    let top : esp_of s ≡ 0x400000 + 16384 * s.current = sym (ap (λ r. slice_index r 4) regs) ∙ eqb-true _ _ h in
+    omega (arith, top, few)
+
+-- and else it has room
+limit-room : (s : State) (cpu : Cpu) → cpu.regs ≡ register_words (places_of s) s.thread.regs (esp_of s) → length s.values ≤ most_values
+    → is_at_limit cpu s.current ≡ false → length s.values < most_values
+limit-room s cpu regs few h =
+    let other : (esp_of s == 0x400000 + 16384 * s.current) ≡ false = sym (ap (λ r. slice_index r 4 == 0x400000 + 16384 * s.current) regs) ∙ h in
+    grind (arith, nat_tests)
+
+-- ---- the instruction
+
+-- PUSH of this value on a full stack
+push-faults : (image : ImageParts) (s : State) (cpu : Cpu) (m : MemoryView) (x : Operand) (len next : ℕ) → Begins image s cpu m (inst.Push x) len
+    → most_values ≤ length s.values → Left image s next (left.Fault 12) (Effect image s (inst.Push x) len) cpu m
+unfolding Effect form_effect form_of pushes
+push-faults image s cpu m x len next b h = go (operand_value (shown image) s x) b.known
+  where
+    go : (o : Option Value) → option_map (λ w. pushes (next_address s.thread.place len) w s) o ≢ None
+        → Left image s next (left.Fault 12) (option_map (λ w. pushes (next_address s.thread.place len) w s) o) cpu m
+    go None known = absurd (known refl)
+    go (Some w) known = rw (full s h) (refl, b.grounds.stand)
+
+module _ (laws : StepLaws) (cpu : Cpu) (m : MemoryView) (current : ℕ) (i : Inst) (len : ℕ) (spelled : Canonical i ≢ None) where
+  -- where PUSH does not overflow there is room
+  room-for : (image : ImageParts) (s : State) → StandsAt image s cpu m i len → s.current ≡ current → (t : Bool) → is_at_limit cpu current ≡ t
+      → is_push i && t ≡ false → (x : Operand) → i ≡ inst.Push x → length s.values < most_values
+  room-for image s at same false e h x is = limit-room s cpu at.grounds.stand.processor.regs at.grounds.typed.thread.room (rw same e)
+  room-for image s at same true e h x is = let on : is_push i ≡ true = rw is refl in absurd (cc)
+
+  -- the step of the instruction
+  step-here : (image : ImageParts) (s : State) → StandsAt image s cpu m i len → s.current ≡ current → overflows i cpu current ≡ false
+      → StepOf image s m i len (Effect image s i len)
+  step-here image s at same h =
+      step-of image s cpu m len i (begins image s cpu m i len laws spelled at) (room-for image s at same (is_at_limit cpu current) refl h)
+
+  -- what it asks of the words
+  pub step-asks : Runs current i len cpu m → overflows i cpu current ≡ false → (is_system i ≡ false) × Reaches i (state_of cpu (word_at m)) (is_mapped m)
+  step-asks (image, s, at, same) h =
+      let step = step-here image s at same h in
+      (step.runs, rw (held s cpu m at.grounds.stand.processor) step.reaches)
+
+  -- what it leaves
+  pub step-leaves : overflows i cpu current ≡ false → (e : StepEffect) (ran : Cpu) (after : MemoryView) → e ≡ effect_of i (state_of cpu (word_at m)) len
+      → Ran i len (state_of cpu (word_at m)) m ran after → (image : ImageParts) (s : State) → StandsAt image s cpu m i len → s.current ≡ current
+      → Left image s (next_address s.thread.place len) e (Effect image s i len) ran after
+  step-leaves h e ran after is r image s at same =
+      let words = held s cpu m at.grounds.stand.processor in
+      rw (is, words) ((step-here image s at same h).leaves ran after (rw words at r))
+
+-- PUSH on a full stack is the stack fault
+pub step-overflows : (laws : StepLaws) (cpu : Cpu) (m : MemoryView) (current : ℕ) (i : Inst) (len : ℕ) → Canonical i ≢ None → overflows i cpu current ≡ true
+    → (image : ImageParts) (s : State) → StandsAt image s cpu m i len → s.current ≡ current
+    → Left image s (next_address s.thread.place len) (left.Fault 12) (Effect image s i len) cpu m
+step-overflows laws cpu m current (inst.Push x) len spelled h image s at same =
+    push-faults image s cpu m x len (next_address s.thread.place len) (begins image s cpu m (inst.Push x) len laws spelled at)
+    (limit-full s cpu at.grounds.stand.processor.regs at.grounds.typed.thread.room (rw same h))
+step-overflows laws cpu m current i len spelled h image s at same = absurd (cc)
+
+-- the running stack is one of 64
+pub stack-few : (current : ℕ) (i : Inst) (len : ℕ) (cpu : Cpu) (m : MemoryView) → Runs current i len cpu m → current < 64
+stack-few current i len cpu m (image, s, at, same) = rw (← same) (few-stacks image s cpu m at.grounds)
+
+-- ---- what came, by what is left
+
+-- an instruction that goes on
+pub next-comes : (image : ImageParts) (s : State) (e : Option EffectView) (ran : Cpu) (after : MemoryView)
+    → (t : State) × (e ≡ Some (Moves t)) × WordsStand image all_objects t ran after → Came step.Moves ran after image s e
+next-comes image s e ran after (t, is, stand) = rw is (refl, stand)
+
+-- a fault
+pub fault-comes : (image : ImageParts) (s : State) (e : Option EffectView) (ran : Cpu) (after : MemoryView) (n : ℕ)
+    → (e ≡ Some (Faults n)) × WordsStand image all_objects s ran after → Came (step.Faults n) ran after image s e
+fault-comes image s e ran after n (is, stand) = rw is (refl, stand)
+
+-- the words that are left stand for the same typed state
+pub left-grounds : (image : ImageParts) (s : State) (cpu ran : Cpu) (m after : MemoryView) (i : Inst) (len : ℕ) → StandsAt image s cpu m i len
+    → WordsStand image all_objects s ran after → Grounds image all_objects s ran after
+left-grounds image s cpu ran m after i len at stand = record { well_typed = at.grounds.well_typed; typed = at.grounds.typed; stand = stand }
+
+-- where the next instruction stands
+pub next-place : (image : ImageParts) (s : State) (cpu : Cpu) (m : MemoryView) (i : Inst) (len : ℕ) → StandsAt image s cpu m i len
+    → (cpu.pc + len) % 2 ^ 32 ≡ next_address s.thread.place len
+unfolding next_address
+next-place image s cpu m i len at = ap (λ pc. (pc + len) % 2 ^ 32) at.grounds.stand.processor.place
+
+-- ---- calls
+
+-- the number of the entry at an address
+abbrev pub entry_at : ℕ → ℕ
+entry_at a = (a - 0x1000) / 16
+
+-- an entry is at an address with its number
+entry-there : (a : ℕ) → is_entry a ≡ true → (arguments : Arguments) × (entry_number a ≡ Some (entry_at a)) × (slice_get nucleus_arguments (entry_at a) ≡ Some arguments)
+unfolding is_entry entry_number
+entry-there a h = go (nat_le 0x1000 a && ((a - 0x1000) % 16 == 0)) h
+  where
+    at : (o : Option Arguments) → is_some o ≡ true → (arguments : Arguments) × (o ≡ Some arguments)
+    at None h = absurd (cc)
+    at (Some x) h = (x, refl)
+
+    go : (t : Bool) → is_some (option_and_then (slice_get nucleus_arguments) (if t then Some (entry_at a) else None)) ≡ true
+        → (arguments : Arguments) × ((if t then Some (entry_at a) else None) ≡ Some (entry_at a)) × (slice_get nucleus_arguments (entry_at a) ≡ Some arguments)
+    go true h = let x = at (slice_get nucleus_arguments (entry_at a)) h in (x.0, refl, x.1)
+    go false h = absurd (cc)
+
+-- an entry's address is not below that of entry 0
+pub entry-above : (a : ℕ) → is_entry a ≡ true → 0x1000 ≤ a
+unfolding is_entry entry_number
+entry-above a h = go (nat_le 0x1000 a && ((a - 0x1000) % 16 == 0)) refl h
+  where
+    go : (t : Bool) → (nat_le 0x1000 a && ((a - 0x1000) % 16 == 0)) ≡ t
+        → is_some (option_and_then (slice_get nucleus_arguments) (if t then Some (entry_at a) else None)) ≡ true → 0x1000 ≤ a
+    go true e f = let low = (and_parts (nat_le 0x1000 a) ((a - 0x1000) % 16 == 0) e).0 in grind (arith, nat_tests)
+    go false e f = absurd (cc)
+
+-- a call of an entry
+pub entry-comes : (image : ImageParts) (s : State) (next a : ℕ) (ran : Cpu) (after : MemoryView) (e : Option EffectView) → is_entry a ≡ true
+    → Left image s next (left.Call a) e ran after → Came (step.Calls (entry_at a)) ran after image s e
+unfolding calls_to
+entry-comes image s next a ran after e h (known, is, stand) =
+    let x = entry-there a h in
+    let calls : calls_to (shown image) s next a ≡ calls_entry s (entry_at a) x.0 = rw (x.1, x.2) refl in
+    let there : calls_entry s (entry_at a) x.0 ≢ None = λ none. known (is ∙ (calls ∙ none)) in
+    rw (is ∙ (calls ∙ passed _ (Calls (entry_at a)) there)) (refl, stand)
+
+-- a call of any other address is one of a function
+other-call : (v : ShownImage) (s : State) (next a : ℕ) → is_entry a ≡ false → calls_to v s next a ≡ calls_function v s next a
+unfolding calls_to is_entry
+other-call v s next a h = go (entry_number a) h
+  where
+    at : (k : ℕ) (o : Option Arguments) → is_some o ≡ false → option_map_or (calls_entry s k) o (calls_function v s next a) ≡ calls_function v s next a
+    at k None h = refl
+    at k (Some x) h = absurd (cc)
+
+    go : (o : Option ℕ) → is_some (option_and_then (slice_get nucleus_arguments) o) ≡ false → entry_or s (calls_function v s next a) o ≡ calls_function v s next a
+    go None h = refl
+    go (Some k) h = at k (slice_get nucleus_arguments k) h
+
+-- and it pushes the place after it
+function-pushes : (v : ShownImage) (s : State) (next a : ℕ) → calls_function v s next a ≢ None → calls_function v s next a ≡ Some (pushes a (Ret next) (entered next s))
+function-pushes v s next a known = go (option_and_then v.sig (v.function_at a)) known
+  where
+    go : (o : Option Sig) → option_and_then (λ sig. if arguments_fit v s sig then Some (pushes a (Ret next) (entered next s)) else None) o ≢ None
+        → option_and_then (λ sig. if arguments_fit v s sig then Some (pushes a (Ret next) (entered next s)) else None) o ≡ Some (pushes a (Ret next) (entered next s))
+    go None h = absurd (h refl)
+    go (Some sig) h = passed (arguments_fit v s sig) _ h
+
+-- a call of a function, by its effect
+call-is : (image : ImageParts) (s : State) (next a : ℕ) (e : Option EffectView) → e ≢ None → is_entry a ≡ false → e ≡ calls_to (shown image) s next a
+    → e ≡ Some (pushes a (Ret next) (entered next s))
+call-is image s next a e known other is =
+    let function = is ∙ other-call (shown image) s next a other in
+    function ∙ function-pushes (shown image) s next a (λ none. known (function ∙ none))
+
+-- whether the stack is full does not hang on what is known
+entered-full : (s : State) (next : ℕ) → is_full (entered next s) ≡ is_full s
+unfolding is_full
+entered-full s next = refl
+
+module _ (laws : StepLaws) (image : ImageParts) (s : State) (next a : ℕ) (ran : Cpu) (after : MemoryView) (g : Grounds image all_objects s ran after)
+    (e : Option EffectView) (other : is_entry a ≡ false) (call : Left image s next (left.Call a) e ran after) where
+  -- on a full stack it is the stack fault
+  pub call-overflows : is_at_limit ran s.current ≡ true → Came (step.Faults 12) ran after image s e
+  unfolding pushes
+  call-overflows h =
+      let no_room = full s (limit-full s ran g.stand.processor.regs g.typed.thread.room h) in
+      rw (call-is image s next a e call.0 other call.1, entered-full s next, no_room) (refl, g.stand)
+
+  -- where there is room, the word below the top is mapped
+  pub call-reaches : is_at_limit ran s.current ≡ false → is_mapped after (below_top (state_of ran (word_at after))) ≡ true
+  call-reaches h =
+      let room = limit-room s ran g.stand.processor.regs g.typed.thread.room h in
+      let law : PushLaw image all_objects s after = laws.pushes image all_objects s ran after g room in
+      rw (ap (λ r. slice_index r 4) g.stand.processor.regs, (below-top s.current (length s.values) (few-stacks image s ran after g) room).0) law.there
+
+  -- and the place after the call is pushed there
+  pub call-enters : is_at_limit ran s.current ≡ false → (entered_cpu : Cpu) (written : MemoryView)
+      → entered_cpu.regs ≡ (pushed next (state_of ran (word_at after))).regs → entered_cpu.flags ≡ ran.flags → entered_cpu.pc ≡ a
+      → ((b : ℕ) → word_at written b ≡ (pushed next (state_of ran (word_at after))).memory b) → ((b : ℕ) → is_mapped written b ≡ is_mapped after b)
+      → Came step.Moves entered_cpu written image s e
+  unfolding pushes Word
+  call-enters h cpu written regs flags place words mapped =
+      let room = limit-room s ran g.stand.processor.regs g.typed.thread.room h in
+      let law : PushLaw image all_objects s after = laws.pushes image all_objects s ran after g room in
+      let under = below-top s.current (length s.values) (few-stacks image s ran after g) room in
+      let top : below_top (state_of ran (word_at after)) ≡ esp_of s - 4 = rw (ap (λ r. slice_index r 4) g.stand.processor.regs) under.0 in
+      let put : Written after written (esp_of s - 4) next = written-told after written (esp_of s - 4) next law.there (λ b. rw top at (words b)) mapped in
+      rw (call-is image s next a e call.0 other call.1, entered-full s next, not-full s room) (
+        refl,
+        record {
+          processor = record { regs = rw (top, g.stand.processor.regs, under.1) at regs; flags = flags ∙ g.stand.processor.flags; place = place };
+          memory = thread-stands image all_objects (with_values (Ret next ∷ s.values) s) written (law.pushed (Ret next) written put) _;
+        },
+      )
+
+-- ---- returns
+
+-- a return finds a place
+returned-top : (vs : List Value) (s : State) → returns_from vs s ≢ None → (a : ℕ) × (us : List Value) × (vs ≡ Ret a ∷ us)
+returned-top (Ret a ∷ us) s h = (a, us, refl)
+returned-top vs s h = absurd (h refl)
+
+module _ (image : ImageParts) (s : State) (ran : Cpu) (after : MemoryView) (g : Grounds image all_objects s ran after) (law : DropLaw image all_objects s after)
+    (next : ℕ) (e : Option EffectView) (back : Left image s next left.Return e ran after) where
+  -- a place is on top
+  place-there : (a : ℕ) × (us : List Value) × (s.values ≡ Ret a ∷ us)
+  place-there = returned-top s.values s (λ none. back.0 (back.1 ∙ none))
+
+  -- whose word is mapped
+  pub return-reaches : is_mapped after (slice_index ran.regs 4) ≡ true
+  return-reaches =
+      let top = place-there in
+      rw (ap (λ r. slice_index r 4) g.stand.processor.regs) (there after (esp_of s) (Word (places_of s) (Ret top.0)) (law.top (Ret top.0) top.1 top.2)).0
+
+  -- the word is the place
+  return-word : (a : ℕ) (us : List Value) → s.values ≡ Ret a ∷ us → word_at after (slice_index ran.regs 4) ≡ a
+  unfolding Word
+  return-word a us values = rw (ap (λ r. slice_index r 4) g.stand.processor.regs) (there after (esp_of s) a (law.top (Ret a) us values)).1
+
+  -- a return to a place
+  goes-back : (a : ℕ) (us : List Value) → s.values ≡ Ret (suc a) ∷ us
+      → Came step.Moves (record { regs = slice_set ran.regs 4 ((slice_index ran.regs 4 + 4) % 2 ^ 32); flags = ran.flags; pc = suc a }) after image s
+      (Some (goes_on (suc a) (with_values us s)))
+  goes-back a us values =
+      let depth : length s.values ≡ suc (length us) = ap length values in
+      let up : (esp_of s + 4) % 2 ^ 32 ≡ stack_pointer s.current (length us) =
+      let few = few-stacks image s ran after g in let room = few-values image s ran after g in omega (arith, few, room, depth) in
+      let left : MemoryStands image all_objects (with_values us s) after = rw values at (law.dropped 1 (omega (arith, depth))) in (
+        refl,
+        record {
+          processor = record {
+            regs = rw g.stand.processor.regs (ap (register_words (places_of s) s.thread.regs) up);
+            flags = g.stand.processor.flags;
+            place = refl;
+          };
+          memory = thread-stands image all_objects (with_values us s) after left _;
+        },
+      )
+
+  -- a return goes back, or ends at the end word
+  pub return-comes : Came (returned (word_at after (slice_index ran.regs 4))) (went_back (word_at after (slice_index ran.regs 4)) ran) after image s e
+  return-comes = let top = place-there in go top.0 top.1 top.2
+    where
+      go : (a : ℕ) (us : List Value) → s.values ≡ Ret a ∷ us
+          → Came (returned (word_at after (slice_index ran.regs 4))) (went_back (word_at after (slice_index ran.regs 4)) ran) after image s e
+      go zero [] values = rw (back.1 ∙ ap (λ vs. returns_from vs s) values, return-word zero [] values) (refl, g.stand)
+      go zero (v ∷ us) values = absurd (back.0 (back.1 ∙ ap (λ vs. returns_from vs s) values))
+      go (suc a) us values =
+          let some : (suc a == 0) ≡ false = grind (arith, nat_tests) in
+          rw (back.1 ∙ ap (λ vs. returns_from vs s) values, return-word (suc a) us values, some) (goes-back a us values)
