@@ -4,7 +4,7 @@ ghost use Rattle.ia32_step.specs.Flags.{is_negative, flagged};
 use stack_states::FlagBits;
 
 /// What an operation computes: a word and the flags afterwards.
-#[derive(Clone, Copy, Debug, PartialEq, Eq)]
+#[derive(Clone, Copy)]
 pub(crate) struct Computed {
     pub(crate) value: u32,
     pub(crate) flags: FlagBits,

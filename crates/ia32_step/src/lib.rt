@@ -23,6 +23,3 @@ pub use bus::Bus;
 pub use cpu::Cpu;
 pub use effect::Effect;
 pub use step::exec;
-
-#[cfg(test)]
-mod tests;

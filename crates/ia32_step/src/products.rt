@@ -9,7 +9,7 @@ use crate::sums::sign_of;
 use stack_states::FlagBits;
 
 /// The upper and the lower word of a product, and the flags afterwards.
-#[derive(Clone, Copy, Debug, PartialEq, Eq)]
+#[derive(Clone, Copy)]
 pub(crate) struct Product {
     pub(crate) high: u32,
     pub(crate) low: u32,

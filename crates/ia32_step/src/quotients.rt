@@ -7,7 +7,7 @@ ghost use Rattle.ia32_step.specs.Products.{quotient_of, div_of, idiv_of};
 use crate::products::signed_of;
 
 /// A quotient and a remainder as words.
-#[derive(Clone, Copy, Debug, PartialEq, Eq)]
+#[derive(Clone, Copy)]
 pub(crate) struct Quotient {
     pub(crate) quotient: u32,
     pub(crate) remainder: u32,

@@ -13,4 +13,6 @@ mod layouts;
 #[cfg(test)]
 mod stacks;
 #[cfg(test)]
+mod steps;
+#[cfg(test)]
 mod texts;
