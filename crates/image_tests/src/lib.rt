@@ -19,8 +19,6 @@ mod machine;
 #[cfg(test)]
 mod rules;
 #[cfg(test)]
-mod spellings;
-#[cfg(test)]
 mod test_image;
 #[cfg(test)]
 mod types;

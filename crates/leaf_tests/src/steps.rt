@@ -1,5 +1,5 @@
 // Instructions on a processor and a memory of one word. Those that touch no word are cases of `step_cases`.
-ghost use Rattle.std.specs.Prelude.{◌==◌, if◌then◌else◌};
+ghost use Rattle.std.specs.Prelude.{◌≡◌, ◌==◌, if◌then◌else◌};
 
 use ia32_code::{Alu, Inst, Mem, Operand, Reg};
 use ia32_step::{Bus, Cpu, Effect, exec};
@@ -31,7 +31,9 @@ impl Bus for OneWord {
 }
 
 // A processor at an instruction, with no flags.
-const fn with(regs: [u32; 8]) -> Cpu {
+const fn with(regs: [u32; 8]) -> Cpu
+    ensures { result.regs ≡ regs }
+{
     Cpu {
         regs,
         flags: FlagBits {
