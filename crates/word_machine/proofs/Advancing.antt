@@ -33,7 +33,7 @@ use Rattle.word_machine.specs.Standing.{MemoryStands, WordsStand}
 use Rattle.word_machine.specs.Following.{Grounds, StandsAt, Runs, Came}
 use Rattle.word_machine.specs.Laws.{Written, PushLaw, DropLaw}
 use Rattle.word_machine.specs.Stepping.{StepLaws, is_push, is_at_limit, overflows, Left, returned, went_back}
-use Rattle.word_machine.proofs.Grounding.{held, there, written-told, thread-stands, Begins, begins, few-stacks, few-values}
+use Rattle.word_machine.proofs.Grounding.{held, there, written-told, thread-stands, Begins, begins, current-few}
 use Rattle.word_machine.proofs.StackForms.{below-top, not-full, full}
 use Rattle.word_machine.proofs.Table.{step-of}
 use Rattle.word_machine.proofs.Leaving.{Ran, StepOf}
@@ -83,7 +83,7 @@ module _ (laws : StepLaws) (cpu : Cpu) (m : MemoryView) (current : ℕ) (i : Ins
   step-here : (image : ImageParts) (s : State) → StandsAt image s cpu m i len → s.current ≡ current → overflows i cpu current ≡ false
       → StepOf image s m i len (Effect image s i len)
   step-here image s at same h =
-      step-of image s cpu m len i (begins image s cpu m i len laws spelled at) (room-for image s at same (is_at_limit cpu current) refl h)
+      step-of i (begins image s cpu m i len laws spelled at) (room-for image s at same (is_at_limit cpu current) refl h)
 
   -- what it asks of the words
   pub step-asks : Runs current i len cpu m → overflows i cpu current ≡ false → (is_system i ≡ false) × Reaches i (state_of cpu (word_at m)) (is_mapped m)
@@ -110,7 +110,7 @@ step-overflows laws cpu m current i len spelled h image s at same = absurd (cc)
 
 -- the running stack is one of 64
 pub stack-few : (current : ℕ) (i : Inst) (len : ℕ) (cpu : Cpu) (m : MemoryView) → Runs current i len cpu m → current < 64
-stack-few current i len cpu m (image, s, at, same) = rw (← same) (few-stacks image s cpu m at.grounds)
+stack-few current i len cpu m (image, s, at, same) = rw (← same) (current-few at.grounds)
 
 -- ---- what came, by what is left
 
@@ -223,7 +223,7 @@ module _ (laws : StepLaws) (image : ImageParts) (s : State) (next a : ℕ) (ran 
   call-reaches h =
       let room = limit-room s ran g.stand.processor.regs g.typed.thread.room h in
       let law : PushLaw image all_objects s after = laws.pushes image all_objects s ran after g room in
-      rw (ap (λ r. slice_index r 4) g.stand.processor.regs, (below-top s.current (length s.values) (few-stacks image s ran after g) room).0) law.there
+      rw (ap (λ r. slice_index r 4) g.stand.processor.regs, (below-top s.current (length s.values) (current-few g) room).0) law.there
 
   -- and the place after the call is pushed there
   pub call-enters : is_at_limit ran s.current ≡ false → (entered_cpu : Cpu) (written : MemoryView)
@@ -234,14 +234,14 @@ module _ (laws : StepLaws) (image : ImageParts) (s : State) (next a : ℕ) (ran 
   call-enters h cpu written regs flags place words mapped =
       let room = limit-room s ran g.stand.processor.regs g.typed.thread.room h in
       let law : PushLaw image all_objects s after = laws.pushes image all_objects s ran after g room in
-      let under = below-top s.current (length s.values) (few-stacks image s ran after g) room in
+      let under = below-top s.current (length s.values) (current-few g) room in
       let top : below_top (state_of ran (word_at after)) ≡ esp_of s - 4 = rw (ap (λ r. slice_index r 4) g.stand.processor.regs) under.0 in
       let put : Written after written (esp_of s - 4) next = written-told after written (esp_of s - 4) next law.there (λ b. rw top at (words b)) mapped in
       rw (call-is image s next a e call.0 other call.1, entered-full s next, not-full s room) (
         refl,
         record {
           processor = record { regs = rw (top, g.stand.processor.regs, under.1) at regs; flags = flags ∙ g.stand.processor.flags; place = place };
-          memory = thread-stands image all_objects (with_values (Ret next ∷ s.values) s) written (law.pushed (Ret next) written put) _;
+          memory = thread-stands (law.pushed (Ret next) written put) _;
         },
       )
 
@@ -276,7 +276,7 @@ module _ (image : ImageParts) (s : State) (ran : Cpu) (after : MemoryView) (g : 
   goes-back a us values =
       let depth : length s.values ≡ suc (length us) = ap length values in
       let up : (esp_of s + 4) % 2 ^ 32 ≡ stack_pointer s.current (length us) =
-      let few = few-stacks image s ran after g in let room = few-values image s ran after g in omega (arith, few, room, depth) in
+      let few = current-few g in let room = g.typed.thread.room in omega (arith, few, room, depth) in
       let left : MemoryStands image all_objects (with_values us s) after = rw values at (law.dropped 1 (omega (arith, depth))) in (
         refl,
         record {
@@ -285,7 +285,7 @@ module _ (image : ImageParts) (s : State) (ran : Cpu) (after : MemoryView) (g : 
             flags = g.stand.processor.flags;
             place = refl;
           };
-          memory = thread-stands image all_objects (with_values us s) after left _;
+          memory = thread-stands left _;
         },
       )
 

@@ -39,7 +39,7 @@ alike-there : (image : ImageParts) (s : State) (m : MemoryView) (d x : Operand) 
 alike-there image s m (R r) (R q) h = record { reached = tt; agrees = tt }
 alike-there image s m d x h = absurd (cc)
 
-module _ (image : ImageParts) (s : State) (cpu : Cpu) (m : MemoryView) (i : Inst) (len : ℕ) (b : Begins image s cpu m i len) where
+module _ {image : ImageParts} {s : State} {cpu : Cpu} {m : MemoryView} {i : Inst} {len : ℕ} (b : Begins image s cpu m i len) where
   -- an instruction that sets the flags by two operands that are there
   flags-step : (d x : Operand) → SetsFlags i d x → OneInMemory d x → OperandThere image s m d → OperandThere image s m x → (known : Option Known)
       → sets_flags (shown image) s i (next_address s.thread.place len) (d ∷ x ∷ []) known ≢ None
@@ -49,11 +49,11 @@ module _ (image : ImageParts) (s : State) (cpu : Cpu) (m : MemoryView) (i : Inst
   flags-step d x o one at_d at_x (Some known) h =
       let over_now = words_over s m in
       let w = word_among (shown image) s (d ∷ x ∷ []) in
-      let first : read_word d over_now ≡ read_word d (words_of s w) = read-alike (word_at m) w (words_of s 0) d (agrees-first image s m d (x ∷ []) at_d) in
-      let second : read_word x over_now ≡ read_word x (words_of s w) = read-alike (word_at m) w (words_of s 0) x (agrees-second image s m d x [] one at_x) in
+      let first : read_word d over_now ≡ read_word d (words_of s w) = read-alike (word_at m) w (words_of s 0) d (agrees-first d (x ∷ []) at_d) in
+      let second : read_word x over_now ≡ read_word x (words_of s w) = read-alike (word_at m) w (words_of s 0) x (agrees-second d x [] one at_x) in
       let flags : (done i over_now).flags ≡ (done i (words_of s w)).flags =
       ap (λ k. k.flags) (o.done_is over_now) ∙ (ap₂ o.flags first second ∙ sym (ap (λ k. k.flags) (o.done_is (words_of s w)))) in
-      thread-step image s cpu m i len b (at_place (next_address s.thread.place len) (with_flags (done i (words_of s w)).flags known s)).thread over_now refl
+      thread-step b (at_place (next_address s.thread.place len) (with_flags (done i (words_of s w)).flags known s)).thread over_now refl
       (o.effect_is over_now len) (ap (λ k. k.memory) (o.done_is over_now)) (ap (λ k. k.regs) (o.done_is over_now)) flags (o.next_is over_now len)
       (o.reaches over_now (is_mapped m) at_d.reached at_x.reached) o.runs
 
@@ -66,13 +66,13 @@ module _ (image : ImageParts) (s : State) (cpu : Cpu) (m : MemoryView) (i : Inst
       go : (o : Option Spot) → spot_of (shown image).shapes s a ≡ o → OperandThere image s m (M a)
       go (Some (AtDisplay c d)) e =
           let word = b.laws.displays image b.grounds.well_typed all_objects s b.grounds.typed b.placed b.here a x (b.is ∙ is) c d e in
-          spot-there image s cpu m i len b a spares (AtDisplay c d) word.0 e word.1
+          spot-there b a spares (AtDisplay c d) word.0 e word.1
       go o e = absurd (let none = rw e at h in cc)
 
   -- the operands of CMP are there, where something is known of them
   compared-there : (d x : Operand) → i ≡ inst.Alu alu.Cmp d x → PairIsPlain d x → (o p : Option Value) → operand_value (shown image) s d ≡ o → operand_value (shown image) s x ≡ p
       → known_of o p (is_bare_zero x p) (is_display (shown image) s d) ≢ None → OperandThere image s m d × OperandThere image s m x
-  compared-there d x is plain (Some w) (Some u) e f h = (value-there image s cpu m i len b d w plain.first e, value-there image s cpu m i len b x u plain.second f)
+  compared-there d x is plain (Some w) (Some u) e f h = (value-there b d w plain.first e, value-there b x u plain.second f)
   compared-there d x is plain (Some w) None e f h = absurd (h refl)
   compared-there d x is plain None None e f h = go (is_display (shown image) s d) h
     where
@@ -82,7 +82,7 @@ module _ (image : ImageParts) (s : State) (cpu : Cpu) (m : MemoryView) (i : Inst
   compared-there d x is plain None (Some u) e f h = go (is_display (shown image) s d) refl h
     where
       go : (t : Bool) → is_display (shown image) s d ≡ t → (if t && is_table (Some u) then Some Equality else None) ≢ None → OperandThere image s m d × OperandThere image s m x
-      go true k g = (display-read d x is plain.first k, value-there image s cpu m i len b x u plain.second f)
+      go true k g = (display-read d x is plain.first k, value-there b x u plain.second f)
       go false k g = absurd (g refl)
 
   -- what sets flags knows something
@@ -103,8 +103,8 @@ module _ (image : ImageParts) (s : State) (cpu : Cpu) (m : MemoryView) (i : Inst
       → known_of_test o p (same_register d x) ≢ None → OperandThere image s m d × OperandThere image s m x
   unfolding known_of_test
   tested-there d x plain None p e f h = absurd (h refl)
-  tested-there d x plain (Some w) (Some u) e f h = (value-there image s cpu m i len b d w plain.first e, value-there image s cpu m i len b x u plain.second f)
-  tested-there d x plain (Some w) None e f h = (value-there image s cpu m i len b d w plain.first e, go (same_register d x) refl h)
+  tested-there d x plain (Some w) (Some u) e f h = (value-there b d w plain.first e, value-there b x u plain.second f)
+  tested-there d x plain (Some w) None e f h = (value-there b d w plain.first e, go (same_register d x) refl h)
     where
       go : (t : Bool) → same_register d x ≡ t → known_of_test (Some w) None t ≢ None → OperandThere image s m x
       go true k g = alike-there image s m d x k

@@ -23,7 +23,7 @@ use Rattle.tal_types.specs.Shown.{ShownImage}
 use Rattle.tal_flow.specs.Rules.{next_address}
 use Rattle.tal_image.specs.Image.{ImageParts}
 use Rattle.tal_image.specs.Shown.{shown}
-use Rattle.typed_machine.specs.Values.{Value, Number, Word, all_objects}
+use Rattle.typed_machine.specs.Values.{Value, Number, Word}
 use Rattle.typed_machine.specs.States.{State, at_place, with_register}
 use Rattle.typed_machine.specs.Operands.{word_among, is_number, write_operand}
 use Rattle.typed_machine.specs.Effects.{Moves, Faults, goes_on, settled, fault_or, computed, computes}
@@ -43,7 +43,7 @@ abbrev pub AllSpare : List Operand → Type 0
 AllSpare [] = Unit {0}
 AllSpare (x ∷ xs) = SparesIndex x × AllSpare xs
 
-module _ (image : ImageParts) (s : State) (m : MemoryView) where
+module _ {image : ImageParts} {s : State} {m : MemoryView} where
   -- an operand agrees with the word of those among which it comes first
   pub agrees-first : (x : Operand) (xs : List Operand) → OperandThere image s m x
       → Agrees (word_at m) (word_among (shown image) s (x ∷ xs)) (words_over s m).regs x
@@ -105,13 +105,13 @@ put-read v s u w c (M a) x flags h = go (address_of a (words_of s w).regs)
     go k = let e : (k == k) ≡ true = grind (arith, nat_tests) in rw e refl
 put-read v s u w c (I n) x flags h = absurd (cc)
 
-module _ (image : ImageParts) (s : State) (cpu : Cpu) (m : MemoryView) (i : Inst) (len : ℕ) (b : Begins image s cpu m i len) where
+module _ {image : ImageParts} {s : State} {cpu : Cpu} {m : MemoryView} {i : Inst} {len : ℕ} (b : Begins image s cpu m i len) where
   -- operands that are numbers are there
   numbers-there : (xs : List Operand) → AllSpare xs → list_all (is_number (shown image) s) xs ≡ true → AllThere image s m xs
   numbers-there [] spare h = tt
   numbers-there (x ∷ xs) spare h =
       let parts = and_parts (is_number (shown image) s x) (list_all (is_number (shown image) s) xs) h in
-      (number-there image s cpu m i len b x spare.0 parts.0, numbers-there xs spare.1 parts.1)
+      (number-there b x spare.0 parts.0, numbers-there xs spare.1 parts.1)
 
   -- an operation that puts one word
   module _ (sources : List Operand) (d : Operand) (k : Option FlagKind) (o : Operates i sources d) (spares : SparesIndex d) (spare : AllSpare sources)
@@ -137,12 +137,12 @@ module _ (image : ImageParts) (s : State) (cpu : Cpu) (m : MemoryView) (i : Inst
         let is : write_operand (shown image) s d (Number (o.value before)) ≡ Some u = rw read at written in
         let goes : effect_of i over_now len ≡ step.Next = o.effect_is over_now len in
         record {
-          reaches = o.reaches over_now (is_mapped m) (put-reached image s cpu m i len b d _ u spares is) (all-reached image s m sources there);
+          reaches = o.reaches over_now (is_mapped m) (put-reached b d _ u spares is) (all-reached image s m sources there);
           runs = o.runs;
           leaves = λ ran after r.
               let on = ran-on i len over_now m ran after goes r in
               let put : PutFor image s u m after d (o.value before) =
-              put-stands image s cpu m i len b d (Number (o.value before)) u after spares is
+              put-stands b d (Number (o.value before)) u after spares is
               (λ a. on.words a ∙ (ap (λ x. x.memory a) (o.done_is over_now) ∙ ap (λ n. (put_word d n over_now).memory a) value)) on.mapped in
               rw goes (
                 at_place next (settled false k (done i before) u),
@@ -153,7 +153,7 @@ module _ (image : ImageParts) (s : State) (cpu : Cpu) (m : MemoryView) (i : Inst
                     flags = on.flags ∙ (ap (λ x. x.flags) (o.done_is over_now) ∙ (flags ∙ sym (ap (λ x. x.flags) (o.done_is before))));
                     place = on.place ∙ o.next_is over_now len;
                   };
-                  memory = thread-stands image all_objects u after put.memory _;
+                  memory = thread-stands put.memory _;
                 },
               );
         }
@@ -198,7 +198,7 @@ module _ (image : ImageParts) (s : State) (cpu : Cpu) (m : MemoryView) (i : Inst
         let over_now = words_over s m in
         let agrees = agree there in
         let made : done i over_now ≡ over (word_at m) (done i wide-before) = o.alike (word_at m) (word_among (shown image) s (R Eax ∷ sources)) (words_of s 0) agrees in
-        thread-step image s cpu m i len b wide-after.thread over_now refl
+        thread-step b wide-after.thread over_now refl
         (o.effect_alike (word_at m) (word_among (shown image) s (R Eax ∷ sources)) (words_of s 0) len agrees ∙ goes)
         (ap (λ x. x.memory) made)
         (ap (λ x. x.regs) made ∙ o.others _ _ _ _ _ _ _ _ wide-before refl)
@@ -214,7 +214,7 @@ module _ (image : ImageParts) (s : State) (cpu : Cpu) (m : MemoryView) (i : Inst
         record {
           reaches = o.reaches over_now (is_mapped m) (all-reached image s m sources there);
           runs = o.runs;
-          leaves = λ ran after r. rw is (refl, stays image s cpu m i len b (step.Fault 0) ran after is refl r);
+          leaves = λ ran after r. rw is (refl, stays b (step.Fault 0) ran after is refl r);
         }
 
     -- where its operands are numbers

@@ -28,7 +28,7 @@ use Rattle.tal_image.specs.declared.parts.FunctionPart.{FunctionPart}
 use Rattle.tal_image.specs.Image.{ImageParts}
 use Rattle.tal_image.specs.Conditions.{immediate, marked_number}
 use Rattle.tal_image.specs.Shown.{spans, begun_by, shown}
-use Rattle.typed_machine.specs.Values.{Value, Number, Code, Word, all_objects}
+use Rattle.typed_machine.specs.Values.{Value, Number, Code, Word}
 use Rattle.typed_machine.specs.States.{State, places_of, at_place, with_register}
 use Rattle.typed_machine.specs.Operands.{operand_value, write_operand}
 use Rattle.typed_machine.specs.Code.{may_go}
@@ -36,7 +36,7 @@ use Rattle.typed_machine.specs.Effects.{goes_on, moves, is_number_in, addresses,
 use Rattle.typed_machine.specs.Words.{esp_of, words_of}
 use Rattle.word_machine.specs.Memory.{MemoryView, is_mapped}
 use Rattle.word_machine.proofs.Spelled.{IsNoNumber}
-use Rattle.word_machine.proofs.Grounding.{words_over, thread-stands, Begins}
+use Rattle.word_machine.proofs.Grounding.{words_over, next, thread-stands, Begins}
 use Rattle.word_machine.proofs.OperandWords.{register-written, value-there, value-word}
 use Rattle.word_machine.proofs.Putting.{PutFor, put-reached, put-stands}
 use Rattle.word_machine.proofs.Computing.{register-read}
@@ -60,28 +60,24 @@ mov-marked : (d x : Operand) (n : ℕ) → x ≡ I n → marked_number (inst.Mov
 unfolding marked_number immediate
 mov-marked d x n is = rw is refl
 
-module _ (image : ImageParts) (s : State) (cpu : Cpu) (m : MemoryView) (len : ℕ) where
-  -- where the next instruction stands
-  abbrev pub next : ℕ
-  next = next_address s.thread.place len
-
+module _ {image : ImageParts} {s : State} {cpu : Cpu} {m : MemoryView} {len : ℕ} where
   module _ (d x : Operand) (b : Begins image s cpu m (inst.Mov d x) len) where
     -- MOV of this value, which gives this state
     moved-step : (w : Value) (u : State) → operand_value (shown image) s x ≡ Some w → write_operand (shown image) s d w ≡ Some u
-        → StepOf image s m (inst.Mov d x) len (Some (goes_on next u))
+        → StepOf image s m (inst.Mov d x) len (Some (goes_on (next s len) u))
     unfolding words_of next_address
     moved-step w u value written =
         let i = inst.Mov d x in
-        let word : read_word x (words_over s m) ≡ Word (places_of s) w = value-word image s cpu m i len b x w b.plain.second (mov-marked d x) value in
+        let word : read_word x (words_over s m) ≡ Word (places_of s) w = value-word b x w b.plain.second (mov-marked d x) value in
         record {
-          reaches = (put-reached image s cpu m i len b d w u b.plain.first written, (value-there image s cpu m i len b x w b.plain.second value).reached);
+          reaches = (put-reached b d w u b.plain.first written, (value-there b x w b.plain.second value).reached);
           runs = refl;
           leaves = λ ran after r.
               let on = ran-on i len (words_over s m) m ran after refl r in
               let put : PutFor image s u m after d (Word (places_of s) w) =
-              put-stands image s cpu m i len b d w u after b.plain.first written
+              put-stands b d w u after b.plain.first written
               (λ a. on.words a ∙ ap (λ n. (put_word d n (words_over s m)).memory a) word) on.mapped in (
-                at_place next u,
+                at_place (next s len) u,
                 refl,
                 record {
                   processor = record {
@@ -89,44 +85,44 @@ module _ (image : ImageParts) (s : State) (cpu : Cpu) (m : MemoryView) (len : �
                     flags = on.flags ∙ (put-flags d (read_word x (words_over s m)) (words_over s m) ∙ sym put.flags);
                     place = on.place;
                   };
-                  memory = thread-stands image all_objects u after put.memory _;
+                  memory = thread-stands put.memory _;
                 },
               );
         }
 
     -- MOV
-    pub move-step : moves (shown image) s next d x ≢ None → StepOf image s m (inst.Mov d x) len (moves (shown image) s next d x)
+    pub move-step : moves (shown image) s (next s len) d x ≢ None → StepOf image s m (inst.Mov d x) len (moves (shown image) s (next s len) d x)
     unfolding moves
     move-step known = go (operand_value (shown image) s x) refl known
       where
-        at : (w : Value) → operand_value (shown image) s x ≡ Some w → (o : Option State) → write_operand (shown image) s d w ≡ o → option_map (goes_on next) o ≢ None
-            → StepOf image s m (inst.Mov d x) len (option_map (goes_on next) o)
+        at : (w : Value) → operand_value (shown image) s x ≡ Some w → (o : Option State) → write_operand (shown image) s d w ≡ o → option_map (goes_on (next s len)) o ≢ None
+            → StepOf image s m (inst.Mov d x) len (option_map (goes_on (next s len)) o)
         at w value None e h = absurd (h refl)
         at w value (Some u) e h = moved-step w u value e
 
-        go : (o : Option Value) → operand_value (shown image) s x ≡ o → option_map (goes_on next) (option_and_then (write_operand (shown image) s d) o) ≢ None
-            → StepOf image s m (inst.Mov d x) len (option_map (goes_on next) (option_and_then (write_operand (shown image) s d) o))
+        go : (o : Option Value) → operand_value (shown image) s x ≡ o → option_map (goes_on (next s len)) (option_and_then (write_operand (shown image) s d) o) ≢ None
+            → StepOf image s m (inst.Mov d x) len (option_map (goes_on (next s len)) (option_and_then (write_operand (shown image) s d) o))
         go None e h = absurd (h refl)
         go (Some w) e h = at w e (write_operand (shown image) s d w) refl h
 
   -- LEA
-  pub address-step : (r : Reg) (a : Mem) → Begins image s cpu m (inst.Lea (R r) (M a)) len → addresses s (inst.Lea (R r) (M a)) next r a ≢ None
-      → StepOf image s m (inst.Lea (R r) (M a)) len (addresses s (inst.Lea (R r) (M a)) next r a)
+  pub address-step : (r : Reg) (a : Mem) → Begins image s cpu m (inst.Lea (R r) (M a)) len → addresses s (inst.Lea (R r) (M a)) (next s len) r a ≢ None
+      → StepOf image s m (inst.Lea (R r) (M a)) len (addresses s (inst.Lea (R r) (M a)) (next s len) r a)
   unfolding addresses words_of next_address Word
   address-step r a b known = go (not (same r Esp)) refl (is_number_in s a.base && is_number_in s a.index) known
     where
       there : Operand → ℕ
       there x = read_word x (done (inst.Lea (R r) (M a)) (words_of s 0))
 
-      goes : not (same r Esp) ≡ true → StepOf image s m (inst.Lea (R r) (M a)) len (Some (goes_on next (with_register r (Number (there (R r))) s)))
+      goes : not (same r Esp) ≡ true → StepOf image s m (inst.Lea (R r) (M a)) len (Some (goes_on (next s len) (with_register r (Number (there (R r))) s)))
       goes e =
           let spared : same r Esp ≡ false = grind arith in
           let read : there (R r) ≡ address_of a (words_of s 0).regs = register-read s 0 (address_of a (words_of s 0).regs) r in
-          thread-step image s cpu m (inst.Lea (R r) (M a)) len b (at_place next (with_register r (Number (there (R r))) s)).thread (words_over s m) refl refl refl
+          thread-step b (at_place (next s len) (with_register r (Number (there (R r))) s)).thread (words_over s m) refl refl refl
           (rw read (register-written s (places_of s) (esp_of s) r (Number (address_of a (words_of s 0).regs)) spared)) refl refl tt refl
 
-      go : (t : Bool) → not (same r Esp) ≡ t → (u : Bool) → (if t && u then Some (goes_on next (with_register r (Number (there (R r))) s)) else None) ≢ None
-          → StepOf image s m (inst.Lea (R r) (M a)) len (if t && u then Some (goes_on next (with_register r (Number (there (R r))) s)) else None)
+      go : (t : Bool) → not (same r Esp) ≡ t → (u : Bool) → (if t && u then Some (goes_on (next s len) (with_register r (Number (there (R r))) s)) else None) ≢ None
+          → StepOf image s m (inst.Lea (R r) (M a)) len (if t && u then Some (goes_on (next s len) (with_register r (Number (there (R r))) s)) else None)
       go true e true h = goes e
       go true e false h = absurd (h refl)
       go false e u h = absurd (h refl)
@@ -138,40 +134,40 @@ module _ (image : ImageParts) (s : State) (cpu : Cpu) (m : MemoryView) (len : �
       → next_of i (words_over s m) len ≡ to → Reaches i (words_over s m) (is_mapped m) → is_system i ≡ false → StepOf image s m i len (Some (goes_on to s))
   unfolding words_of
   gone-step i to b nothing effect place reaches runs =
-      thread-step image s cpu m i len b (at_place to s).thread (words_over s m) refl effect (ap (λ k. k.memory) nothing) (ap (λ k. k.regs) nothing)
+      thread-step b (at_place to s).thread (words_over s m) refl effect (ap (λ k. k.memory) nothing) (ap (λ k. k.regs) nothing)
       (ap (λ k. k.flags) nothing) place reaches runs
 
   -- NOP
-  pub nothing-step : Begins image s cpu m inst.Nop len → StepOf image s m inst.Nop len (Some (goes_on next s))
+  pub nothing-step : Begins image s cpu m inst.Nop len → StepOf image s m inst.Nop len (Some (goes_on (next s len) s))
   unfolding words_of next_address
-  nothing-step b = gone-step inst.Nop next b refl refl refl tt refl
+  nothing-step b = gone-step inst.Nop (next s len) b refl refl refl tt refl
 
   -- JMP
-  pub jump-step : (z : ℤ) → Begins image s cpu m (inst.Jmp z) len → jumps image s (address_at next z) ≢ None
-      → StepOf image s m (inst.Jmp z) len (jumps image s (address_at next z))
+  pub jump-step : (z : ℤ) → Begins image s cpu m (inst.Jmp z) len → jumps image s (address_at (next s len) z) ≢ None
+      → StepOf image s m (inst.Jmp z) len (jumps image s (address_at (next s len) z))
   unfolding words_of next_address address_at
   jump-step z b known =
-      let may = let-in (may_go image s.thread.place (address_at next z)) (goes_on (address_at next z) s) known in
-      rw may (gone-step (inst.Jmp z) (address_at next z) b refl refl refl tt refl)
+      let may = let-in (may_go image s.thread.place (address_at (next s len) z)) (goes_on (address_at (next s len) z) s) known in
+      rw may (gone-step (inst.Jmp z) (address_at (next s len) z) b refl refl refl tt refl)
 
   -- a conditional jump
-  pub branch-step : (c : Cond) (z : ℤ) → Begins image s cpu m (inst.Jcc c z) len → branches image s next c (address_at next z) ≢ None
-      → StepOf image s m (inst.Jcc c z) len (branches image s next c (address_at next z))
+  pub branch-step : (c : Cond) (z : ℤ) → Begins image s cpu m (inst.Jcc c z) len → branches image s (next s len) c (address_at (next s len) z) ≢ None
+      → StepOf image s m (inst.Jcc c z) len (branches image s (next s len) c (address_at (next s len) z))
   unfolding words_of next_address address_at
   branch-step c z b known =
-      let may = let-in (is_known s.thread.known c && may_go image s.thread.place (address_at next z)) _ known in
-      rw may (gone-step (inst.Jcc c z) (if holds c s.thread.flags then address_at next z else next) b refl refl refl tt refl)
+      let may = let-in (is_known s.thread.known c && may_go image s.thread.place (address_at (next s len) z)) _ known in
+      rw may (gone-step (inst.Jcc c z) (if holds c s.thread.flags then address_at (next s len) z else (next s len)) b refl refl refl tt refl)
 
   -- ---- calls and returns
 
   -- CALL of an address
-  pub call-step : (z : ℤ) → Begins image s cpu m (inst.CallRel z) len → calls_to (shown image) s next (address_at next z) ≢ None
-      → StepOf image s m (inst.CallRel z) len (calls_to (shown image) s next (address_at next z))
+  pub call-step : (z : ℤ) → Begins image s cpu m (inst.CallRel z) len → calls_to (shown image) s (next s len) (address_at (next s len) z) ≢ None
+      → StepOf image s m (inst.CallRel z) len (calls_to (shown image) s (next s len) (address_at (next s len) z))
   unfolding words_of next_address address_at
   call-step z b known = record {
     reaches = tt;
     runs = refl;
-    leaves = λ ran after r. (known, refl, stays image s cpu m (inst.CallRel z) len b (step.Call (goes_far z (words_over s m) len)) ran after refl refl r);
+    leaves = λ ran after r. (known, refl, stays b (step.Call (goes_far z (words_over s m) len)) ran after refl refl r);
   }
 
   -- RET
@@ -179,7 +175,7 @@ module _ (image : ImageParts) (s : State) (cpu : Cpu) (m : MemoryView) (len : �
   return-step b known = record {
     reaches = tt;
     runs = refl;
-    leaves = λ ran after r. (known, refl, stays image s cpu m inst.Ret len b step.Return ran after refl refl r);
+    leaves = λ ran after r. (known, refl, stays b step.Return ran after refl refl r);
   }
 
 -- functions begin behind the code's first byte
@@ -219,33 +215,30 @@ function-called image s next a known = go (entry_number a) refl
     go None e = refl
     go (Some k) e = rw (begins ((shown image).function_at a) refl k e) refl
 
--- CALL of a value
-pub call_by-step : (image : ImageParts) (s : State) (cpu : Cpu) (m : MemoryView) (len : ℕ) (x : Operand) → Begins image s cpu m (inst.CallAt x) len
-    → calls_value (shown image) s (next_address s.thread.place len) (operand_value (shown image) s x) ≢ None
-    → StepOf image s m (inst.CallAt x) len (calls_value (shown image) s (next_address s.thread.place len) (operand_value (shown image) s x))
-unfolding Word
-call_by-step image s cpu m len x b known = go (operand_value (shown image) s x) refl known
-  where
-    next : ℕ
-    next = next_address s.thread.place len
+module _ {image : ImageParts} {s : State} {cpu : Cpu} {m : MemoryView} {len : ℕ} where
+  -- CALL of a value
+  pub call_by-step : (x : Operand) → Begins image s cpu m (inst.CallAt x) len → calls_value (shown image) s (next s len) (operand_value (shown image) s x) ≢ None
+      → StepOf image s m (inst.CallAt x) len (calls_value (shown image) s (next s len) (operand_value (shown image) s x))
+  unfolding Word
+  call_by-step x b known = go (operand_value (shown image) s x) refl known
+    where
+      no-number : (n : ℕ) → x ≡ I n → marked_number (inst.CallAt x) ≡ Some n
+      no-number n is = absurd (subst IsNoNumber is b.plain.1)
 
-    no-number : (n : ℕ) → x ≡ I n → marked_number (inst.CallAt x) ≡ Some n
-    no-number n is = absurd (subst IsNoNumber is b.plain.1)
+      at : (a : ℕ) → operand_value (shown image) s x ≡ Some (Code a) → calls_function (shown image) s (next s len) a ≢ None
+          → StepOf image s m (inst.CallAt x) len (calls_function (shown image) s (next s len) a)
+      at a value h =
+          let word : read_word x (words_over s m) ≡ a = value-word b x (Code a) b.plain.0 no-number value in
+          record {
+            reaches = (value-there b x (Code a) b.plain.0 value).reached;
+            runs = refl;
+            leaves = λ ran after r. (
+              h,
+              sym (function-called image s (next s len) a h) ∙ ap (calls_to (shown image) s (next s len)) (sym word),
+              stays b (step.Call (read_word x (words_over s m))) ran after refl refl r,
+            );
+          }
 
-    at : (a : ℕ) → operand_value (shown image) s x ≡ Some (Code a) → calls_function (shown image) s next a ≢ None
-        → StepOf image s m (inst.CallAt x) len (calls_function (shown image) s next a)
-    at a value h =
-        let word : read_word x (words_over s m) ≡ a = value-word image s cpu m (inst.CallAt x) len b x (Code a) b.plain.0 no-number value in
-        record {
-          reaches = (value-there image s cpu m (inst.CallAt x) len b x (Code a) b.plain.0 value).reached;
-          runs = refl;
-          leaves = λ ran after r. (
-            h,
-            sym (function-called image s next a h) ∙ ap (calls_to (shown image) s next) (sym word),
-            stays image s cpu m (inst.CallAt x) len b (step.Call (read_word x (words_over s m))) ran after refl refl r,
-          );
-        }
-
-    go : (o : Option Value) → operand_value (shown image) s x ≡ o → calls_value (shown image) s next o ≢ None → StepOf image s m (inst.CallAt x) len (calls_value (shown image) s next o)
-    go (Some (Code a)) e h = at a e h
-    go o e h = absurd (h refl)
+      go : (o : Option Value) → operand_value (shown image) s x ≡ o → calls_value (shown image) s (next s len) o ≢ None → StepOf image s m (inst.CallAt x) len (calls_value (shown image) s (next s len) o)
+      go (Some (Code a)) e h = at a e h
+      go o e h = absurd (h refl)

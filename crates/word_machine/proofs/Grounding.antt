@@ -2,9 +2,8 @@
 -- no word or one word changes.
 use Rattle.std.specs.Prelude.{◌==◌, is_some, if◌then◌else◌}
 use Rattle.std.specs.Option.{option_map_or}
-use Rattle.std.proofs.Common.{◌≡◌, ◌≢◌, ℕ, ◌<◌, ◌≤◌, Bool, true, false, length, Option, Some, None, refl, sym, ap, ◌∙◌, arith}
+use Rattle.std.proofs.Common.{◌≡◌, ◌≢◌, ℕ, ◌<◌, Bool, true, false, Option, Some, None, refl, sym, ap, ◌∙◌, arith}
 use Rattle.std.proofs.lemmas.Bool.Decides.{nat_tests}
-use Rattle.std.proofs.lemmas.Option.{slice_get_within}
 use Rattle.ia32_code.specs.declared.instruction.Inst.{Inst}
 use Rattle.ia32_code.specs.Canonical.{Canonical}
 use Rattle.ia32_step.specs.declared.cpu.Cpu.{Cpu}
@@ -23,6 +22,7 @@ use Rattle.word_machine.specs.Standing.{values_at, CpuStands, MemoryStands}
 use Rattle.word_machine.specs.Following.{Grounds, StandsAt}
 use Rattle.word_machine.specs.Laws.{Written}
 use Rattle.word_machine.specs.Stepping.{StepLaws}
+use Rattle.word_machine.proofs.Bounds.{few-stacks, runs-there}
 use Rattle.word_machine.proofs.Spelled.{IsPlain, Canonical-plain}
 use Rattle.word_machine.proofs.Operating.{over}
 
@@ -31,6 +31,10 @@ use Rattle.word_machine.proofs.Operating.{over}
 -- those of a state, over a memory
 abbrev pub words_over : State → MemoryView → WordState
 words_over s m = over (word_at m) (words_of s 0)
+
+-- where the next instruction stands
+abbrev pub next : State → ℕ → ℕ
+next s len = next_address s.thread.place len
 
 -- a processor that stands for a state works on the words of that state
 pub held : (s : State) (cpu : Cpu) (m : MemoryView) → CpuStands s cpu → state_of cpu (word_at m) ≡ words_over s m
@@ -73,7 +77,7 @@ written-told m after a w here words mapped b = go (b == a) refl (words b)
     go true e h = let same : b ≡ a = grind (arith, nat_tests) in told after b w (mapped b ∙ ap (is_mapped m) same ∙ here) h
     go false e h = told-same m after b (mapped b) h
 
-module _ (image : ImageParts) (live : ℕ → Bool) (s : State) (m : MemoryView) (h : MemoryStands image live s m) where
+module _ {image : ImageParts} {live : ℕ → Bool} {s : State} {m : MemoryView} (h : MemoryStands image live s m) where
   -- the memory stands for the state, whatever its thread
   pub thread-stands : (t : Thread) → MemoryStands image live (record s { thread = t }) m
   unfolding values_at
@@ -142,15 +146,6 @@ begins image s cpu m i len laws spelled at =
       known = rw (same.0, same.1) at effect;
     }
 
-module _ (image : ImageParts) (s : State) (cpu : Cpu) (m : MemoryView) (g : Grounds image all_objects s cpu m) where
-  -- there are 64 stacks at most, and the running one is one of them
-  pub few-stacks : s.current < 64
-  few-stacks =
-      let within = slice_get_within s.stacks s.current _ g.typed.one in
-      let stacks : length s.stacks ≡ image.stacks = g.typed.count in
-      let limit : image.stacks ≤ 64 = let fits = g.well_typed.formed.condition_2 in grind (arith, nat_tests) in
-      omega (arith, within, stacks, limit)
-
-  -- it has 4096 values at most
-  pub few-values : length s.values ≤ 4096
-  few-values = g.typed.thread.room
+-- the running stack is one of 64
+pub current-few : {image : ImageParts} {s : State} {cpu : Cpu} {m : MemoryView} → Grounds image all_objects s cpu m → s.current < 64
+current-few g = let stacks = few-stacks g in let runs = runs-there g in omega (arith, stacks, runs)

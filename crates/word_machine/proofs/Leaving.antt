@@ -52,7 +52,7 @@ pub record StepOf (image : ImageParts) (s : State) (m : MemoryView) (i : Inst) (
   pub leaves : (cpu : Cpu) (after : MemoryView) → Ran i len (words_over s m) m cpu after
       → Left image s (next_address s.thread.place len) (effect_of i (words_over s m) len) e cpu after
 
-module _ (image : ImageParts) (s : State) (cpu : Cpu) (m : MemoryView) (i : Inst) (len : ℕ) (b : Begins image s cpu m i len) where
+module _ {image : ImageParts} {s : State} {cpu : Cpu} {m : MemoryView} {i : Inst} {len : ℕ} (b : Begins image s cpu m i len) where
   -- where something is left to the caller, the words stand where they stood
   pub stays : (e : StepEffect) (ran : Cpu) (after : MemoryView) → effect_of i (words_over s m) len ≡ e
       → moved e (words_over s m) (record (done i (words_over s m)) { pc = next_of i (words_over s m) len }) ≡ words_over s m
@@ -62,7 +62,7 @@ module _ (image : ImageParts) (s : State) (cpu : Cpu) (m : MemoryView) (i : Inst
       let all : ran_to i len (words_over s m) ≡ words_over s m = rw is same in
       record {
         processor = record { regs = r.regs ∙ ap (λ k. k.regs) all; flags = r.flags ∙ ap (λ k. k.flags) all; place = r.place ∙ ap (λ k. k.pc) all };
-        memory = same-stands image all_objects s m b.grounds.stand.memory after
+        memory = same-stands b.grounds.stand.memory after
             (λ a. told-same m after a (r.mapped a) (r.words a ∙ ap (λ k. k.memory a) all));
       }
 
@@ -70,8 +70,7 @@ module _ (image : ImageParts) (s : State) (cpu : Cpu) (m : MemoryView) (i : Inst
   pub memory-stays : (t : Thread) (after : MemoryView) → ((a : ℕ) → word_at after a ≡ word_at m a) → ((a : ℕ) → is_mapped after a ≡ is_mapped m a)
       → MemoryStands image all_objects (record s { thread = t }) after
   memory-stays t after words mapped =
-      thread-stands image all_objects s after
-      (same-stands image all_objects s m b.grounds.stand.memory after (λ a. told-same m after a (mapped a) (words a))) t
+      thread-stands (same-stands b.grounds.stand.memory after (λ a. told-same m after a (mapped a) (words a))) t
 
   -- an instruction that changes the thread alone
   pub thread-step : (t : Thread) (before : WordState) → before ≡ words_over s m → effect_of i before len ≡ step.Next → (done i before).memory ≡ before.memory

@@ -22,20 +22,15 @@ use Rattle.tal_image.specs.Shown.{shown}
 use Rattle.typed_machine.specs.Values.{Value, Number, Word, all_objects}
 use Rattle.typed_machine.specs.States.{State, places_of, with_register}
 use Rattle.typed_machine.specs.Operands.{Spot, AtStatic, AtSlot, AtValue, AtLength, AtHead, AtMethod, AtDisplay, spot_of, read_spot, spot_word, marked_value, immediate_value, operand_value, word_named, is_memory, word_among, number_in, is_number}
-use Rattle.typed_machine.specs.Words.{register_words, words_of}
+use Rattle.typed_machine.specs.Words.{register_words, esp_of, words_of}
 use Rattle.word_machine.specs.Memory.{MemoryView, word_of, is_mapped, word_at}
 use Rattle.word_machine.specs.Laws.{SpotLives}
+use Rattle.word_machine.proofs.Spots.{register-word}
 use Rattle.word_machine.proofs.Spelled.{SparesIndex}
-use Rattle.word_machine.proofs.Operating.{Agrees, AllReached, over}
+use Rattle.word_machine.proofs.Operating.{Agrees, AllReached}
 use Rattle.word_machine.proofs.Grounding.{words_over, there, Begins}
 
 -- ---- registers
-
--- the word of a register other than ESP is its value's
-pub register-word : (s : State) (f : ℕ → ℕ) (r : Reg) → same r Esp ≡ false → read_word (R r) (over f (words_of s 0)) ≡ Word (places_of s) (s.thread.regs r)
-unfolding words_of same
-register-word s f Esp h = absurd (cc)
-register-word s f r h = refl
 
 -- a write of a value's word is a write of the value
 pub register-written : (s : State) (places : List ℕ) (esp : ℕ) (r : Reg) (v : Value) → same r Esp ≡ false
@@ -93,7 +88,7 @@ pub all-reached : (image : ImageParts) (s : State) (m : MemoryView) (xs : List O
 all-reached image s m [] h = tt
 all-reached image s m (x ∷ xs) h = (h.0.reached, all-reached image s m xs h.1)
 
-module _ (image : ImageParts) (s : State) (cpu : Cpu) (m : MemoryView) (i : Inst) (len : ℕ) (b : Begins image s cpu m i len) where
+module _ {image : ImageParts} {s : State} {cpu : Cpu} {m : MemoryView} {i : Inst} {len : ℕ} (b : Begins image s cpu m i len) where
   -- the word at an operand's spot stands at its address
   pub spot-read : (x : Mem) → SparesIndex (M x) → (spot : Spot) (w : ℕ) → spot_of (shown image).shapes s x ≡ Some spot → spot_word (shown image).shapes s spot ≡ Some w
       → word_of m (address_of x (words_over s m).regs) ≡ Some w
@@ -147,12 +142,12 @@ module _ (image : ImageParts) (s : State) (cpu : Cpu) (m : MemoryView) (i : Inst
   -- the word of an operand is its value's, where an immediate may be marked
   pub value-word : (x : Operand) (v : Value) → SparesIndex x → ((n : ℕ) → x ≡ I n → marked_number i ≡ Some n) → operand_value (shown image) s x ≡ Some v
       → read_word x (words_over s m) ≡ Word (places_of s) v
-  unfolding operand_value
+  unfolding operand_value words_of
   value-word (R r) v spares marks e = go (same r Esp) refl e
     where
       go : (t : Bool) → same r Esp ≡ t → (if t then None else Some (s.thread.regs r)) ≡ Some v → read_word (R r) (words_over s m) ≡ Word (places_of s) v
       go true f g = absurd (cc)
-      go false f g = let is : s.thread.regs r ≡ v = cc in register-word s (word_at m) r f ∙ ap (Word (places_of s)) is
+      go false f g = let is : s.thread.regs r ≡ v = cc in register-word (places_of s) s.thread.regs (esp_of s) r f ∙ ap (Word (places_of s)) is
   value-word (M x) v spares marks e = memory-word x v spares e
   value-word (I n) v spares marks e = let is : immediate_value (shown image) s.thread.place n ≡ v = cc in sym (immediate-word n (marks n refl)) ∙ ap (Word (places_of s)) is
 

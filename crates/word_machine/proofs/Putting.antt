@@ -1,11 +1,10 @@
 -- What is written to a destination: the word of its new value, where it points, and nothing else.
 use Rattle.std.specs.Prelude.{nat_lt, slice_get, slice_set, not, if◌then◌else◌}
 use Rattle.std.specs.Option.{option_map, option_and_then}
-use Rattle.std.proofs.Common.{◌≡◌, ◌≢◌, ℕ, ◌<◌, ◌≤◌, zero, suc, Bool, true, false, List, [], ◌∷◌, length, Option, Some, None, refl, sym, ap, subst, ◌∙◌, arith}
+use Rattle.std.proofs.Common.{◌≡◌, ℕ, ◌<◌, Bool, true, false, List, [], ◌∷◌, length, Option, Some, None, refl, sym, ap, subst, ◌∙◌, arith}
 use Rattle.std.proofs.lemmas.Bool.Decides.{nat_tests}
 use Rattle.std.proofs.lemmas.List.{length-set}
 use Rattle.std.proofs.lemmas.Option.{slice_get_within, slice_get-get_or, slice_get-map}
-use Rattle.ia32_code.specs.declared.instruction.Reg.{Reg}
 use Rattle.ia32_code.specs.declared.instruction.Reg.TheVariants.{Esp}
 use Rattle.ia32_code.specs.declared.instruction.Mem.{Mem}
 use Rattle.ia32_code.specs.declared.instruction.Operand.{Operand}
@@ -14,19 +13,20 @@ use Rattle.ia32_code.specs.declared.instruction.Inst.{Inst}
 use Rattle.ia32_step.specs.declared.cpu.Cpu.{Cpu}
 use Rattle.ia32_step.specs.Operands.{address_of, put_word}
 use Rattle.object_layout.specs.declared.rows.FieldTy.{FieldTy}
-use Rattle.object_layout.specs.Areas.{statics_start, word_index}
 use Rattle.object_layout.specs.Classes.{ShapesView, Fields, Element}
 use Rattle.tal_types.specs.Contexts.{same}
 use Rattle.tal_types.specs.Shown.{ShownImage}
 use Rattle.tal_image.specs.Image.{ImageParts}
 use Rattle.tal_image.specs.Shown.{shown}
 use Rattle.typed_machine.specs.Values.{Value, ObjectShape, InstanceOf, ArrayOf, Word, all_objects}
-use Rattle.typed_machine.specs.Stores.{Object, Store, places_in, value_type, value_count, value_at, set_value}
+use Rattle.typed_machine.specs.Stores.{Object, value_type, value_count, value_at}
 use Rattle.typed_machine.specs.States.{State, places_of, with_register}
-use Rattle.typed_machine.specs.Operands.{Spot, AtStatic, AtSlot, AtValue, AtLength, AtHead, AtMethod, AtDisplay, slot_count, spot_if, static_spot, slot_spot, object_spot, element_spot, table_spot, based_spot, stack_spot, located_spot, spot_of, read_spot, spot_word, may_hold, type_there, provided, write_spot, write_operand}
+use Rattle.typed_machine.specs.Operands.{Spot, AtStatic, AtSlot, AtValue, AtLength, AtHead, AtMethod, AtDisplay, spot_of, read_spot, spot_word, may_hold, type_there, provided, write_spot, write_operand}
 use Rattle.typed_machine.specs.Words.{stack_pointer, register_words, esp_of, words_of}
 use Rattle.word_machine.specs.Memory.{MemoryView, is_mapped, word_at}
 use Rattle.word_machine.specs.Standing.{MemoryStands}
+use Rattle.word_machine.proofs.Spots.{spot-address}
+use Rattle.word_machine.proofs.Objects.{places-set}
 use Rattle.word_machine.proofs.Spelled.{SparesIndex}
 use Rattle.word_machine.proofs.Grounding.{words_over, told-same, written-told, thread-stands, same-stands, Begins}
 use Rattle.word_machine.proofs.OperandWords.{register-written, spot-lives, spot-value_word, spot-there}
@@ -36,58 +36,6 @@ use Rattle.ia32_step.specs.Reaches.{IsReached}
 pub provided-is : (t : Bool) (s u : State) → provided t s ≡ Some u → (t ≡ true) × (s ≡ u)
 provided-is true s u h = (refl, cc)
 provided-is false s u h = absurd (cc)
-
--- ---- slots are on the stack
-
--- the slots are among the values
-slots-few : (vs : List Value) → slot_count vs ≤ length vs
-unfolding slot_count
-slots-few [] = omega arith
-slots-few (v ∷ vs) = let e = slots-few vs in grind (arith, e)
-
--- a number that passes a test as another kind of spot is no slot
-no-slot : (test : ℕ → Bool) (spot : ℕ → Spot) (i : ℕ) → ((k : ℕ) → spot k ≢ AtSlot i) → (o : Option ℕ) → spot_if test spot o ≢ Some (AtSlot i)
-no-slot test spot i other None h = absurd (cc)
-no-slot test spot i other (Some k) h = go (test k) h
-  where
-    go : (t : Bool) → (if t then Some (spot k) else None) ≢ Some (AtSlot i)
-    go true e = other k (cc)
-    go false e = absurd (cc)
-
--- a slot that passes its test is on the stack
-slot-inside : (s : State) (i : ℕ) (o : Option ℕ) → spot_if (λ k. nat_lt k (slot_count s.values)) AtSlot o ≡ Some (AtSlot i) → i < length s.values
-slot-inside s i None h = absurd (cc)
-slot-inside s i (Some k) h = go (nat_lt k (slot_count s.values)) refl h
-  where
-    go : (t : Bool) → nat_lt k (slot_count s.values) ≡ t → (if t then Some (AtSlot k) else None) ≡ Some (AtSlot i) → i < length s.values
-    go true e g = let is : k ≡ i = cc in let few = slots-few s.values in grind (arith, nat_tests)
-    go false e g = absurd (cc)
-
--- a base that is a value points to no slot
-based-no_slot : (v : ShapesView) (s : State) (w : Value) (x : Option Reg) (scale disp i : ℕ) → based_spot v s w x scale disp ≢ Some (AtSlot i)
-unfolding object_spot element_spot table_spot
-based-no_slot v s w x scale disp i h = absurd (grind arith)
-
--- a slot is on the stack
-pub slot-there : (v : ShapesView) (s : State) (x : Mem) (i : ℕ) → spot_of v s x ≡ Some (AtSlot i) → i < length s.values
-unfolding spot_of static_spot slot_spot
-slot-there v s x i h = go x.base x.index h
-  where
-    static : (disp : ℕ) → static_spot s disp ≡ Some (AtSlot i) → i < length s.values
-    static disp e = absurd (no-slot (λ j. nat_lt j (length s.statics)) AtStatic i (λ k f. absurd (cc)) (word_index statics_start disp) e)
-
-    slot : (disp : ℕ) → slot_spot s disp ≡ Some (AtSlot i) → i < length s.values
-    slot disp e = slot-inside s i (word_index 0 disp) e
-
-    at : (r : Reg) (y : Option Reg) (t : Bool) → (if t then stack_spot s y x.disp else based_spot v s (s.thread.regs r) y x.scale x.disp) ≡ Some (AtSlot i) → i < length s.values
-    at r None true e = slot x.disp e
-    at r (Some q) true e = absurd (cc)
-    at r y false e = absurd (based-no_slot v s (s.thread.regs r) y x.scale x.disp i e)
-
-    go : (b y : Option Reg) → located_spot v s b y x.scale x.disp ≡ Some (AtSlot i) → i < length s.values
-    go None None e = static x.disp e
-    go None (Some q) e = absurd (cc)
-    go (Some r) y e = at r y (same r Esp) e
 
 -- ---- what is written has a word
 
@@ -111,7 +59,7 @@ typed-inside v (ArrayOf k n) j t h = go (nat_lt j n) refl h
     go true e g = grind (arith, nat_tests)
     go false e g = absurd (cc)
 
-module _ (image : ImageParts) (s : State) (cpu : Cpu) (m : MemoryView) (i : Inst) (len : ℕ) (b : Begins image s cpu m i len) where
+module _ {image : ImageParts} {s : State} {cpu : Cpu} {m : MemoryView} {i : Inst} {len : ℕ} (b : Begins image s cpu m i len) where
   -- a value of an object, whose type is there
   value-inside : (o j : ℕ) (t : FieldTy) → type_there (shown image) s o j ≡ Some t → (w : Value) × (value_at s.store o j ≡ Some w)
   unfolding value_at
@@ -127,25 +75,25 @@ module _ (image : ImageParts) (s : State) (cpu : Cpu) (m : MemoryView) (i : Inst
           inside y.values j (rw count few)
 
   -- a spot that is written has a word
-  pub written-there : (x : Mem) (spot : Spot) (w : Value) (u : State) → spot_of (shown image).shapes s x ≡ Some spot → write_spot (shown image) s spot w ≡ Some u
+  pub written-there : (x : Mem) → SparesIndex (M x) → (spot : Spot) (w : Value) (u : State) → spot_of (shown image).shapes s x ≡ Some spot → write_spot (shown image) s spot w ≡ Some u
       → (n : ℕ) × (spot_word (shown image).shapes s spot ≡ Some n)
   unfolding write_spot read_spot shown
-  written-there x (AtStatic j) w u e h =
+  written-there x spares (AtStatic j) w u e h =
       let held = held-type (shown image) s _ w (provided-is _ _ u h).0 in
       let few = slice_get_within image.statics j held.0 held.1 in
       let at = inside s.statics j (rw b.grounds.typed.statics.count few) in
       (_, spot-value_word (shown image).shapes s (AtStatic j) at.0 at.1)
-  written-there x (AtSlot k) w u e h =
-      let at = inside s.values k (slot-there (shown image).shapes s x k e) in
+  written-there x spares (AtSlot k) w u e h =
+      let at = inside s.values k (spot-address (shown image).shapes s (AtSlot k) cpu b.grounds.stand.processor x spares e).1 in
       (_, spot-value_word (shown image).shapes s (AtSlot k) at.0 at.1)
-  written-there x (AtValue o j) w u e h =
+  written-there x spares (AtValue o j) w u e h =
       let held = held-type (shown image) s (type_there (shown image) s o j) w (provided-is _ _ u h).0 in
       let at = value-inside o j held.0 held.1 in
       (_, spot-value_word (shown image).shapes s (AtValue o j) at.0 at.1)
-  written-there x (AtLength o) w u e h = absurd (cc)
-  written-there x (AtHead o) w u e h = absurd (cc)
-  written-there x (AtMethod c k) w u e h = absurd (cc)
-  written-there x (AtDisplay c d) w u e h = absurd (cc)
+  written-there x spares (AtLength o) w u e h = absurd (cc)
+  written-there x spares (AtHead o) w u e h = absurd (cc)
+  written-there x spares (AtMethod c k) w u e h = absurd (cc)
+  written-there x spares (AtDisplay c d) w u e h = absurd (cc)
 
 -- ---- what a write leaves
 
@@ -155,12 +103,6 @@ record Leaves (s u : State) : Type 0 where
   pub places : places_of u ≡ places_of s
   pub top : esp_of u ≡ esp_of s
 
--- an object keeps its place
-places-stay : (store : Store) (i j : ℕ) (w : Value) → places_in (set_value store i j w) ≡ places_in store
-places-stay [] i j w = refl
-places-stay (o ∷ os) zero j w = refl
-places-stay (o ∷ os) (suc i) j w = ap (λ places. o.place ∷ places) (places-stay os i j w)
-
 -- so it is at each spot
 write-leaves : (v : ShownImage) (s : State) (spot : Spot) (w : Value) (u : State) → write_spot v s spot w ≡ Some u → Leaves s u
 unfolding write_spot
@@ -168,7 +110,7 @@ write-leaves v s (AtStatic j) w u h = subst (Leaves s) (provided-is _ _ u h).1 (
 write-leaves v s (AtSlot i) w u h =
     let is : record s { values = slice_set s.values i w } ≡ u = cc in
     subst (Leaves s) is (record { thread = refl; places = refl; top = ap (stack_pointer s.current) (length-set s.values i w) })
-write-leaves v s (AtValue i j) w u h = subst (Leaves s) (provided-is _ _ u h).1 (record { thread = refl; places = places-stay s.store i j w; top = refl })
+write-leaves v s (AtValue i j) w u h = subst (Leaves s) (provided-is _ _ u h).1 (record { thread = refl; places = places-set s.store i j w; top = refl })
 write-leaves v s (AtLength i) w u h = absurd (cc)
 write-leaves v s (AtHead i) w u h = absurd (cc)
 write-leaves v s (AtMethod c m) w u h = absurd (cc)
@@ -180,7 +122,7 @@ pub record PutFor (image : ImageParts) (s u : State) (m after : MemoryView) (d :
   pub flags : u.thread.flags ≡ s.thread.flags
   pub memory : MemoryStands image all_objects u after
 
-module _ (image : ImageParts) (s : State) (cpu : Cpu) (m : MemoryView) (i : Inst) (len : ℕ) (b : Begins image s cpu m i len) where
+module _ {image : ImageParts} {s : State} {cpu : Cpu} {m : MemoryView} {i : Inst} {len : ℕ} (b : Begins image s cpu m i len) where
   -- a destination that is written names a word that is mapped
   pub put-reached : (d : Operand) (w : Value) (u : State) → SparesIndex d → write_operand (shown image) s d w ≡ Some u → IsReached d (words_over s m) (is_mapped m)
   unfolding write_operand
@@ -192,8 +134,8 @@ module _ (image : ImageParts) (s : State) (cpu : Cpu) (m : MemoryView) (i : Inst
           → IsReached (M x) (words_over s m) (is_mapped m)
       go None e g = absurd (cc)
       go (Some spot) e g =
-          let word = written-there image s cpu m i len b x spot w u e g in
-          (spot-there image s cpu m i len b x spares spot word.0 e word.1).reached
+          let word = written-there b x spares spot w u e g in
+          (spot-there b x spares spot word.0 e word.1).reached
 
   -- where the word of a value is put, the words stand for the state with the value there
   pub put-stands : (d : Operand) (w : Value) (u : State) (after : MemoryView) → SparesIndex d → write_operand (shown image) s d w ≡ Some u
@@ -204,11 +146,11 @@ module _ (image : ImageParts) (s : State) (cpu : Cpu) (m : MemoryView) (i : Inst
   put-stands (R r) w u after spares h words mapped =
       let through = provided-is (not (same r Esp)) (with_register r w s) u h in
       let spared : same r Esp ≡ false = let t = through.0 in grind arith in
-      let kept = same-stands image all_objects s m b.grounds.stand.memory after (λ a. told-same m after a (mapped a) (words a)) in
+      let kept = same-stands b.grounds.stand.memory after (λ a. told-same m after a (mapped a) (words a)) in
       subst (λ y. PutFor image s y m after (R r) (Word (places_of s) w)) through.1 (record {
         regs = register-written s (places_of s) (esp_of s) r w spared;
         flags = refl;
-        memory = thread-stands image all_objects s after kept _;
+        memory = thread-stands kept _;
       })
   put-stands (M x) w u after spares h words mapped = go (spot_of (shown image).shapes s x) refl h
     where
@@ -217,8 +159,8 @@ module _ (image : ImageParts) (s : State) (cpu : Cpu) (m : MemoryView) (i : Inst
       go None e g = absurd (cc)
       go (Some spot) e g =
           let left = write-leaves (shown image) s spot w u g in
-          let word = written-there image s cpu m i len b x spot w u e g in
-          let at = (spot-there image s cpu m i len b x spares spot word.0 e word.1).reached in
+          let word = written-there b x spares spot w u e g in
+          let at = (spot-there b x spares spot word.0 e word.1).reached in
           let written = written-told m after (address_of x (words_over s m).regs) (Word (places_of s) w) at words mapped in
           record {
             regs = rw (left.places, left.thread, left.top) refl;

@@ -74,7 +74,7 @@ slots-there (Ret a ∷ vs) = omega arith
 slots-there (v ∷ vs) = let more = slots-there vs in omega arith
 
 -- a register that is not ESP has its value's word
-register-word : (places : List ℕ) (regs : Reg → Value) (esp : ℕ) (r : Reg) → same r Esp ≡ false
+pub register-word : (places : List ℕ) (regs : Reg → Value) (esp : ℕ) (r : Reg) → same r Esp ≡ false
     → slice_index (register_words places regs esp) (number r) ≡ Word places (regs r)
 unfolding same
 register-word places regs esp Esp h = absurd cc

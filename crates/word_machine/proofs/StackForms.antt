@@ -29,7 +29,7 @@ use Rattle.typed_machine.specs.Words.{stack_pointer, register_words, esp_of, wor
 use Rattle.word_machine.specs.Memory.{MemoryView}
 use Rattle.word_machine.specs.Standing.{MemoryStands}
 use Rattle.word_machine.specs.Laws.{Written, PushLaw, DropLaw}
-use Rattle.word_machine.proofs.Grounding.{words_over, there, told-same, written-told, thread-stands, same-stands, Begins, few-stacks, few-values}
+use Rattle.word_machine.proofs.Grounding.{words_over, next, there, told-same, written-told, thread-stands, same-stands, Begins, current-few}
 use Rattle.word_machine.proofs.OperandWords.{register-written, value-there, value-word}
 use Rattle.word_machine.proofs.Forms.{let-in}
 use Rattle.word_machine.proofs.Leaving.{ran-on, StepOf}
@@ -59,52 +59,49 @@ push-marked : (x : Operand) (n : ℕ) → x ≡ I n → marked_number (inst.Push
 unfolding marked_number immediate
 push-marked x n is = rw is refl
 
-module _ (image : ImageParts) (s : State) (cpu : Cpu) (m : MemoryView) (len : ℕ) where
-  abbrev next : ℕ
-  next = next_address s.thread.place len
-
+module _ {image : ImageParts} {s : State} {cpu : Cpu} {m : MemoryView} {len : ℕ} where
   -- PUSH of this value, where there is room
   pushed-step : (x : Operand) (w : Value) → Begins image s cpu m (inst.Push x) len → length s.values < most_values → operand_value (shown image) s x ≡ Some w
-      → StepOf image s m (inst.Push x) len (Some (goes_on next (with_values (w ∷ s.values) s)))
+      → StepOf image s m (inst.Push x) len (Some (goes_on (next s len) (with_values (w ∷ s.values) s)))
   unfolding words_of next_address
   pushed-step x w b room value =
       let i = inst.Push x in
       let g = b.grounds in
       let law : PushLaw image all_objects s m = b.laws.pushes image all_objects s cpu m g room in
-      let word : read_word x (words_over s m) ≡ Word (places_of s) w = value-word image s cpu m i len b x w b.plain (push-marked x) value in
-      let under = below-top s.current (length s.values) (few-stacks image s cpu m g) room in
+      let word : read_word x (words_over s m) ≡ Word (places_of s) w = value-word b x w b.plain (push-marked x) value in
+      let under = below-top s.current (length s.values) (current-few g) room in
       let low : below_top (words_over s m) ≡ esp_of s - 4 = under.0 in
       record {
-        reaches = ((value-there image s cpu m i len b x w b.plain value).reached, rw low law.there);
+        reaches = ((value-there b x w b.plain value).reached, rw low law.there);
         runs = refl;
         leaves = λ ran after r.
             let on = ran-on i len (words_over s m) m ran after refl r in
             let written : Written m after (esp_of s - 4) (Word (places_of s) w) =
             written-told m after (esp_of s - 4) (Word (places_of s) w) law.there (λ a. rw (low, word) at (on.words a)) on.mapped in (
-              at_place next (with_values (w ∷ s.values) s),
+              at_place (next s len) (with_values (w ∷ s.values) s),
               refl,
               record {
                 processor = record { regs = rw (low, under.1) at on.regs; flags = on.flags; place = on.place };
-                memory = thread-stands image all_objects (with_values (w ∷ s.values) s) after (law.pushed w after written) _;
+                memory = thread-stands (law.pushed w after written) _;
               },
             );
       }
 
   -- PUSH, where there is room
   pub push-step : (x : Operand) → Begins image s cpu m (inst.Push x) len → length s.values < most_values
-      → option_map (λ w. pushes next w s) (operand_value (shown image) s x) ≢ None
-      → StepOf image s m (inst.Push x) len (option_map (λ w. pushes next w s) (operand_value (shown image) s x))
+      → option_map (λ w. pushes (next s len) w s) (operand_value (shown image) s x) ≢ None
+      → StepOf image s m (inst.Push x) len (option_map (λ w. pushes (next s len) w s) (operand_value (shown image) s x))
   unfolding pushes
   push-step x b room known = go (operand_value (shown image) s x) refl known
     where
-      go : (o : Option Value) → operand_value (shown image) s x ≡ o → option_map (λ w. pushes next w s) o ≢ None
-          → StepOf image s m (inst.Push x) len (option_map (λ w. pushes next w s) o)
+      go : (o : Option Value) → operand_value (shown image) s x ≡ o → option_map (λ w. pushes (next s len) w s) o ≢ None
+          → StepOf image s m (inst.Push x) len (option_map (λ w. pushes (next s len) w s) o)
       go None e h = absurd (h refl)
       go (Some w) e h = rw (not-full s room) (pushed-step x w b room e)
 
   -- POP of this value
   popped-step : (r : Reg) (w : Value) (vs : List Value) → Begins image s cpu m (inst.Pop r) len → s.values ≡ w ∷ vs → same r Esp ≡ false
-      → StepOf image s m (inst.Pop r) len (Some (goes_on next (with_register r w (with_values vs s))))
+      → StepOf image s m (inst.Pop r) len (Some (goes_on (next s len) (with_register r w (with_values vs s))))
   unfolding words_of next_address
   popped-step r w vs b values spared =
       let i = inst.Pop r in
@@ -113,15 +110,15 @@ module _ (image : ImageParts) (s : State) (cpu : Cpu) (m : MemoryView) (len : �
       let depth : length s.values ≡ suc (length vs) = ap length values in
       let at = there m (esp_of s) (Word (places_of s) w) (law.top w vs values) in
       let up : (esp_of s + 4) % 2 ^ 32 ≡ stack_pointer s.current (length vs) =
-      let few = few-stacks image s cpu m g in let room = few-values image s cpu m g in omega (arith, few, room, depth) in
+      let few = current-few g in let room = g.typed.thread.room in omega (arith, few, room, depth) in
       let left : MemoryStands image all_objects (with_values vs s) m = rw values at (law.dropped 1 (omega (arith, depth))) in
       record {
         reaches = at.0;
         runs = refl;
         leaves = λ ran after r'.
             let on = ran-on i len (words_over s m) m ran after refl r' in
-            let kept = same-stands image all_objects (with_values vs s) m left after (λ a. told-same m after a (on.mapped a) (on.words a)) in (
-              at_place next (with_register r w (with_values vs s)),
+            let kept = same-stands left after (λ a. told-same m after a (on.mapped a) (on.words a)) in (
+              at_place (next s len) (with_register r w (with_values vs s)),
               refl,
               record {
                 processor = record {
@@ -129,22 +126,22 @@ module _ (image : ImageParts) (s : State) (cpu : Cpu) (m : MemoryView) (len : �
                   flags = on.flags;
                   place = on.place;
                 };
-                memory = thread-stands image all_objects (with_values vs s) after kept _;
+                memory = thread-stands kept _;
               },
             );
       }
 
   -- POP
-  pub pop-step : (r : Reg) → Begins image s cpu m (inst.Pop r) len → pops next r s.values s ≢ None → StepOf image s m (inst.Pop r) len (pops next r s.values s)
+  pub pop-step : (r : Reg) → Begins image s cpu m (inst.Pop r) len → pops (next s len) r s.values s ≢ None → StepOf image s m (inst.Pop r) len (pops (next s len) r s.values s)
   pop-step r b known = go s.values refl known
     where
       at : (w : Value) (vs : List Value) → s.values ≡ w ∷ vs
-          → (t : Bool) → same r Esp ≡ t → (if t then None else Some (goes_on next (with_register r w (with_values vs s)))) ≢ None
-          → StepOf image s m (inst.Pop r) len (if t then None else Some (goes_on next (with_register r w (with_values vs s))))
+          → (t : Bool) → same r Esp ≡ t → (if t then None else Some (goes_on (next s len) (with_register r w (with_values vs s)))) ≢ None
+          → StepOf image s m (inst.Pop r) len (if t then None else Some (goes_on (next s len) (with_register r w (with_values vs s))))
       at w vs values true e h = absurd (h refl)
       at w vs values false e h = popped-step r w vs b values e
 
-      go : (vs : List Value) → s.values ≡ vs → pops next r vs s ≢ None → StepOf image s m (inst.Pop r) len (pops next r vs s)
+      go : (vs : List Value) → s.values ≡ vs → pops (next s len) r vs s ≢ None → StepOf image s m (inst.Pop r) len (pops (next s len) r vs s)
       go [] values h = absurd (h refl)
       go (Ret a ∷ vs) values h = absurd (h refl)
       go (w ∷ vs) values h = at w vs values (same r Esp) refl h
@@ -168,11 +165,11 @@ slots-bytes bytes k h = go (nat_le 0 bytes && ((bytes - 0) % 4 == 0)) refl h
         omega (arith, whole, slots)
     go false e f = absurd (cc)
 
-module _ (image : ImageParts) (s : State) (cpu : Cpu) (m : MemoryView) (len : ℕ) where
+module _ {image : ImageParts} {s : State} {cpu : Cpu} {m : MemoryView} {len : ℕ} where
   -- ADD to ESP of so many slots
   dropped-step : (bytes k : ℕ) → Begins image s cpu m (inst.Alu alu.Add (R Esp) (I bytes)) len → bytes ≡ 4 * k → k ≤ length s.values
       → StepOf image s m (inst.Alu alu.Add (R Esp) (I bytes)) len
-      (Some (goes_on (next_address s.thread.place len)
+      (Some (goes_on (next s len)
       (with_flags (done (inst.Alu alu.Add (R Esp) (I bytes)) (words_of s 0)).flags NoCondition (with_values (drop k s.values) s))))
   unfolding words_of next_address add_of
   dropped-step bytes k b is some =
@@ -181,30 +178,30 @@ module _ (image : ImageParts) (s : State) (cpu : Cpu) (m : MemoryView) (len : �
       let law : DropLaw image all_objects s m = b.laws.drops image all_objects s cpu m g in
       let left : length (drop k s.values) ≡ length s.values - k = length-drop k s.values in
       let up : (esp_of s + bytes) % 2 ^ 32 ≡ stack_pointer s.current (length (drop k s.values)) =
-      rw (is, left) (above-top s.current (length s.values) k (few-stacks image s cpu m g) (few-values image s cpu m g) some).0 in
+      rw (is, left) (above-top s.current (length s.values) k (current-few g) (g.typed.thread.room) some).0 in
       record {
         reaches = (tt, tt);
         runs = refl;
         leaves = λ ran after r.
             let on = ran-on i len (words_over s m) m ran after refl r in
-            let kept = same-stands image all_objects (with_values (drop k s.values) s) m (law.dropped k some) after (λ a. told-same m after a (on.mapped a) (on.words a)) in (
+            let kept = same-stands (law.dropped k some) after (λ a. told-same m after a (on.mapped a) (on.words a)) in (
               _,
               refl,
               record {
                 processor = record { regs = on.regs ∙ ap (register_words (places_of s) s.thread.regs) up; flags = on.flags; place = on.place };
-                memory = thread-stands image all_objects (with_values (drop k s.values) s) after kept _;
+                memory = thread-stands kept _;
               },
             );
       }
 
   -- ADD to ESP
   pub drop-step : (bytes : ℕ) → Begins image s cpu m (inst.Alu alu.Add (R Esp) (I bytes)) len
-      → drops s (inst.Alu alu.Add (R Esp) (I bytes)) (next_address s.thread.place len) (slots_in bytes) ≢ None
-      → StepOf image s m (inst.Alu alu.Add (R Esp) (I bytes)) len (drops s (inst.Alu alu.Add (R Esp) (I bytes)) (next_address s.thread.place len) (slots_in bytes))
+      → drops s (inst.Alu alu.Add (R Esp) (I bytes)) (next s len) (slots_in bytes) ≢ None
+      → StepOf image s m (inst.Alu alu.Add (R Esp) (I bytes)) len (drops s (inst.Alu alu.Add (R Esp) (I bytes)) (next s len) (slots_in bytes))
   drop-step bytes b known = go (slots_in bytes) refl known
     where
-      go : (o : Option ℕ) → slots_in bytes ≡ o → drops s (inst.Alu alu.Add (R Esp) (I bytes)) (next_address s.thread.place len) o ≢ None
-          → StepOf image s m (inst.Alu alu.Add (R Esp) (I bytes)) len (drops s (inst.Alu alu.Add (R Esp) (I bytes)) (next_address s.thread.place len) o)
+      go : (o : Option ℕ) → slots_in bytes ≡ o → drops s (inst.Alu alu.Add (R Esp) (I bytes)) (next s len) o ≢ None
+          → StepOf image s m (inst.Alu alu.Add (R Esp) (I bytes)) len (drops s (inst.Alu alu.Add (R Esp) (I bytes)) (next s len) o)
       go None e h = absurd (h refl)
       go (Some k) e h =
           let above = let-in (has_above k s.values) _ h in

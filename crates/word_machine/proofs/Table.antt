@@ -12,37 +12,32 @@ use Rattle.ia32_code.specs.declared.instruction.Inst.TheVariants as inst
 use Rattle.ia32_step.specs.declared.cpu.Cpu.{Cpu}
 use Rattle.tal_types.specs.declared.types.FlagKind.TheVariants as kind
 use Rattle.tal_flow.specs.Forms.{form_of}
-use Rattle.tal_flow.specs.Rules.{next_address}
 use Rattle.tal_image.specs.Image.{ImageParts}
 use Rattle.tal_image.specs.Shown.{shown}
 use Rattle.typed_machine.specs.States.{State, most_values}
 use Rattle.typed_machine.specs.Effects.{computes, form_effect, Effect}
 use Rattle.word_machine.specs.Memory.{MemoryView}
 use Rattle.word_machine.proofs.Operating.{Stores, inc-operates, dec-operates, not-operates, neg-operates, shift-operates, cdq-operates, imul-operates, imul_number-operates, alu-operates, mul-widens, imul_wide-widens, div-widens, idiv-widens, cmp-sets, test-sets}
-use Rattle.word_machine.proofs.Grounding.{Begins}
+use Rattle.word_machine.proofs.Grounding.{next, Begins}
 use Rattle.word_machine.proofs.Computing.{agrees-first, agrees-second, agrees-third, agrees-fourth, operation-step, wide-step}
 use Rattle.word_machine.proofs.Comparing.{compare-step, test-step}
 use Rattle.word_machine.proofs.Forms.{move-step, address-step, nothing-step, jump-step, branch-step, call-step, return-step, call_by-step}
 use Rattle.word_machine.proofs.StackForms.{push-step, pop-step, drop-step}
 use Rattle.word_machine.proofs.Leaving.{StepOf}
 
-module _ (image : ImageParts) (s : State) (cpu : Cpu) (m : MemoryView) (len : ℕ) where
-  -- where the next instruction stands
-  abbrev next : ℕ
-  next = next_address s.thread.place len
-
+module _ {image : ImageParts} {s : State} {cpu : Cpu} {m : MemoryView} {len : ℕ} where
   -- ADD, OR, AND, SUB and XOR, where they are no sum with ESP
   alu-step : (op : Alu) (d x : Operand) → Stores op → Begins image s cpu m (inst.Alu op d x) len
-      → computes (shown image) s (inst.Alu op d x) len next (d ∷ x ∷ []) d false (Some kind.Num) ≢ None
-      → StepOf image s m (inst.Alu op d x) len (computes (shown image) s (inst.Alu op d x) len next (d ∷ x ∷ []) d false (Some kind.Num))
+      → computes (shown image) s (inst.Alu op d x) len (next s len) (d ∷ x ∷ []) d false (Some kind.Num) ≢ None
+      → StepOf image s m (inst.Alu op d x) len (computes (shown image) s (inst.Alu op d x) len (next s len) (d ∷ x ∷ []) d false (Some kind.Num))
   alu-step op d x stores b known =
-      operation-step image s cpu m (inst.Alu op d x) len b (d ∷ x ∷ []) d (Some kind.Num) (alu-operates op stores d x) b.plain.first (b.plain.first, (b.plain.second, tt))
-      (λ at. (agrees-first image s m d (d ∷ x ∷ []) at.0, (agrees-third image s m d x [] b.plain.one at.1.0, tt))) known
+      operation-step b (d ∷ x ∷ []) d (Some kind.Num) (alu-operates op stores d x) b.plain.first (b.plain.first, (b.plain.second, tt))
+      (λ at. (agrees-first d (d ∷ x ∷ []) at.0, (agrees-third d x [] b.plain.one at.1.0, tt))) known
 
   -- ADD: that of a number to ESP drops slots, every other one computes
   add-step : (d x : Operand) → Begins image s cpu m (inst.Alu alu.Add d x) len → StepOf image s m (inst.Alu alu.Add d x) len (Effect image s (inst.Alu alu.Add d x) len)
   unfolding Effect form_effect form_of
-  add-step (R Esp) (I n) b = drop-step image s cpu m len n b b.known
+  add-step (R Esp) (I n) b = drop-step n b b.known
   add-step (R Esp) (R q) b = alu-step alu.Add (R Esp) (R q) tt b b.known
   add-step (R Esp) (M a) b = alu-step alu.Add (R Esp) (M a) tt b b.known
   add-step (R Eax) x b = alu-step alu.Add (R Eax) x tt b b.known
@@ -64,54 +59,54 @@ module _ (image : ImageParts) (s : State) (cpu : Cpu) (m : MemoryView) (len : �
   step-of (inst.Alu alu.And d x) b room = alu-step alu.And d x tt b b.known
   step-of (inst.Alu alu.Sub d x) b room = alu-step alu.Sub d x tt b b.known
   step-of (inst.Alu alu.Xor d x) b room = alu-step alu.Xor d x tt b b.known
-  step-of (inst.Alu alu.Cmp d x) b room = compare-step image s cpu m (inst.Alu alu.Cmp d x) len b d x refl (cmp-sets d x) b.plain b.known
-  step-of (inst.Mov d x) b room = move-step image s cpu m len d x b b.known
-  step-of (inst.Lea (R r) (M a)) b room = address-step image s cpu m len r a b b.known
+  step-of (inst.Alu alu.Cmp d x) b room = compare-step b d x refl (cmp-sets d x) b.plain b.known
+  step-of (inst.Mov d x) b room = move-step d x b b.known
+  step-of (inst.Lea (R r) (M a)) b room = address-step r a b b.known
   step-of (inst.Lea (R r) (R q)) b room = absurd (b.known refl)
   step-of (inst.Lea (R r) (I n)) b room = absurd (b.known refl)
   step-of (inst.Lea (M a) x) b room = absurd (b.known refl)
   step-of (inst.Lea (I n) x) b room = absurd (b.known refl)
-  step-of (inst.Test d x) b room = test-step image s cpu m (inst.Test d x) len b d x (test-sets d x) b.plain b.known
+  step-of (inst.Test d x) b room = test-step b d x (test-sets d x) b.plain b.known
   step-of (inst.Inc d) b room =
-      operation-step image s cpu m (inst.Inc d) len b (d ∷ []) d (Some kind.Eq) (inc-operates d) b.plain (b.plain, tt) (λ at. (agrees-first image s m d (d ∷ []) at.0, tt)) b.known
+      operation-step b (d ∷ []) d (Some kind.Eq) (inc-operates d) b.plain (b.plain, tt) (λ at. (agrees-first d (d ∷ []) at.0, tt)) b.known
   step-of (inst.Dec d) b room =
-      operation-step image s cpu m (inst.Dec d) len b (d ∷ []) d (Some kind.Eq) (dec-operates d) b.plain (b.plain, tt) (λ at. (agrees-first image s m d (d ∷ []) at.0, tt)) b.known
+      operation-step b (d ∷ []) d (Some kind.Eq) (dec-operates d) b.plain (b.plain, tt) (λ at. (agrees-first d (d ∷ []) at.0, tt)) b.known
   step-of (inst.Not d) b room =
-      operation-step image s cpu m (inst.Not d) len b (d ∷ []) d None (not-operates d) b.plain (b.plain, tt) (λ at. (agrees-first image s m d (d ∷ []) at.0, tt)) b.known
+      operation-step b (d ∷ []) d None (not-operates d) b.plain (b.plain, tt) (λ at. (agrees-first d (d ∷ []) at.0, tt)) b.known
   step-of (inst.Neg d) b room =
-      operation-step image s cpu m (inst.Neg d) len b (d ∷ []) d (Some kind.Num) (neg-operates d) b.plain (b.plain, tt) (λ at. (agrees-first image s m d (d ∷ []) at.0, tt)) b.known
+      operation-step b (d ∷ []) d (Some kind.Num) (neg-operates d) b.plain (b.plain, tt) (λ at. (agrees-first d (d ∷ []) at.0, tt)) b.known
   step-of (inst.Mul x) b room =
-      wide-step image s cpu m (inst.Mul x) len b (R Eax ∷ x ∷ []) (Some kind.Lost) (mul-widens x) (tt, (b.plain, tt))
-      (λ at. (tt, (agrees-third image s m (R Eax) x [] tt at.1.0, tt))) b.known
+      wide-step b (R Eax ∷ x ∷ []) (Some kind.Lost) (mul-widens x) (tt, (b.plain, tt))
+      (λ at. (tt, (agrees-third (R Eax) x [] tt at.1.0, tt))) b.known
   step-of (inst.Imul1 x) b room =
-      wide-step image s cpu m (inst.Imul1 x) len b (R Eax ∷ x ∷ []) (Some kind.Lost) (imul_wide-widens x) (tt, (b.plain, tt))
-      (λ at. (tt, (agrees-third image s m (R Eax) x [] tt at.1.0, tt))) b.known
+      wide-step b (R Eax ∷ x ∷ []) (Some kind.Lost) (imul_wide-widens x) (tt, (b.plain, tt))
+      (λ at. (tt, (agrees-third (R Eax) x [] tt at.1.0, tt))) b.known
   step-of (inst.Div x) b room =
-      wide-step image s cpu m (inst.Div x) len b (R Eax ∷ R Edx ∷ x ∷ []) (Some kind.Lost) (div-widens x) (tt, (tt, (b.plain, tt)))
-      (λ at. (tt, (tt, (agrees-fourth image s m Eax Eax Edx x at.1.1.0, tt)))) b.known
+      wide-step b (R Eax ∷ R Edx ∷ x ∷ []) (Some kind.Lost) (div-widens x) (tt, (tt, (b.plain, tt)))
+      (λ at. (tt, (tt, (agrees-fourth Eax Eax Edx x at.1.1.0, tt)))) b.known
   step-of (inst.Idiv x) b room =
-      wide-step image s cpu m (inst.Idiv x) len b (R Eax ∷ R Edx ∷ x ∷ []) (Some kind.Lost) (idiv-widens x) (tt, (tt, (b.plain, tt)))
-      (λ at. (tt, (tt, (agrees-fourth image s m Eax Eax Edx x at.1.1.0, tt)))) b.known
+      wide-step b (R Eax ∷ R Edx ∷ x ∷ []) (Some kind.Lost) (idiv-widens x) (tt, (tt, (b.plain, tt)))
+      (λ at. (tt, (tt, (agrees-fourth Eax Eax Edx x at.1.1.0, tt)))) b.known
   step-of (inst.Imul2 d x) b room =
-      operation-step image s cpu m (inst.Imul2 d x) len b (d ∷ x ∷ []) d (Some kind.Lost) (imul-operates d x) b.plain.first (b.plain.first, (b.plain.second, tt))
-      (λ at. (agrees-first image s m d (d ∷ x ∷ []) at.0, (agrees-third image s m d x [] b.plain.one at.1.0, tt))) b.known
+      operation-step b (d ∷ x ∷ []) d (Some kind.Lost) (imul-operates d x) b.plain.first (b.plain.first, (b.plain.second, tt))
+      (λ at. (agrees-first d (d ∷ x ∷ []) at.0, (agrees-third d x [] b.plain.one at.1.0, tt))) b.known
   step-of (inst.Imul3 d x n) b room =
-      operation-step image s cpu m (inst.Imul3 d x n) len b (x ∷ I n ∷ []) d (Some kind.Lost) (imul_number-operates d x n) b.plain.first (b.plain.second, (tt, tt))
-      (λ at. (agrees-second image s m d x (I n ∷ []) b.plain.one at.0, (tt, tt))) b.known
+      operation-step b (x ∷ I n ∷ []) d (Some kind.Lost) (imul_number-operates d x n) b.plain.first (b.plain.second, (tt, tt))
+      (λ at. (agrees-second d x (I n ∷ []) b.plain.one at.0, (tt, tt))) b.known
   step-of (inst.Shift op d (By n)) b room =
-      operation-step image s cpu m (inst.Shift op d (By n)) len b (d ∷ []) d (if n % 32 == 0 then None else Some kind.Eq) (shift-operates op d (By n) []) b.plain (b.plain, tt)
-      (λ at. (agrees-first image s m d (d ∷ []) at.0, tt)) b.known
+      operation-step b (d ∷ []) d (if n % 32 == 0 then None else Some kind.Eq) (shift-operates op d (By n) []) b.plain (b.plain, tt)
+      (λ at. (agrees-first d (d ∷ []) at.0, tt)) b.known
   step-of (inst.Shift op d Cl) b room =
-      operation-step image s cpu m (inst.Shift op d Cl) len b (d ∷ R Ecx ∷ []) d (Some kind.Lost) (shift-operates op d Cl (R Ecx ∷ [])) b.plain (b.plain, (tt, tt))
-      (λ at. (agrees-first image s m d (d ∷ R Ecx ∷ []) at.0, (tt, tt))) b.known
+      operation-step b (d ∷ R Ecx ∷ []) d (Some kind.Lost) (shift-operates op d Cl (R Ecx ∷ [])) b.plain (b.plain, (tt, tt))
+      (λ at. (agrees-first d (d ∷ R Ecx ∷ []) at.0, (tt, tt))) b.known
   step-of inst.Cdq b room =
-      operation-step image s cpu m inst.Cdq len b (R Eax ∷ []) (R Edx) None cdq-operates tt (tt, tt) (λ at. (tt, tt)) b.known
-  step-of inst.Nop b room = nothing-step image s cpu m len b
-  step-of (inst.Push x) b room = push-step image s cpu m len x b (room x refl) b.known
-  step-of (inst.Pop r) b room = pop-step image s cpu m len r b b.known
-  step-of (inst.CallRel z) b room = call-step image s cpu m len z b b.known
-  step-of (inst.CallAt x) b room = call_by-step image s cpu m len x b b.known
-  step-of inst.Ret b room = return-step image s cpu m len b b.known
-  step-of (inst.Jmp z) b room = jump-step image s cpu m len z b b.known
-  step-of (inst.Jcc c z) b room = branch-step image s cpu m len c z b b.known
+      operation-step b (R Eax ∷ []) (R Edx) None cdq-operates tt (tt, tt) (λ at. (tt, tt)) b.known
+  step-of inst.Nop b room = nothing-step b
+  step-of (inst.Push x) b room = push-step x b (room x refl) b.known
+  step-of (inst.Pop r) b room = pop-step r b b.known
+  step-of (inst.CallRel z) b room = call-step z b b.known
+  step-of (inst.CallAt x) b room = call_by-step x b b.known
+  step-of inst.Ret b room = return-step b b.known
+  step-of (inst.Jmp z) b room = jump-step z b b.known
+  step-of (inst.Jcc c z) b room = branch-step c z b b.known
   step-of (inst.Priv op arg) b room = absurd (b.known refl)
