@@ -9,6 +9,7 @@ pub mod Words
 pub mod Effects
 -- Turns and runs.
 pub mod Switches
+pub mod Replies
 pub mod Turns
 -- Which states are typed.
 pub mod Frames

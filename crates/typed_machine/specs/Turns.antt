@@ -3,6 +3,7 @@ use Rattle.std.specs.Prelude.{◌≡◌, ℕ, zero, suc, ◌+◌, ◌==◌, List
 use Rattle.std.specs.Option.{option_map, option_and_then, option_to_list}
 use Rattle.ia32_code.specs.declared.instruction.Reg.TheVariants.{Eax}
 use Rattle.ia32_code.specs.declared.instruction.Inst.{Inst}
+use Rattle.tal_flow.specs.Rules.{next_address}
 use Rattle.tal_image.specs.Image.{ImageParts}
 use Rattle.device_model.specs.declared.events.Event.{Event}
 use Rattle.device_model.specs.History.{Granted}
@@ -10,14 +11,15 @@ use Rattle.device_model.specs.Devices.{after_events}
 use Rattle.device_model.specs.ItemByItem.{grantable}
 use Rattle.stack_states.specs.declared.journal_entry.Entry.{Entry}
 use Rattle.stack_states.specs.declared.journal_entry.EntryKind.{EntryKind}
-use Rattle.stack_states.specs.declared.journal_entry.EntryKind.TheVariants.{Interrupt, Fault, Ended}
+use Rattle.stack_states.specs.declared.journal_entry.EntryKind.TheVariants.{Call, Yield, Interrupt, Fault, Ended}
 use Rattle.typed_machine.specs.declared.ending.Ending.{Ending}
 use Rattle.typed_machine.specs.declared.ending.Ending.TheVariants.{Halted, KernelFault}
 use Rattle.typed_machine.specs.Values.{Number, Word}
-use Rattle.typed_machine.specs.States.{State, EmptyStack, InterruptedStack, first_state, places_of}
+use Rattle.typed_machine.specs.States.{State, EmptyStack, YieldedStack, InterruptedStack, fresh_thread, first_state, places_of}
 use Rattle.typed_machine.specs.Code.{inst_at}
 use Rattle.typed_machine.specs.Effects.{EffectView, Moves, Faults, Calls, Ends, Effect}
-use Rattle.typed_machine.specs.Switches.{switched}
+use Rattle.typed_machine.specs.Switches.{runs, switched}
+use Rattle.typed_machine.specs.Replies.{ReplyView, Replies, YieldsTo, Reply}
 
 -- what an allocation is answered
 pub data Answer : Type 0 where
@@ -80,17 +82,27 @@ returned image answers s =
     if s.current == 0 then ended_by (Halted (Word (places_of s) (s.thread.regs Eax))) answers s
     else kernel_goes_on image answers Ended 0 (262144 + s.current) s
 
--- what an effect comes to. Calls of the Nucleus are not built yet
-abbrev pub after_effect : ImageParts → List Answer → State → EffectView → Option Turned
-after_effect image answers s (Moves t) = Some (turned answers None t)
-after_effect image answers s (Faults vector) = faulted image answers vector s
-after_effect image answers s (Calls k) = None
-after_effect image answers s Ends = returned image answers s
+-- What a reply of entry k comes to, where the call comes back to `next`: the caller goes on there with the reply in EAX, the
+-- other registers 0 and no flag set; or it waits there, and the stack that it yields to goes on.
+abbrev pub replied : ImageParts → List Answer → ℕ → ℕ → State → ReplyView → Option Turned
+replied image answers next k s (Replies n t) =
+    Some (turned answers (Some (entry_of (Call k) n s)) (runs (fresh_thread (Number n) next) t.values t))
+replied image answers next k s (YieldsTo to) =
+    option_map (turned answers (Some (entry_of Yield to s))) (switched image to (Number (65536 + s.current)) (YieldedStack next s.values) s)
+
+-- what an effect comes to, where the instruction at `next` follows
+abbrev pub after_effect : ImageParts → List Answer → ℕ → State → EffectView → Option Turned
+after_effect image answers next s (Moves t) = Some (turned answers None t)
+after_effect image answers next s (Faults vector) = faulted image answers vector s
+after_effect image answers next s (Calls k) = option_and_then (replied image answers next k s) (Reply k s)
+after_effect image answers next s Ends = returned image answers s
 
 -- the instruction at the running place
 abbrev pub instruction : ImageParts → List Answer → State → Option Turned
 instruction image answers s =
-    option_and_then (λ (i : Inst × ℕ). option_and_then (after_effect image answers s) (Effect image s i.0 i.1)) (inst_at image s.thread.place)
+    option_and_then
+    (λ (i : Inst × ℕ). option_and_then (after_effect image answers (next_address s.thread.place i.1) s) (Effect image s i.0 i.1))
+    (inst_at image s.thread.place)
 
 -- an interrupt, where a line is granted, and else the instruction
 abbrev pub interrupt_or : ImageParts → List Answer → State → Option ℕ → Option Turned
@@ -98,7 +110,7 @@ interrupt_or image answers s (Some line) = interrupted image answers line s
 interrupt_or image answers s None = instruction image answers s
 
 -- One turn of a machine that has not ended: the events of the turn enter the devices; then one interrupt is accepted, or the
--- instruction at the running place has its effect. None where the step is ill typed.
+-- instruction at the running place has its effect. None where the step is ill typed, or calls an entry of the heap.
 unfoldable pub TurnOf : ImageParts → List Event → List Answer → State → Option Turned
 TurnOf image events answers s = interrupt_or image answers (begun events s) (line_granted (begun events s))
 
@@ -124,7 +136,7 @@ unfoldable pub RunOf : ImageParts → List Event → ℕ → List Answer → Opt
 RunOf image events zero answers = Some (record { state = first_state image; entries = []; left = answers })
 RunOf image events (suc n) answers = option_and_then (λ r. next_run image events r) (RunOf image events n answers)
 
--- The run is not stuck, and no answer is left. No call of the Nucleus is built yet, so no turn takes one.
+-- The run is not stuck, and no answer is left. No allocation is built yet, so no turn takes one.
 pub record LegalRun (image : ImageParts) (events : List Event) (n : ℕ) (answers : List Answer) (run : Run) : Type 0 where
   pub reached : RunOf image events n answers ≡ Some run
   pub used : run.left ≡ []

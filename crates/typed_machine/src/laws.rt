@@ -1,5 +1,5 @@
 // What small programs come to: the definitions, computed. Each law is a function with nothing to do, whose clause is the law.
-ghost use Rattle.typed_machine.specs.Examples.{StaticIsWritten, MethodIsCalled, ElementIsRead, DivideErrorEnds};
+ghost use Rattle.typed_machine.specs.Examples.{StaticIsWritten, MethodIsCalled, ElementIsRead, DivideErrorEnds, RefusalsAreTold, TickInterrupts, EachCallReplies};
 
 /// A program that writes 5 into a static halts with 5 after three turns, and the static is 5.
 pub fn a_static_is_written()
@@ -19,4 +19,20 @@ pub fn an_element_is_read()
 /// A division by 0 ends the run by the fault of vector 0.
 pub fn a_divide_error_ends()
     ensures { DivideErrorEnds }
+{}
+
+/// An application to which the kernel yields is refused three yields and a reset, each with its reply, and ends; the kernel
+/// halts with what it is told of that end.
+pub fn refusals_are_told()
+    ensures { RefusalsAreTold }
+{}
+
+/// A tick interrupts an application, and a yield to it goes on with it at the place where it was.
+pub fn a_tick_interrupts()
+    ensures { TickInterrupts }
+{}
+
+/// Each call of the Nucleus but those of the heap replies what its row says, where it is done and where it is refused.
+pub fn each_call_replies()
+    ensures { EachCallReplies }
 {}

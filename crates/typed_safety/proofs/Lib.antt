@@ -22,6 +22,7 @@ pub mod DisplayWords
 pub mod FormedImages
 pub mod Resuming
 pub mod Switching
+pub mod Replying
 pub mod Turning
 pub mod FirstStates
 pub mod WholeRuns

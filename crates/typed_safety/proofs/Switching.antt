@@ -25,7 +25,7 @@ set-here (x ∷ ks) zero k h = refl
 set-here (x ∷ ks) (suc i) k h = set-here ks i k (omega arith)
 
 -- what stands elsewhere
-set-there : (ks : List Stack) (i j : ℕ) (k : Stack) → i ≢ j → slice_get (slice_set ks i k) j ≡ slice_get ks j
+pub set-there : (ks : List Stack) (i j : ℕ) (k : Stack) → i ≢ j → slice_get (slice_set ks i k) j ≡ slice_get ks j
 set-there [] i j k n = refl
 set-there (x ∷ ks) zero zero k n = absurd (n refl)
 set-there (x ∷ ks) zero (suc j) k n = refl
@@ -33,7 +33,7 @@ set-there (x ∷ ks) (suc i) zero k n = refl
 set-there (x ∷ ks) (suc i) (suc j) k n = set-there ks i j k (λ e. n (ap suc e))
 
 -- a stack of the table is the one that was put there, or one that was there
-set-read : (ks : List Stack) (i j : ℕ) (k x : Stack) → slice_get (slice_set ks i k) j ≡ Some x → ((j ≡ i) × (x ≡ k)) ⊎ (slice_get ks j ≡ Some x)
+pub set-read : (ks : List Stack) (i j : ℕ) (k x : Stack) → slice_get (slice_set ks i k) j ≡ Some x → ((j ≡ i) × (x ≡ k)) ⊎ (slice_get ks j ≡ Some x)
 set-read [] i j k x h = inr h
 set-read (y ∷ ks) zero zero k x h = inl (refl, cc)
 set-read (y ∷ ks) zero (suc j) k x h = inr h

@@ -1,5 +1,5 @@
 -- Turns keep typing.
-use Rattle.std.proofs.Common.{◌≡◌, ◌≢◌, sym, ◌+◌, ◌==◌, ℕ, Bool, true, false, if◌then◌else◌, Option, Some, None, arith, refl, List, ◌∷◌}
+use Rattle.std.proofs.Common.{◌≡◌, ◌≢◌, sym, ◌+◌, ◌==◌, ℕ, zero, suc, Bool, true, false, if◌then◌else◌, Option, Some, None, arith, refl, List, ◌∷◌}
 use Rattle.std.specs.Option.{option_map, option_and_then}
 use Rattle.std.proofs.lemmas.Bool.Decides.{nat_tests}
 use Rattle.std.proofs.lemmas.Option.{slice_get_within}
@@ -7,7 +7,7 @@ use Rattle.stack_states.specs.declared.journal_entry.Entry.{Entry}
 use Rattle.stack_states.specs.declared.journal_entry.EntryKind.{EntryKind}
 use Rattle.ia32_code.specs.declared.instruction.Inst.{Inst}
 use Rattle.device_model.specs.declared.events.Event.{Event}
-use Rattle.device_model.specs.History.{History, Granted}
+use Rattle.device_model.specs.History.{Granted}
 use Rattle.device_model.specs.ItemByItem.{grantable}
 use Rattle.tal_image.specs.Image.{ImageParts}
 use Rattle.tal_checker.specs.Running.{RunsOn}
@@ -15,19 +15,15 @@ use Rattle.typed_machine.specs.declared.ending.Ending.{Ending}
 use Rattle.typed_machine.specs.Values.{Number}
 use Rattle.typed_machine.specs.States.{State, Stack, EmptyStack, RunningStack, InterruptedStack}
 use Rattle.typed_machine.specs.Switches.{switched}
+use Rattle.typed_machine.specs.Replies.{ReplyView, Replies, YieldsTo, Reply}
 use Rattle.typed_machine.specs.Code.{inst_at}
 use Rattle.typed_machine.specs.Effects.{EffectView, Moves, Faults, Calls, Ends, Effect}
-use Rattle.typed_machine.specs.Turns.{Answer, turned, begun, kernel_goes_on, interrupted, ended_by, after_effect, instruction, interrupt_or, TurnOf}
+use Rattle.typed_machine.specs.Turns.{Answer, turned, begun, kernel_goes_on, interrupted, ended_by, replied, after_effect, instruction, interrupt_or, TurnOf}
 use Rattle.typed_machine.specs.Typing.{StackFits, TypedAmong, scope_of}
-use Rattle.typed_safety.specs.Laws.{ImageLaws, EffectTyped, TurnTyped}
+use Rattle.typed_safety.specs.Laws.{ImageLaws, CallTyped, EffectTyped, TurnTyped}
 use Rattle.typed_safety.proofs.Instructions.{state-keeps}
 use Rattle.typed_safety.proofs.Switching.{SomeTyped, KernelKept, switch-typed}
-
--- typing looks at no devices, no turns and no end
-pub aside-typed : (image : ImageParts) (live : ℕ → Bool) (s : State) (d : History) (n : ℕ) (e : Option Ending) → TypedAmong image live s
-    → TypedAmong image live (record s { devices = d; turns = n; ending = e })
-aside-typed image live s d n e t =
-    record { thread = t.thread; others = t.others; one = t.one; only = t.only; kernel = t.kernel; count = t.count; statics = t.statics; store = t.store }
+use Rattle.typed_safety.proofs.Replying.{aside-typed, SomeReplyTyped, call-replies}
 
 module _ (image : ImageParts) (rests : RunsOn image) (laws : ImageLaws image) (live : ℕ → Bool) (answers : List Answer) where
   -- a state that was switched to, as a turn
@@ -58,13 +54,31 @@ module _ (image : ImageParts) (rests : RunsOn image) (laws : ImageLaws image) (l
       go true e = aside-typed image live s s.devices s.turns (Some ending) t
       go false e = switched-turn s _ _ (kernel-typed s t EmptyStack reply tt (λ f. cc) (λ f. absurd (grind (arith, nat_tests))) refl)
 
+  -- what a reply comes to
+  replied-turn : (s : State) (next k : ℕ) (o : Option ReplyView) → SomeReplyTyped image live s next o
+      → TurnTyped image live s (option_and_then (replied image answers next k s) o)
+  replied-turn s next k None h = absurd h
+  replied-turn s next k (Some (Replies n r)) h = h
+  replied-turn s next k (Some (YieldsTo to)) h = switched-turn s _ _ h
+
+  -- a call of the Nucleus; those of the heap are none
+  call-turn : (s : State) → TypedAmong image live s → (next k : ℕ) → CallTyped (scope_of image live s) s next k
+      → option_and_then (λ (i : Inst × ℕ). Effect image s i.0 i.1) (inst_at image s.thread.place) ≡ Some (Calls k)
+      → TurnTyped image live s (after_effect image answers next s (Calls k))
+  unfolding Reply
+  call-turn s t next zero c is = (0, omega arith, is)
+  call-turn s t next (suc zero) c is = (1, omega arith, is)
+  call-turn s t next (suc (suc zero)) c is = (2, omega arith, is)
+  call-turn s t next (suc (suc (suc k))) c is = replied-turn s next _ (Reply (suc (suc (suc k))) s) (call-replies image rests laws live s t next k c)
+
   -- what an effect comes to
   effect-typed : (s : State) → TypedAmong image live s → (next : ℕ) (o : Option EffectView) → EffectTyped image live s next o
-      → option_and_then (λ (i : Inst × ℕ). Effect image s i.0 i.1) (inst_at image s.thread.place) ≡ o → TurnTyped image live s (option_and_then (after_effect image answers s) o)
+      → option_and_then (λ (i : Inst × ℕ). Effect image s i.0 i.1) (inst_at image s.thread.place) ≡ o
+      → TurnTyped image live s (option_and_then (after_effect image answers next s) o)
   effect-typed s t next None h is = absurd h
   effect-typed s t next (Some (Moves m)) h is = h
   effect-typed s t next (Some (Faults vector)) h is = ended-typed s t _ _ vector _
-  effect-typed s t next (Some (Calls k)) h is = (k, is)
+  effect-typed s t next (Some (Calls k)) h is = call-turn s t next k h is
   effect-typed s t next (Some Ends) h is = ended-typed s t _ _ 0 _
 
   -- an instruction

@@ -9,7 +9,7 @@ use Rattle.typed_machine.specs.Values.{all_objects}
 use Rattle.typed_machine.specs.States.{first_state}
 use Rattle.typed_machine.specs.Turns.{Answer, Turned, begun, TurnOf, Run, continued, next_run, RunOf}
 use Rattle.typed_machine.specs.Typing.{Typed}
-use Rattle.typed_safety.specs.Laws.{ImageLaws, CallsNucleus, TurnTyped, RunTyped}
+use Rattle.typed_safety.specs.Laws.{ImageLaws, CallsHeap, TurnTyped, RunTyped}
 use Rattle.typed_safety.proofs.Turning.{turn-typed}
 use Rattle.typed_safety.proofs.FirstStates.{first-typed}
 
@@ -27,11 +27,11 @@ module _ (image : ImageParts) (rests : RunsOn image) (laws : ImageLaws image) (e
       go false None h f = absurd (cc)
       go false (Some u) h f = let same : continued r u ≡ next = cc in subst (λ (x : Run). Typed image x.state) same h
 
-  -- a typed run goes on, but for a call of the Nucleus
-  next-there : (r : Run) → Typed image r.state → next_run image events r ≡ None → CallsNucleus image (begun events r.state)
+  -- a typed run goes on, but for a call of an entry of the heap
+  next-there : (r : Run) → Typed image r.state → next_run image events r ≡ None → CallsHeap image (begun events r.state)
   next-there r t e = go (is_some r.state.ending) (TurnOf image events r.left r.state) (turn r t) e
     where
-      go : (b : Bool) (o : Option Turned) → TurnTyped image all_objects (begun events r.state) o → (if b then Some r else option_map (continued r) o) ≡ None → CallsNucleus image (begun events r.state)
+      go : (b : Bool) (o : Option Turned) → TurnTyped image all_objects (begun events r.state) o → (if b then Some r else option_map (continued r) o) ≡ None → CallsHeap image (begun events r.state)
       go true o h f = absurd (cc)
       go false None h f = h
       go false (Some u) h f = absurd (cc)

@@ -1,5 +1,5 @@
 -- What an image tells of its data and marks, and the laws: instructions, turns and runs keep typing.
-use Rattle.std.specs.Prelude.{◌≡◌, ℕ, Bool, true, List, Option, Some, None, is_some, slice_get}
+use Rattle.std.specs.Prelude.{◌≡◌, ◌<◌, ℕ, Bool, true, List, Option, Some, None, is_some, slice_get}
 use Rattle.std.specs.Option.{option_and_then}
 use Rattle.ia32_code.specs.declared.instruction.Reg.TheVariants.{Eax, Ecx}
 use Rattle.ia32_code.specs.declared.instruction.Alu.TheVariants as alu
@@ -108,14 +108,15 @@ DisplaysAreThere =
     → (a : Mem) (y : Operand) → x.inst ≡ inst.Alu alu.Cmp (M a) y → (c d : ℕ) → spot_of (shown image).shapes s a ≡ Some (AtDisplay c d)
     → (w : ℕ) × (spot_word (shown image).shapes s (AtDisplay c d) ≡ Some w)
 
--- an instruction that calls the Nucleus stands at the place of a state
-abbrev pub CallsNucleus : ImageParts → State → Type 0
-CallsNucleus image s = (k : ℕ) × (option_and_then (λ (i : Inst × ℕ). Effect image s i.0 i.1) (inst_at image s.thread.place) ≡ Some (Calls k))
+-- at the place of a state stands an instruction that calls an entry of the heap: AllocObject, AllocArray or GarbageCollect
+abbrev pub CallsHeap : ImageParts → State → Type 0
+CallsHeap image s =
+    (k : ℕ) × (k < 3) × (option_and_then (λ (i : Inst × ℕ). Effect image s i.0 i.1) (inst_at image s.thread.place) ≡ Some (Calls k))
 
--- A turn that starts with the instruction or an interrupt of a state leads to a typed state; it is none at a call of the Nucleus
--- alone, which no turn takes yet.
+-- A turn that starts with the instruction or an interrupt of a state leads to a typed state. It is none at a call of an entry
+-- of the heap alone, which no turn takes yet.
 abbrev pub TurnTyped : ImageParts → (ℕ → Bool) → State → Option Turned → Type 0
-TurnTyped image live s None = CallsNucleus image s
+TurnTyped image live s None = CallsHeap image s
 TurnTyped image live s (Some r) = TypedAmong image live r.state
 
 -- so it is in each well typed image with a turn from a typed state
@@ -124,10 +125,10 @@ TurnsKeepTyping =
     (image : ImageParts) → WellTyped image → (live : ℕ → Bool) (events : List Event) (answers : List Answer) (s : State) → TypedAmong image live s
     → TurnTyped image live (begun events s) (TurnOf image events answers s)
 
--- A run has come to a typed state, and it goes on unless it comes to a call of the Nucleus.
+-- A run has come to a typed state, and it goes on unless it comes to a call of an entry of the heap.
 pub record RunTyped (image : ImageParts) (events : List Event) (r : Run) : Type 0 where
   pub typed : Typed image r.state
-  pub goes_on : next_run image events r ≡ None → CallsNucleus image (begun events r.state)
+  pub goes_on : next_run image events r ≡ None → CallsHeap image (begun events r.state)
 
 -- so it is with each run of a well typed image, the run of no turns included
 abbrev pub RunsAreTyped : Type 0

@@ -34,7 +34,7 @@ pub fn displays_are_there()
 }
 
 /// In a well typed image a turn from a typed state leads to a typed state, whether an interrupt is accepted, or an instruction
-/// moves on, faults or ends a stack. There is no turn at a call of the Nucleus alone.
+/// moves on, faults, ends a stack or calls the Nucleus. There is no turn at a call of an entry of the heap alone.
 pub fn turns_keep_typing()
     ensures { TurnsKeepTyping }
 {
@@ -42,7 +42,8 @@ pub fn turns_keep_typing()
     tal_checker::laws::accepted_runs();
 }
 
-/// Each run of a well typed image has come to a typed state, and goes on unless it has come to a call of the Nucleus.
+/// Each run of a well typed image has come to a typed state, and goes on unless it has come to a call of an entry of the
+/// heap.
 pub fn runs_are_typed()
     ensures { RunsAreTyped }
 {

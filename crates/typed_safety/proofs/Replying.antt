@@ -1,0 +1,212 @@
+-- Calls of the Nucleus keep typing, but for those of the heap.
+use Rattle.std.proofs.Common.{◌≡◌, ◌≢◌, ◌⊎◌, ◌∙◌, sym, ap, ◌<◌, ◌+◌, ◌%◌, ◌^◌, ◌==◌, ◌&&◌, ◌||◌, not, ℕ, zero, suc, Bool, true, false, if◌then◌else◌, Option, Some, None, is_some, arith, refl, List, [], ◌∷◌, ◌++◌, length, slice_get, slice_set, ⊎_elim}
+use Rattle.std.proofs.lemmas.Bool.Decides.{nat_tests}
+use Rattle.std.proofs.lemmas.List.{length-set}
+use Rattle.std.proofs.lemmas.Option.{slice_get_within}
+use Rattle.ia32_code.specs.declared.instruction.Reg.TheVariants.{Eax, Ecx}
+use Rattle.device_model.specs.History.{History, Item, Wrote, Took, Drew}
+use Rattle.tal_types.specs.declared.types.Ty.{Ty}
+use Rattle.tal_types.specs.declared.types.Ty.TheVariants as ty
+use Rattle.tal_flow.specs.declared.calls.Arguments.{Arguments}
+use Rattle.tal_flow.specs.declared.calls.Arguments.TheVariants.{Nothing, OneNumber, TwoNumbers}
+use Rattle.tal_flow.specs.declared.calls.Called.TheVariants.{Gives}
+use Rattle.tal_flow.specs.Calls.{nucleus_arguments, entry_gives}
+use Rattle.tal_image.specs.Image.{ImageParts}
+use Rattle.tal_image.specs.Shown.{shown}
+use Rattle.tal_checker.specs.Running.{RunsOn}
+use Rattle.typed_machine.specs.declared.ending.Ending.{Ending}
+use Rattle.typed_machine.specs.Values.{Value, Number, fits_among}
+use Rattle.typed_machine.specs.States.{State, Stack, EmptyStack, RunningStack, YieldedStack, InterruptedStack, fresh_thread}
+use Rattle.typed_machine.specs.Operands.{number_in}
+use Rattle.typed_machine.specs.Switches.{runs, switched}
+use Rattle.typed_machine.specs.Replies.{ReplyView, Replies, YieldsTo, is_stack, is_application, yield_to, emptied, reset_stack, get_stack_state, current_stack, happened, vga_text_write, code_taken, try_read_keyboard, count_items, start_timer, send_eoi, by_nothing, by_number, by_numbers, Reply}
+use Rattle.typed_machine.specs.Frames.{Scope, Awaits, fits_in}
+use Rattle.typed_machine.specs.Typing.{TypedAmong, scope_of}
+use Rattle.typed_safety.specs.Laws.{ImageLaws, CallTyped}
+use Rattle.typed_safety.proofs.Values.{number-num}
+use Rattle.typed_safety.proofs.Resuming.{replied-fits}
+use Rattle.typed_safety.proofs.Switching.{SomeTyped, set-there, set-read, switch-typed}
+
+-- ---- arguments
+
+-- what the entries give that ask for nothing, for a number, or for two
+gives-nothing : (t u r : Ty) → entry_gives Nothing t u ≡ Gives r → r ≡ ty.Num
+gives-nothing t u r h = grind arith
+
+gives-one : (t u r : Ty) → entry_gives OneNumber t u ≡ Gives r → (t ≡ ty.Num) × (r ≡ ty.Num)
+gives-one t u r h = grind arith
+
+gives-two : (t u r : Ty) → entry_gives TwoNumbers t u ≡ Gives r → (t ≡ ty.Num) × (u ≡ ty.Num) × (r ≡ ty.Num)
+gives-two t u r h = grind arith
+
+-- what an entry gives, by its arguments
+gives-by : {l : Scope} {s : State} {next k : ℕ} (c : CallTyped l s next k) (a : Arguments) → slice_get nucleus_arguments k ≡ Some a
+    → entry_gives a c.eax c.ecx ≡ Gives c.reply
+gives-by c a e = let same : c.arguments ≡ a = (let x : Some c.arguments ≡ Some a = sym c.entry ∙ e in cc) in rw same at c.gives
+
+-- where it gives a number, the caller awaits one
+awaits-number : {l : Scope} {s : State} {next k : ℕ} (c : CallTyped l s next k) → c.reply ≡ ty.Num → Awaits l ty.Num next s.values
+awaits-number c e = rw e at c.awaited
+
+-- a value of the type is the number that is asked for
+holds-number : (l : Scope) (w : Value) (t : Ty) → fits_in l w t ≡ true → t ≡ ty.Num → (n : ℕ) × (number_in w ≡ Some n)
+unfolding fits_among number_in
+holds-number l (Number n) t f e = (n, refl)
+holds-number l w t f e = absurd (grind arith)
+
+-- ---- what a call comes to
+
+-- typing looks at no devices, no turns and no end
+pub aside-typed : (image : ImageParts) (live : ℕ → Bool) (s : State) (d : History) (n : ℕ) (e : Option Ending) → TypedAmong image live s
+    → TypedAmong image live (record s { devices = d; turns = n; ending = e })
+aside-typed image live s d n e t =
+    record { thread = t.thread; others = t.others; one = t.one; only = t.only; kernel = t.kernel; count = t.count; statics = t.statics; store = t.store }
+
+-- the state that a reply leads to is typed, where the call comes back to `next`
+abbrev pub ReplyTyped : ImageParts → (ℕ → Bool) → State → ℕ → ReplyView → Type 0
+ReplyTyped image live s next (Replies n t) = TypedAmong image live (runs (fresh_thread (Number n) next) t.values t)
+ReplyTyped image live s next (YieldsTo to) = SomeTyped image live (switched image to (Number (65536 + s.current)) (YieldedStack next s.values) s)
+
+-- there is a reply, and it is so
+abbrev pub SomeReplyTyped : ImageParts → (ℕ → Bool) → State → ℕ → Option ReplyView → Type 0
+SomeReplyTyped image live s next None = ⊥
+SomeReplyTyped image live s next (Some r) = ReplyTyped image live s next r
+
+-- a number at which a stack stands is below their count
+stack-within : (ks : List Stack) (n : ℕ) → is_some (slice_get ks n) ≡ true → n < length ks
+stack-within ks n h = go (slice_get ks n) refl h
+  where
+    go : (o : Option Stack) → slice_get ks n ≡ o → is_some o ≡ true → n < length ks
+    go None e f = absurd (cc)
+    go (Some k) e f = slice_get_within ks n k e
+
+module _ (image : ImageParts) (rests : RunsOn image) (laws : ImageLaws image) (live : ℕ → Bool) (s : State) (t : TypedAmong image live s) (next : ℕ) where
+  -- a number is replied in a typed state that awaits it
+  number-typed : (n : ℕ) (r : State) → TypedAmong image live r → Awaits (scope_of image live r) ty.Num next r.values → ReplyTyped image live s next (Replies n r)
+  number-typed n r h a = record {
+    thread = replied-fits (scope_of image live r) laws.classes ty.Num (Number n) next r.values a (number-num (shown image) live _ n);
+    others = h.others;
+    one = h.one;
+    only = h.only;
+    kernel = h.kernel;
+    count = h.count;
+    statics = h.statics;
+    store = h.store;
+  }
+
+  module _ (a : Awaits (scope_of image live s) ty.Num next s.values) where
+    -- nothing else changes
+    same-typed : (n : ℕ) → ReplyTyped image live s next (Replies n s)
+    same-typed n = number-typed n s t a
+
+    -- something happens to the devices
+    happened-typed : (n : ℕ) (items : List Item) → ReplyTyped image live s next (Replies n (happened items s))
+    happened-typed n items = number-typed n (happened items s) (aside-typed image live s (items ++ s.devices) s.turns s.ending t) a
+
+    -- a yield, which is refused or is a switch
+    yield-typed : (n : ℕ) → ReplyTyped image live s next (yield_to n s)
+    yield-typed n = there (not (is_stack n s) || n == s.current) refl
+      where
+        apart : (b : Bool) → (is_application s.current && is_application n) ≡ b → (not (is_stack n s) || n == s.current) ≡ false
+            → ReplyTyped image live s next (if b then Replies 2 s else YieldsTo n)
+        apart true e f = same-typed 2
+        apart false e f =
+            let few = stack-within s.stacks n (grind arith) in
+            let count = t.count in
+            let kept : (n ≡ 0) ⊎ (s.current ≡ 0) = grind (arith, nat_tests) in
+            switch-typed image rests laws live s t (YieldedStack next s.values) n (65536 + s.current) a (λ g. cc) (λ g. absurd (grind (arith, nat_tests)))
+            (omega arith) kept
+
+        there : (b : Bool) → (not (is_stack n s) || n == s.current) ≡ b
+            → ReplyTyped image live s next (if b then Replies 1 s else if is_application s.current && is_application n then Replies 2 s else YieldsTo n)
+        there true e = same-typed 1
+        there false e = apart (is_application s.current && is_application n) refl e
+
+    -- a stack that does not run becomes empty
+    empties-typed : (n : ℕ) (stack : Stack) → s.current ≡ 0 → slice_get s.stacks n ≡ Some stack → stack ≢ RunningStack
+        → ReplyTyped image live s next (Replies 0 (record s { stacks = slice_set s.stacks n EmptyStack }))
+    empties-typed n stack kernel here other =
+        let away : n ≢ s.current = λ e. other (let x : Some stack ≡ Some RunningStack = sym here ∙ (ap (slice_get s.stacks) e ∙ t.one) in cc) in
+        number-typed 0 (record s { stacks = slice_set s.stacks n EmptyStack })
+        (record {
+          thread = t.thread;
+          others = λ i k h. ⊎_elim
+              (λ (e : (i ≡ n) × (k ≡ EmptyStack)). rw e.1 tt)
+              (λ (e : slice_get s.stacks i ≡ Some k). t.others i k e)
+              (set-read s.stacks n i EmptyStack k h);
+          one = set-there s.stacks n s.current EmptyStack away ∙ t.one;
+          only = λ i h. ⊎_elim
+              (λ (e : (i ≡ n) × (RunningStack ≡ EmptyStack)). absurd (let x = e.1 in cc))
+              (λ (e : slice_get s.stacks i ≡ Some RunningStack). t.only i e)
+              (set-read s.stacks n i EmptyStack RunningStack h);
+          kernel = rw kernel tt;
+          count = length-set s.stacks n EmptyStack ∙ t.count;
+          statics = t.statics;
+          store = t.store;
+        })
+        a
+
+    -- a reset
+    reset-typed : (n : ℕ) → ReplyTyped image live s next (reset_stack n s)
+    reset-typed n = caller (is_application s.current) refl
+      where
+        named : (o : Option Stack) → slice_get s.stacks n ≡ o → s.current ≡ 0 → ReplyTyped image live s next (emptied n s o)
+        named None e kernel = same-typed 1
+        named (Some RunningStack) e kernel = same-typed 1
+        named (Some EmptyStack) e kernel = empties-typed n EmptyStack kernel e (λ f. cc)
+        named (Some (YieldedStack place values)) e kernel = empties-typed n (YieldedStack place values) kernel e (λ f. cc)
+        named (Some (InterruptedStack thread values)) e kernel = empties-typed n (InterruptedStack thread values) kernel e (λ f. cc)
+
+        caller : (b : Bool) → is_application s.current ≡ b → ReplyTyped image live s next (if b then Replies 2 s else emptied n s (slice_get s.stacks n))
+        caller true e = same-typed 2
+        caller false e = named (slice_get s.stacks n) refl (grind (arith, nat_tests))
+
+    -- what a call asks of the devices is done, or is refused and changes nothing
+    done-typed : (b : Bool) (items : List Item) → ReplyTyped image live s next (if b then Replies 0 (happened items s) else Replies 1 s)
+    done-typed true items = happened-typed 0 items
+    done-typed false items = same-typed 1
+
+    -- a code is taken, if there is one
+    code-typed : (o : Option ℕ) → ReplyTyped image live s next (code_taken o s)
+    code-typed None = same-typed 256
+    code-typed (Some code) = happened-typed code (Took ∷ [])
+
+  -- ---- all entries
+
+  -- an entry that asks for nothing
+  nothing-typed : (k : ℕ) (reply : State → ReplyView) → CallTyped (scope_of image live s) s next k → slice_get nucleus_arguments k ≡ Some Nothing
+      → (Awaits (scope_of image live s) ty.Num next s.values → ReplyTyped image live s next (reply s)) → SomeReplyTyped image live s next (by_nothing reply s)
+  nothing-typed k reply c e typed =
+      let gives = gives-nothing c.eax c.ecx c.reply (gives-by c Nothing e) in
+      typed (awaits-number c gives)
+
+  -- one that asks for a number
+  one-typed : (k : ℕ) (reply : ℕ → State → ReplyView) → CallTyped (scope_of image live s) s next k → slice_get nucleus_arguments k ≡ Some OneNumber
+      → (Awaits (scope_of image live s) ty.Num next s.values → (n : ℕ) → ReplyTyped image live s next (reply n s)) → SomeReplyTyped image live s next (by_number reply s)
+  one-typed k reply c e typed =
+      let gives = gives-one c.eax c.ecx c.reply (gives-by c OneNumber e) in
+      let eax = holds-number (scope_of image live s) (s.thread.regs Eax) c.eax c.eax_fits gives.0 in
+      rw eax.1 (typed (awaits-number c gives.1) eax.0)
+
+  -- one that asks for two
+  two-typed : (k : ℕ) (reply : ℕ → ℕ → State → ReplyView) → CallTyped (scope_of image live s) s next k → slice_get nucleus_arguments k ≡ Some TwoNumbers
+      → (Awaits (scope_of image live s) ty.Num next s.values → (n m : ℕ) → ReplyTyped image live s next (reply n m s))
+      → SomeReplyTyped image live s next (by_numbers reply s)
+  two-typed k reply c e typed =
+      let gives = gives-two c.eax c.ecx c.reply (gives-by c TwoNumbers e) in
+      let eax = holds-number (scope_of image live s) (s.thread.regs Eax) c.eax c.eax_fits gives.0 in
+      let ecx = holds-number (scope_of image live s) (s.thread.regs Ecx) c.ecx c.ecx_fits gives.1 in
+      rw (eax.1, ecx.1) (typed (awaits-number c gives.2) eax.0 ecx.0)
+
+  -- each entry behind those of the heap
+  pub call-replies : (k : ℕ) → CallTyped (scope_of image live s) s next (suc (suc (suc k))) → SomeReplyTyped image live s next (Reply (suc (suc (suc k))) s)
+  unfolding Reply nucleus_arguments
+  call-replies zero c = one-typed 3 yield_to c refl yield-typed
+  call-replies (suc zero) c = one-typed 4 get_stack_state c refl (λ a n. same-typed a _)
+  call-replies (suc (suc zero)) c = one-typed 5 reset_stack c refl reset-typed
+  call-replies (suc (suc (suc zero))) c = two-typed 6 vga_text_write c refl (λ a n m. done-typed a _ (Drew n (m % 2 ^ 16) ∷ []))
+  call-replies (suc (suc (suc (suc zero)))) c = nothing-typed 7 try_read_keyboard c refl (λ a. code-typed a _)
+  call-replies (suc (suc (suc (suc (suc zero))))) c = one-typed 8 start_timer c refl (λ a n. done-typed a _ (count_items n))
+  call-replies (suc (suc (suc (suc (suc (suc zero)))))) c = nothing-typed 9 send_eoi c refl (λ a. done-typed a _ (Wrote 0x20 0x20 ∷ []))
+  call-replies (suc (suc (suc (suc (suc (suc (suc zero))))))) c = nothing-typed 10 current_stack c refl (λ a. same-typed a _)
+  call-replies (suc (suc (suc (suc (suc (suc (suc (suc k)))))))) c = absurd (let x = c.entry in cc)
