@@ -27,6 +27,11 @@ most_code = 1048576
 abbrev pub most_words : ℕ
 most_words = 65536
 
+-- a condition of a number that a file may leave out, if it is one of those: then 0 stands for what is not given
+abbrev pub where_given : Bool → (ℕ → Bool) → ℕ → Bool
+where_given false ok = ok
+where_given true ok = λ n. n == 0 || ok n
+
 -- 1: the heap has 64 to 4194304 words, a multiple of 4
 abbrev pub heap_fits : ℕ → Bool
 heap_fits n = between 64 4194304 n && n % 4 == 0
@@ -74,6 +79,11 @@ type_fits t tag index = nat_lt index (slice_index (table_sizes t) tag)
 -- 13: a function has a byte at least, not more than are left of the code, and all of them where no function follows
 abbrev pub length_fits : ℕ → ℕ → ℕ → Bool
 length_fits later left n = nat_le 1 n && nat_le n left && (nat_lt 0 later || n == left)
+
+-- the same, where an extern function has no bytes
+unfoldable pub part_length_fits : Bool → ℕ → ℕ → ℕ → Bool
+part_length_fits false later left n = length_fits later left n
+part_length_fits true later left n = n == 0 && (nat_lt 0 later || n == left)
 
 -- 14: the function's signature is there
 abbrev pub sig_fits : Tables → ℕ → Bool
@@ -143,6 +153,11 @@ with_array used a = used + 2 + a.size
 -- the numbers that the file has for a data array of a kind: all where its elements are numbers, else none
 unfoldable pub numbers_given : List KindRow → ℕ → ℕ → ℕ
 numbers_given kinds k n = if option_map_or (λ (row : KindRow). type_tag (of_field row.element) == 0) (slice_get kinds k) false then n else 0
+
+-- the same, where an extern data array has none
+unfoldable pub part_numbers : Bool → List KindRow → ℕ → ℕ → ℕ
+part_numbers false kinds k n = numbers_given kinds k n
+part_numbers true kinds k n = 0
 
 -- an instruction and the bytes that spell it
 pub record Spelled : Type 0 where

@@ -1,5 +1,5 @@
 -- The fields of an image file, part by part.
-use Rattle.std.specs.Prelude.{ℕ, zero, suc, ◌+◌, ◌-◌, Bool, true, ◌&&◌, ◌==◌, List, [], ◌∷◌, ◌++◌, length, Option, Some, None, drop, if◌then◌else◌}
+use Rattle.std.specs.Prelude.{ℕ, zero, suc, ◌+◌, ◌-◌, Bool, true, false, ◌&&◌, ◌==◌, List, [], ◌∷◌, ◌++◌, length, Option, Some, None, drop, if◌then◌else◌}
 use Rattle.std.specs.List.{flat_map}
 use Rattle.object_layout.specs.declared.rows.FieldTy.{FieldTy}
 use Rattle.object_layout.specs.declared.rows.FieldTy.TheVariants.{Num as NumField, Ref as RefField, ArrRef as ArrRefField, Fun as FunField}
@@ -14,27 +14,27 @@ use Rattle.tal_image.specs.declared.parts.Header.{Header}
 use Rattle.tal_image.specs.declared.parts.FunctionPart.{FunctionPart}
 use Rattle.tal_image.specs.declared.parts.MarkPart.{MarkPart}
 use Rattle.tal_image.specs.Image.{ImageParts, ArrayPart, BlockPart, magic_number}
-use Rattle.tal_image.specs.Conditions.{Tables, heap_fits, stacks_fit, sigs_fit, functions_fit, classes_fit, kinds_fit, statics_fit, arrays_fit, code_fits, blocks_fit, marks_fit, type_fits, length_fits, sig_fits, entry_fits, class_view, parent_fits, inherited_fields, inherited_methods, fields_fit, is_field_tag, methods_fit, method_fits, kind_fits, array_fits, with_array, numbers_given, Spelled, block_fits, slots_fit, marked_number_at, mark_fits, word_fits}
+use Rattle.tal_image.specs.Conditions.{Tables, where_given, heap_fits, stacks_fit, sigs_fit, functions_fit, classes_fit, kinds_fit, statics_fit, arrays_fit, code_fits, blocks_fit, marks_fit, type_fits, length_fits, sig_fits, entry_fits, class_view, parent_fits, inherited_fields, inherited_methods, fields_fit, is_field_tag, methods_fit, method_fits, kind_fits, array_fits, with_array, numbers_given, Spelled, block_fits, slots_fit, marked_number_at, mark_fits, word_fits}
 use Rattle.file_fields.specs.Grammar.{Grammar, done, pair, instruction, field, checked, each, then_with, many, FaultOf}
 
 -- the tables to which types refer
 abbrev pub tables_of : Header → Tables
 tables_of h = record { sigs = h.sigs; classes = h.classes; kinds = h.kinds }
 
--- the header
-unfoldable pub header_fields : Grammar Header
-header_fields =
-    then_with (field (λ n. n == magic_number) (λ at. Magic)) (λ magic.
+-- the header of a file with this magic number, which may leave numbers out or may not
+unfoldable pub header_where : ℕ → Bool → Grammar Header
+header_where letters partial =
+    then_with (field (λ n. n == letters) (λ at. Magic)) (λ magic.
     then_with (field (λ n. n == 1) (λ at. Version)) (λ version.
-    then_with (checked heap_fits 1) (λ heap_words.
-    then_with (checked stacks_fit 2) (λ stacks.
-    then_with (checked sigs_fit 3) (λ sigs.
-    then_with (checked functions_fit 4) (λ functions.
+    then_with (checked (where_given partial heap_fits) 1) (λ heap_words.
+    then_with (checked (where_given partial stacks_fit) 2) (λ stacks.
+    then_with (checked (where_given partial sigs_fit) 3) (λ sigs.
+    then_with (checked (where_given partial functions_fit) 4) (λ functions.
     then_with (checked classes_fit 5) (λ classes.
     then_with (checked kinds_fit 6) (λ kinds.
     then_with (checked statics_fit 7) (λ statics.
     then_with (checked arrays_fit 8) (λ arrays.
-    then_with (checked code_fits 9) (λ code.
+    then_with (checked (where_given partial code_fits) 9) (λ code.
     then_with (checked blocks_fit 10) (λ blocks.
     then_with (checked marks_fit 11) (λ marks.
     done (record {
@@ -50,6 +50,10 @@ header_fields =
       blocks = blocks;
       marks = marks;
     }))))))))))))))
+
+-- that of an image file
+abbrev pub header_fields : Grammar Header
+header_fields = header_where magic_number false
 
 -- the type with a tag and an index
 unfoldable pub type_with : ℕ → ℕ → Ty
@@ -90,12 +94,16 @@ sig_fields t =
     then_with (type_field t) (λ result.
     done (record { params = params; result = result })))
 
--- a function, where so many come after it and so many bytes of the code are left
-unfoldable pub function_fields : Tables → ℕ → ℕ → Grammar FunctionPart
-function_fields t later left =
-    then_with (checked (length_fits later left) 13) (λ len.
+-- a function whose length meets a test
+unfoldable pub function_where : Tables → (ℕ → Bool) → Grammar FunctionPart
+function_where t long =
+    then_with (checked long 13) (λ len.
     then_with (checked (sig_fits t) 14) (λ sig.
     done (record { length = len; sig = sig })))
+
+-- a function, where so many come after it and so many bytes of the code are left
+abbrev pub function_fields : Tables → ℕ → ℕ → Grammar FunctionPart
+function_fields t later left = function_where t (length_fits later left)
 
 -- what is left of the code after a function
 abbrev pub after_function : ℕ → FunctionPart → ℕ
@@ -128,13 +136,18 @@ kind_fields t = then_with (field_type_field t) (λ element. done (record { eleme
 abbrev pub any_number : Grammar ℕ
 any_number = checked (λ n. true) 22
 
--- a data array, where the statics and the data arrays before it take so many words
-unfoldable pub array_fields : Tables → List KindRow → ℕ → Grammar ArrayPart
-array_fields t kinds used =
+-- a data array with so many numbers by its kind and its length, where the statics and the data arrays before it take so many
+-- words
+unfoldable pub array_where : Tables → (ℕ → ℕ → ℕ) → ℕ → Grammar ArrayPart
+array_where t given used =
     then_with (checked (kind_fits t) 21) (λ kind.
     then_with (checked (array_fits used) 22) (λ size.
-    then_with (each (numbers_given kinds kind size) any_number) (λ ns.
+    then_with (each (given kind size) any_number) (λ ns.
     done (record { kind = kind; size = size; numbers = ns }))))
+
+-- that of an image
+abbrev pub array_fields : Tables → List KindRow → ℕ → Grammar ArrayPart
+array_fields t kinds used = array_where t (numbers_given kinds) used
 
 -- the instructions of so many bytes; there are not more of them than bytes
 unfoldable pub instructions : ℕ → ℕ → Grammar (List Spelled)

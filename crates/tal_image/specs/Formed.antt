@@ -1,5 +1,5 @@
 -- What every image keeps, by the numbers of the conditions, and which image bytes stand for.
-use Rattle.std.specs.Prelude.{◌≡◌, ℕ, ◌<◌, ◌≤◌, ◌-◌, ◌^◌, true, List, [], ◌∷◌, length, drop}
+use Rattle.std.specs.Prelude.{◌≡◌, ℕ, ◌<◌, ◌≤◌, ◌-◌, ◌^◌, Bool, true, List, [], ◌∷◌, length, drop}
 use Rattle.ia32_code.specs.Spells.{Spells}
 use Rattle.object_layout.specs.declared.rows.FieldTy.{FieldTy}
 use Rattle.object_layout.specs.declared.rows.ClassRow.{ClassRow}
@@ -8,15 +8,30 @@ use Rattle.tal_types.specs.declared.types.Ty.{Ty}
 use Rattle.tal_types.specs.declared.signatures.Sig.{Sig}
 use Rattle.tal_types.specs.Types.{of_field}
 pub use Rattle.file_fields.specs.Parts.{EachAfter, Each}
+use Rattle.tal_image.specs.declared.parts.Header.{Header}
 use Rattle.tal_image.specs.declared.parts.FunctionPart.{FunctionPart}
 use Rattle.tal_image.specs.declared.parts.MarkPart.{MarkPart}
 use Rattle.tal_image.specs.Image.{ImageParts, ArrayPart, BlockPart, type_tag, type_index, parent_number, FileOf}
-use Rattle.tal_image.specs.Conditions.{Tables, heap_fits, stacks_fit, sigs_fit, functions_fit, classes_fit, kinds_fit, statics_fit, arrays_fit, code_fits, blocks_fit, marks_fit, type_fits, length_fits, sig_fits, entry_fits, class_view, parent_fits, inherited_fields, inherited_methods, fields_fit, methods_fit, method_fits, kind_fits, array_fits, with_array, numbers_given, Spelled, block_fits, slots_fit, marked_number_at, mark_fits, word_fits}
+use Rattle.tal_image.specs.Conditions.{Tables, where_given, heap_fits, stacks_fit, sigs_fit, functions_fit, classes_fit, kinds_fit, statics_fit, arrays_fit, code_fits, blocks_fit, marks_fit, type_fits, length_fits, sig_fits, entry_fits, class_view, parent_fits, inherited_fields, inherited_methods, fields_fit, methods_fit, method_fits, kind_fits, array_fits, with_array, numbers_given, Spelled, block_fits, slots_fit, marked_number_at, mark_fits, word_fits}
 use Rattle.tal_image.specs.Fields.{all_instructions, code_bytes, after_function, after_block, after_mark, with_class}
 
 -- the number has 32 bits
 abbrev pub IsWord : ℕ → Type 0
 IsWord n = n < 2 ^ 32
+
+-- a header, in a file that may leave numbers out or may not
+pub record IsHeader (partial : Bool) (h : Header) : Type 0 where
+  pub condition_1 : where_given partial heap_fits h.heap_words ≡ true
+  pub condition_2 : where_given partial stacks_fit h.stacks ≡ true
+  pub condition_3 : where_given partial sigs_fit h.sigs ≡ true
+  pub condition_4 : where_given partial functions_fit h.functions ≡ true
+  pub condition_5 : classes_fit h.classes ≡ true
+  pub condition_6 : kinds_fit h.kinds ≡ true
+  pub condition_7 : statics_fit h.statics ≡ true
+  pub condition_8 : arrays_fit h.arrays ≡ true
+  pub condition_9 : where_given partial code_fits h.code ≡ true
+  pub condition_10 : blocks_fit h.blocks ≡ true
+  pub condition_11 : marks_fit h.marks ≡ true
 
 -- a type
 pub record IsType (t : Tables) (ty : Ty) : Type 0 where

@@ -16,7 +16,7 @@ use crate::header_reader::header;
 use crate::image_rows::ImageRows;
 use crate::laws::{image_ends, read_as_fields};
 use crate::mark_words::MarkWords;
-use crate::parts::{ArrayPart, BlockPart, FunctionPart, Header, MarkPart, Tables};
+use crate::parts::{ArrayPart, BlockPart, FunctionPart, Header, MAGIC, MarkPart, Tables};
 use crate::row_reader::{Entries, Kinds, field_types};
 use file_fields::{ImageFault, Reader, Row, read_whole};
 use object_layout::{ClassRow, FieldList, FunRow, KindRow};
@@ -75,7 +75,7 @@ fn table_rows(alloc: Global, reader: &mut Reader<'_>) -> Result<TableRows, Image
     ensures file { reader.new.file ≡ reader.old.file }
     ensures room { IfOk result (λ rows. FitsMemory (front_parts_of rows)) }
 {
-    let header = header(reader)?;
+    let header = header(reader, MAGIC, false)?;
     let tables = Tables::of(&header);
     let sigs = reader.rows::<Tables, Sig>(alloc, &tables, header.sigs)?;
     let functions = reader.rows_after::<Tables, u32, FunctionPart>(

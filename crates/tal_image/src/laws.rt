@@ -2,6 +2,7 @@
 ghost use Rattle.std.specs.Prelude.{◌^◌};
 ghost use Rattle.file_fields.specs.Laws.{EndsBy};
 ghost use Rattle.tal_image.specs.Fields.{image_fields};
+ghost use Rattle.tal_image.specs.Rows.{RowMeanings};
 ghost use Rattle.tal_image.specs.Laws.{OneMeaning, ReadAsFields, EachIsOne, FormedShapes};
 
 use crate::image_reader::PlacedRows;
@@ -37,6 +38,14 @@ pub fn formed_shapes()
     ensures { FormedShapes }
 {
     object_layout::laws::class_laws();
+}
+
+/// What the rows of a file stand for, both ways: for files of another kind with the same rows.
+pub fn row_meanings()
+    ensures { RowMeanings }
+{
+    ia32_code::laws::spelling_length();
+    file_fields::laws::number_meanings();
 }
 
 /// A file that ends inside a field of an image has no more than 64 MiB.

@@ -8,6 +8,10 @@
 //
 // A new field of the format stands in its grammar (specs/Fields.antt), in its row's reader (`header_reader`, `row_reader`,
 // `class_reader`, `code_reader`) and in its writer (`writing`), and nowhere else.
+//
+// A file of another kind may have the same rows. Where its conditions differ, the grammar takes the tests from it
+// (`header_where`, `function_where`, `array_where`, `block_where`, `mark_where`), and `header`, `function` and `array` read
+// by them; `laws::row_meanings` says what each row stands for.
 #![tactic(auto)]
 
 mod class_reader;
@@ -28,6 +32,11 @@ mod type_codes;
 mod writing;
 
 pub use file_fields::ImageFault;
+pub use header_reader::header;
 pub use image::Image;
 pub use image_rows::ImageRows;
-pub use parts::{ArrayPart, BlockPart, DataRow, FunctionPart, MarkPart, NumberList, TypeList};
+pub use parts::{
+    ArrayPart, BlockPart, DataRow, FunctionPart, Header, MarkPart, NumberList, Tables, TypeList,
+};
+pub use row_reader::{Kinds, array, function};
+pub use writing::ImageFile;

@@ -4,8 +4,8 @@ ghost use Rattle.std.specs.Prelude.{◌≡◌, ◌≤◌, ◌+◌, ◌==◌, ℕ
 ghost use Rattle.std.specs.List.{list_all};
 ghost use Rattle.file_fields.specs.Grammar.{Grammar, checked, each};
 ghost use Rattle.file_fields.specs.Reading.{GivesAt, run};
-ghost use Rattle.tal_image.specs.Conditions.{type_fits, length_fits, entry_fits, starts_stack, kind_fits, array_fits, with_array, most_words, numbers_given};
-ghost use Rattle.tal_image.specs.Fields.{tables_of, type_field, field_type_field, sig_fields, function_fields, kind_fields, any_number, array_fields, after_function};
+ghost use Rattle.tal_image.specs.Conditions.{type_fits, part_length_fits, entry_fits, starts_stack, kind_fits, array_fits, with_array, most_words, numbers_given, part_numbers};
+ghost use Rattle.tal_image.specs.Fields.{tables_of, type_field, field_type_field, sig_fields, function_where, function_fields, kind_fields, any_number, array_where, array_fields, after_function};
 ghost use Rattle.tal_image.specs.Image.{type_tag};
 
 use crate::parts::{ArrayPart, FunctionPart, Header, NumberList, Tables};
@@ -17,7 +17,7 @@ use tal_types::{Sig, Ty};
 
 impl Tables {
     /// How many rows the tables have behind a header.
-    pub(crate) fn of(header: &Header) -> Tables
+    pub fn of(header: &Header) -> Tables
         ensures { result ≡ tables_of header.now }
     {
         Tables {
@@ -106,17 +106,21 @@ impl Row<Tables> for Ty {
     }
 }
 
-/// The next type, of a field, a static or an element.
-#[tactic(auto, using(crate::proofs::Reading::RowReadings::field_type_run))]
-fn field_type(reader: &mut Reader<'_>, tables: &Tables) -> Result<FieldTy, ImageFault>
-    ensures gives { GivesAt result (run (field_type_field tables.now) reader.old.file.now reader.old.at) reader.new.at }
-    ensures file { reader.new.file ≡ reader.old.file }
-{
-    let at = reader.at as u32;
-    let (tag, index) = reader.pair()?;
-    require(tables.type_fits(tag, index), at, 12)?;
-    require(tag == 0 || tag == 1 || tag == 3 || tag == 5, at, 18)?;
-    Ok(field_type_with(tag, index))
+impl Row<Tables> for FieldTy {
+    ghost fields = { λ t. field_type_field t };
+
+    #[tactic(auto, using(crate::proofs::Reading::RowReadings::field_type_run))]
+    fn read(
+        _alloc: Global,
+        reader: &mut Reader<'_>,
+        tables: &Tables,
+    ) -> Result<FieldTy, ImageFault> {
+        let at = reader.at as u32;
+        let (tag, index) = reader.pair()?;
+        require(tables.type_fits(tag, index), at, 12)?;
+        require(tag == 0 || tag == 1 || tag == 3 || tag == 5, at, 18)?;
+        Ok(field_type_with(tag, index))
+    }
 }
 
 /// The next types of fields or statics, so many.
@@ -132,7 +136,7 @@ pub(crate) fn field_types(
 {
     let mut fields = FieldList::new(alloc);
     for i in 0..count {
-        let one = field_type(reader, tables)?;
+        let one = FieldTy::read(alloc, reader, tables)?;
         fields.push(one)?;
     }
     Ok(fields)
@@ -175,11 +179,11 @@ impl Row<Tables> for KindRow {
 
     #[tactic(auto, using(crate::proofs::Reading::RowReadings::kind_run))]
     fn read(
-        _alloc: Global,
+        alloc: Global,
         reader: &mut Reader<'_>,
         tables: &Tables,
     ) -> Result<KindRow, ImageFault> {
-        let element = field_type(reader, tables)?;
+        let element = FieldTy::read(alloc, reader, tables)?;
         Ok(KindRow { element })
     }
 }
@@ -194,12 +198,46 @@ impl Row<Tables> for u32 {
     }
 }
 
+/// Whether a function, extern or not, may have a length before so many others, where so many bytes of the code are left.
+#[tactic(auto, unfolding(crate::specs::Conditions::part_length_fits))]
+fn length_fits(ext: bool, later: u32, left: u32, length: u32) -> bool
+    ensures { result ≡ part_length_fits ext later left length }
+{
+    if ext {
+        length == 0 && (later > 0 || length == left)
+    } else {
+        1 <= length && length <= left && (later > 0 || length == left)
+    }
+}
+
+/// The next function, extern or not, before so many others, where so many bytes of the code are left.
+#[tactic(auto, using(crate::proofs::Reading::RowReadings::function_run))]
+pub fn function(
+    reader: &mut Reader<'_>,
+    tables: &Tables,
+    ext: bool,
+    later: u32,
+    left: u32,
+) -> Result<FunctionPart, ImageFault>
+    ensures gives { GivesAt result (run (function_where tables.now (part_length_fits ext later left)) reader.old.file.now reader.old.at) reader.new.at }
+    ensures file { reader.new.file ≡ reader.old.file }
+    ensures fits { IfOk result (λ f. f.length ≤ left) }
+{
+    let at = reader.at as u32;
+    let length = reader.number()?;
+    require(length_fits(ext, later, left, length), at, 13)?;
+    let at = reader.at as u32;
+    let sig = reader.number()?;
+    require(sig < tables.sigs, at, 14)?;
+    Ok(FunctionPart { length, sig })
+}
+
 impl RowAfter<Tables, u32> for FunctionPart {
     ghost fields = { λ t later left. function_fields t later left };
 
     ghost after = { after_function };
 
-    #[tactic(auto, using(crate::proofs::Reading::RowReadings::function_run))]
+    #[tactic(auto, unfolding(crate::specs::Conditions::part_length_fits))]
     fn read(
         _alloc: Global,
         reader: &mut Reader<'_>,
@@ -208,18 +246,9 @@ impl RowAfter<Tables, u32> for FunctionPart {
         kept: &mut u32,
     ) -> Result<FunctionPart, ImageFault> {
         let left = *kept;
-        let at = reader.at as u32;
-        let length = reader.number()?;
-        require(
-            1 <= length && length <= left && (later > 0 || length == left),
-            at,
-            13,
-        )?;
-        let at = reader.at as u32;
-        let sig = reader.number()?;
-        require(sig < tables.sigs, at, 14)?;
-        *kept = left - length;
-        Ok(FunctionPart { length, sig })
+        let row = function(reader, tables, false, later, left)?;
+        *kept = left - row.length;
+        Ok(row)
     }
 }
 
@@ -277,9 +306,45 @@ fn array_size(reader: &mut Reader<'_>, used: u32) -> Result<u32, ImageFault>
 
 /// What a data array must be one of: the array kinds.
 #[derive(Drop)]
-pub(crate) struct Kinds<'a> {
+pub struct Kinds<'a> {
     pub tables: Tables,
     pub rows: &'a [KindRow],
+}
+
+/// How many numbers the file has for a data array, extern or not, of a kind and a length.
+#[tactic(auto, unfolding(crate::specs::Conditions::part_numbers))]
+fn part_numbers(ext: bool, kinds: &[KindRow], kind: u32, size: u32) -> u32
+    ensures { result ≡ part_numbers ext kinds.now kind size }
+{
+    if ext {
+        0
+    } else {
+        numbers_given(kinds, kind, size)
+    }
+}
+
+/// The next data array, extern or not, where so many words are taken before it.
+#[tactic(auto, using(crate::proofs::Reading::RowReadings::array_run))]
+pub fn array(
+    alloc: Global,
+    reader: &mut Reader<'_>,
+    kinds: &Kinds<'_>,
+    ext: bool,
+    used: u32,
+) -> Result<ArrayPart, ImageFault>
+    ensures gives { GivesAt result (run (array_where kinds.now.tables (part_numbers ext kinds.now.rows.now) used) reader.old.file.now reader.old.at) reader.new.at }
+    ensures file { reader.new.file ≡ reader.old.file }
+    ensures fits { IfOk result (λ a. used + 2 + a.size ≤ most_words) }
+{
+    let kind = kind_number(reader, &kinds.tables)?;
+    let size = array_size(reader, used)?;
+    let given = part_numbers(ext, kinds.rows, kind, size);
+    let numbers = reader.rows::<Tables, u32>(alloc, &kinds.tables, given)?;
+    Ok(ArrayPart {
+        kind,
+        size,
+        numbers: NumberList::of(numbers),
+    })
 }
 
 impl<'a> RowAfter<Kinds<'a>, u32> for ArrayPart {
@@ -287,7 +352,7 @@ impl<'a> RowAfter<Kinds<'a>, u32> for ArrayPart {
 
     ghost after = { with_array };
 
-    #[tactic(auto, using(crate::proofs::Reading::RowReadings::array_run))]
+    #[tactic(auto, unfolding(crate::specs::Conditions::part_numbers))]
     fn read(
         alloc: Global,
         reader: &mut Reader<'_>,
@@ -296,15 +361,8 @@ impl<'a> RowAfter<Kinds<'a>, u32> for ArrayPart {
         kept: &mut u32,
     ) -> Result<ArrayPart, ImageFault> {
         let used = *kept;
-        let kind = kind_number(reader, &kinds.tables)?;
-        let size = array_size(reader, used)?;
-        let given = numbers_given(kinds.rows, kind, size);
-        let numbers = reader.rows::<Tables, u32>(alloc, &kinds.tables, given)?;
-        *kept = used + 2 + size;
-        Ok(ArrayPart {
-            kind,
-            size,
-            numbers: NumberList::of(numbers),
-        })
+        let row = array(alloc, reader, kinds, false, used)?;
+        *kept = used + 2 + row.size;
+        Ok(row)
     }
 }

@@ -9,8 +9,8 @@ use no_memory::NoMemory;
 use object_layout::{ClassRow, FieldTy, KindRow};
 use tal_types::{Sig, Ty};
 
-/// Image files, as a format of their parts.
-pub(crate) struct ImageFile;
+/// Image files, as a format of their parts. Parts of another format are written by it where their bytes are the same.
+pub struct ImageFile;
 
 impl Part<ImageFile> for Ty {
     ghost use Rattle.tal_image.specs.Image.{type_bytes};

@@ -98,7 +98,7 @@ module _ (some : SomeText) where
 -- ---- how many bytes the instructions have
 
 -- the instructions of a function have all of its bytes
-body_length : (room : ℕ) (xs : List Spelled) → IsBody room xs → length (code_bytes xs) ≡ room
+pub body_length : (room : ℕ) (xs : List Spelled) → IsBody room xs → length (code_bytes xs) ≡ room
 body_length room [] h = sym h
 body_length room (x ∷ xs) h =
     let k = body_length (room - length x.text) xs h.3 in

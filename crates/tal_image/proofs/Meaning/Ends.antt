@@ -11,13 +11,14 @@ use Rattle.object_layout.specs.declared.rows.ClassRow.{ClassRow}
 use Rattle.object_layout.specs.declared.rows.KindRow.{KindRow}
 use Rattle.tal_types.specs.Types.{of_field}
 use Rattle.tal_image.specs.declared.parts.FunctionPart.{FunctionPart}
-use Rattle.tal_image.specs.Image.{ImageParts, ArrayPart, type_tag}
+use Rattle.tal_image.specs.Image.{ImageParts, ArrayPart, type_tag, magic_number}
 use Rattle.tal_image.specs.Conditions.{Tables, Spelled, class_view, inherited_methods, entry_fits, numbers_given, with_array, between}
 use Rattle.file_fields.specs.Grammar.{Grammar, done, chunk, instruction, checked, each, then_with, many, bytes_number, Field, Chunk, Instruction, fields_text, Sound, EndsInside}
 use Rattle.file_fields.specs.Composed.{and_then}
-use Rattle.tal_image.specs.Fields.{type_field, field_type_field, sig_fields, function_fields, after_function, method_list, class_fields, kind_fields, array_fields, block_where, block_fields, mark_where, mark_fields, instructions, bodies, all_instructions, tables_of, header_fields, sigs_part, functions_part, entries_part, classes_part, kinds_part, statics_part, arrays_part, blocks_part, marks_part, coded_fields, image_fields}
+use Rattle.tal_image.specs.Fields.{type_field, field_type_field, sig_fields, function_where, function_fields, after_function, method_list, class_fields, kind_fields, array_where, array_fields, block_where, block_fields, mark_where, mark_fields, instructions, bodies, all_instructions, tables_of, header_where, header_fields, sigs_part, functions_part, entries_part, classes_part, kinds_part, statics_part, arrays_part, blocks_part, marks_part, coded_fields, image_fields}
 use Rattle.tal_image.proofs.Reading.Lengths.{code_length}
-use Rattle.tal_image.proofs.Meaning.Header.{Test, tested, TestsMet, tests, header_of, IsHeader, header_is}
+use Rattle.tal_image.specs.Formed.{IsHeader}
+use Rattle.tal_image.proofs.Meaning.Header.{Test, tested, TestsMet, tests, header_of, header_is}
 use Rattle.tal_image.proofs.Meaning.Rows.{after_params, after_types}
 
 -- ---- what a grammar reads at most
@@ -123,9 +124,11 @@ most_tested (t ∷ ts) n le =
     most_then (TestsMet ts) (TestsMet (t ∷ ts)) (tested ts) (λ ns. done (k, ns)) (n - 4) 0 (n - 4) (omega arith) rest (λ ns all. (c, all)))
 
 -- a header, and its limits
-header_most : Most IsHeader header_fields 52
-unfolding header_fields then_with
-header_most = most_then (TestsMet tests) IsHeader (tested tests) (λ ns. done (header_of ns)) 52 0 52 (omega arith) (most_tested tests 52 (omega arith)) header_is
+header_most : (letters : ℕ) (partial : Bool) → Most (IsHeader partial) (header_where letters partial) 52
+unfolding header_where then_with
+header_most letters partial =
+    let ts = tests letters partial in
+    most_then (TestsMet ts) (IsHeader partial) (tested ts) (λ ns. done (header_of letters partial ns)) 52 0 52 (omega arith) (most_tested ts 52 (omega arith)) (header_is letters partial)
 
 -- ---- rows
 
@@ -150,7 +153,7 @@ sig_most t = most_next (each 7 (type_field t)) (after_params t) 56 8 64 (omega a
 -- functions, which have no more bytes than the code
 functions_most : (t : Tables) (n left limit : ℕ) → n * 8 ≤ limit
     → Most (λ (fs : List FunctionPart). code_length fs ≤ left) (many n (function_fields t) after_function left) limit
-unfolding function_fields code_length then_with
+unfolding function_where code_length then_with
 functions_most t zero left limit le = omega arith
 functions_most t (suc n) left limit le =
     let m = suc-mul n 8 in
@@ -194,7 +197,7 @@ given_few kinds kind n = go (option_map_or (λ (row : KindRow). type_tag (of_fie
 -- data arrays, which have 65536 words at most in all
 arrays_most : (t : Tables) (kinds : List KindRow) (n used limit : ℕ) → n * 8 + (65536 - used) * 4 ≤ limit
     → MostAny (many n (λ later kept. array_fields t kinds kept) with_array used) limit
-unfolding array_fields then_with
+unfolding array_where then_with
 arrays_most t kinds zero used limit le = tt
 arrays_most t kinds (suc n) used limit le =
     let m = suc-mul n 8 in
@@ -260,7 +263,7 @@ not_above low high n h = grind (arith, nat_tests)
 coded_most : MostAny coded_fields 67108853
 unfolding coded_fields then_with
 coded_most =
-    most_then IsHeader _ header_fields _ 52 60000000 67108853 (omega arith) header_most (λ h is.
+    most_then (IsHeader false) _ header_fields _ 52 60000000 67108853 (omega arith) (header_most magic_number false) (λ h is.
     let few1 = not_above 1 4096 h.sigs is.condition_3 in
     let few2 = not_above 1 16384 h.functions is.condition_4 in
     let few3 = not_above 2 64 h.stacks is.condition_2 in

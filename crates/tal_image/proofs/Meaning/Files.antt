@@ -1,6 +1,6 @@
 -- The file of an image is its fields one after another.
 use Rattle.std.specs.List.{flat_map}
-use Rattle.std.proofs.Common.{◌≡◌, ℕ, true, List, [], ◌∷◌, ◌++◌, length, refl, sym, ap, subst, ◌∙◌}
+use Rattle.std.proofs.Common.{◌≡◌, ℕ, true, false, List, [], ◌∷◌, ◌++◌, length, refl, sym, ap, subst, ◌∙◌, lit<}
 use Rattle.std.proofs.lemmas.List.{append-nil}
 use Rattle.object_layout.specs.declared.rows.FieldTy.{FieldTy}
 use Rattle.object_layout.specs.declared.rows.ClassRow.{ClassRow}
@@ -9,18 +9,19 @@ use Rattle.tal_types.specs.declared.signatures.Sig.{Sig}
 use Rattle.tal_image.specs.declared.parts.Header.{Header}
 use Rattle.tal_image.specs.declared.parts.FunctionPart.{FunctionPart}
 use Rattle.tal_image.specs.declared.parts.MarkPart.{MarkPart}
-use Rattle.tal_image.specs.Image.{ImageParts, ArrayPart, BlockPart, number_bytes, numbers, field_bytes, sig_bytes, function_bytes, class_bytes, kind_bytes, array_bytes, block_bytes, mark_bytes, FileOf}
+use Rattle.tal_image.specs.Image.{ImageParts, ArrayPart, BlockPart, number_bytes, numbers, field_bytes, sig_bytes, function_bytes, class_bytes, kind_bytes, array_bytes, block_bytes, mark_bytes, magic_number, FileOf}
 use Rattle.tal_image.specs.Conditions.{Tables, functions_fit, entry_fits, with_array, Spelled}
 use Rattle.file_fields.specs.declared.fault.ImageFault.TheVariants.{Bad}
 use Rattle.file_fields.specs.Grammar.{done, checked, Field, fields_text, Sound, SoundFile}
 use Rattle.file_fields.specs.Laws.{NumberMeanings}
 use Rattle.file_fields.specs.Parts.{Means, FieldsOf, Counted}
 use Rattle.file_fields.specs.Composed.{at_end, split, join, many_means, each_means, means_as, put_part, put_last, take_part, take_last, given}
-use Rattle.tal_image.specs.Fields.{tables_of, sigs_part, functions_part, entries_part, classes_part, kinds_part, statics_part, arrays_part, blocks_part, marks_part, after_function, with_class, after_block, after_mark, all_instructions, code_bytes, CodedImage, coded, coded_fields, image_fields}
-use Rattle.tal_image.specs.Formed.{EachAfter, Each, IsSig, IsFunction, IsEntry, IsClass, IsFieldType, IsArray, AreBodies, IsBlockPart, IsMark, Formed, ImageOf}
+use Rattle.tal_image.specs.Rows.{header_numbers}
+use Rattle.tal_image.specs.Fields.{tables_of, header_fields, sigs_part, functions_part, entries_part, classes_part, kinds_part, statics_part, arrays_part, blocks_part, marks_part, after_function, with_class, after_block, after_mark, all_instructions, code_bytes, CodedImage, coded, coded_fields, image_fields}
+use Rattle.tal_image.specs.Formed.{EachAfter, Each, IsHeader, IsSig, IsFunction, IsEntry, IsClass, IsFieldType, IsArray, AreBodies, IsBlockPart, IsMark, Formed, ImageOf}
 use Rattle.tal_image.proofs.Meaning.Types.{field_type_means}
 use Rattle.tal_image.proofs.Meaning.Rows.{sig_means, function_means, kind_means, array_means, mark_means, block_means, class_means}
-use Rattle.tal_image.proofs.Meaning.Header.{IsHeader, header_text, header_means}
+use Rattle.tal_image.proofs.Meaning.Header.{header_means as letters_means}
 use Rattle.tal_image.proofs.Meaning.Bodies.{SomeText, bodies_means, code_length}
 
 -- ---- the lists of a file
@@ -54,7 +55,15 @@ abbrev AreMarks : Header → List FunctionPart → List ArrayPart → List Spell
 AreMarks h functions arrays code xs =
     EachAfter after_mark (λ later least m. IsMark (tables_of h) functions h.statics arrays code least m) 0 xs
 
+-- the bytes of a header
+abbrev header_text : Header → List ℕ
+header_text h = numbers (header_numbers magic_number h)
+
 module _ (meanings : NumberMeanings) where
+  -- the header of an image's file
+  header_means : Means header_fields (IsHeader false) header_text
+  header_means = letters_means magic_number false (lit< tt) meanings
+
   -- each list in a file
   sigs_means : (h : Header) → Means (sigs_part h) (Counted h.sigs (AreSigs (tables_of h))) (λ xs. flat_map sig_bytes xs)
   sigs_means h = each_means (sig_means meanings (tables_of h)) h.sigs
@@ -97,7 +106,7 @@ module _ (meanings : NumberMeanings) where
 
 -- the parts of an image are as they must be under this header
 record Under (h : Header) (y : CodedImage) : Type 0 where
-  header : IsHeader h
+  header : IsHeader false h
   sigs : Counted h.sigs (AreSigs (tables_of h)) y.image.sigs
   functions : Counted h.functions (AreFunctions h) y.image.functions
   entries : Counted h.stacks (AreEntries y.image.sigs y.image.functions) y.image.entries
@@ -184,7 +193,7 @@ formed_of y u e = record {
 }
 
 -- the header of an image that is formed
-formed_header : (i : ImageParts) → Formed i → IsHeader (header_of i)
+formed_header : (i : ImageParts) → Formed i → IsHeader false (header_of i)
 formed_header i f = record {
   condition_1 = f.condition_1;
   condition_2 = f.condition_2;

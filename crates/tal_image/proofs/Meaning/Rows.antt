@@ -14,8 +14,9 @@ use Rattle.file_fields.specs.Grammar.{Grammar, done, pair, checked, each, then_w
 use Rattle.file_fields.specs.Laws.{NumberMeanings}
 use Rattle.file_fields.specs.Parts.{FieldsOf, Means, Checked, Counted}
 use Rattle.file_fields.specs.Composed.{many_means, each_means, means_as, put_part, put_last, take_part, take_last, given}
-use Rattle.tal_image.specs.Fields.{type_field, field_type_field, sig_fields, function_fields, parent_of, method_list, class_fields, kind_fields, array_fields, block_where, block_fields, mark_where, mark_fields}
+use Rattle.tal_image.specs.Fields.{type_field, field_type_field, sig_fields, function_where, function_fields, parent_of, method_list, class_fields, kind_fields, array_where, array_fields, block_where, block_fields, mark_where, mark_fields}
 use Rattle.tal_image.specs.Formed.{IsWord, EachAfter, Each, IsType, IsFieldType, IsSig, IsFunction, IsMethod, IsClass, IsArray, IsBlockPart, IsMark}
+use Rattle.tal_image.specs.Rows.{IsFunctionWhere, IsArrayWhere, IsMarkWhere}
 use Rattle.tal_image.proofs.Meaning.Types.{type_means, field_type_means}
 
 -- ---- what comes behind the first fields of a row
@@ -56,19 +57,23 @@ module _ (meanings : NumberMeanings) where
 
   -- ---- functions
 
+  -- a function whose length meets a test
+  pub function_where_means : (t : Tables) (long : ℕ → Bool) → Means (function_where t long) (IsFunctionWhere t long) function_bytes
+  unfolding function_where
+  function_where_means t long = record {
+    whole = λ f h.
+        put_part (meanings.one long (λ at. Bad at 13)) _ f.length f _ h.0 (put_last (meanings.one (sig_fits t) (λ at. Bad at 14)) _ f.sig h.1);
+    back = λ fs f p.
+        given (take_part (meanings.one long (λ at. Bad at 13)) _ fs f p) (λ len.
+        given (take_last (meanings.one (sig_fits t) (λ at. Bad at 14)) _ len.rest f len.more) (λ sig.
+        subst (λ (z : FunctionPart). IsFunctionWhere t long z × (fields_text fs ≡ function_bytes z)) sig.same ((len.is, sig.is), len.bytes _ sig.bytes)));
+  }
+
   -- a function
   pub function_means : (t : Tables) (later left : ℕ) → Means (function_fields t later left) (IsFunction t later left) function_bytes
-  unfolding function_fields
-  function_means t later left = record {
-    whole = λ f h.
-        put_part (meanings.one (length_fits later left) (λ at. Bad at 13)) _ f.length f _ (h.length_word, h.condition_13)
-        (put_last (meanings.one (sig_fits t) (λ at. Bad at 14)) _ f.sig (h.sig_word, h.condition_14));
-    back = λ fs f p.
-        given (take_part (meanings.one (length_fits later left) (λ at. Bad at 13)) _ fs f p) (λ len.
-        given (take_last (meanings.one (sig_fits t) (λ at. Bad at 14)) _ len.rest f len.more) (λ sig.
-        subst (λ (z : FunctionPart). IsFunction t later left z × (fields_text fs ≡ function_bytes z)) sig.same
-        (record { length_word = len.is.0; condition_13 = len.is.1; sig_word = sig.is.0; condition_14 = sig.is.1 }, len.bytes _ sig.bytes)));
-  }
+  function_means t later left =
+      means_as (λ f h. record { length_word = h.0.0; condition_13 = h.0.1; sig_word = h.1.0; condition_14 = h.1.1 })
+      (λ f h. ((h.length_word, h.condition_13), (h.sig_word, h.condition_14))) (function_where_means t (length_fits later left))
 
   -- ---- array kinds
 
@@ -92,67 +97,58 @@ module _ (meanings : NumberMeanings) where
   words_means : (n : ℕ) → Means (each n (checked (λ m. true) 22)) (Counted n (Each IsWord)) numbers
   words_means n = each_means word_means n
 
-  -- a data array
-  pub array_means : (t : Tables) (kinds : List KindRow) (used : ℕ) → Means (array_fields t kinds used) (IsArray t kinds used) array_bytes
-  unfolding array_fields
-  array_means t kinds used = record {
+  -- a data array with so many numbers
+  pub array_where_means : (t : Tables) (count : ℕ → ℕ → ℕ) (used : ℕ) → Means (array_where t count used) (IsArrayWhere t count used) array_bytes
+  unfolding array_where
+  array_where_means t count used = record {
     whole = λ a h.
-        put_part (meanings.one (kind_fits t) (λ at. Bad at 21)) _ a.kind a _ (h.kind_word, h.condition_21)
-        (put_part (meanings.one (array_fits used) (λ at. Bad at 22)) _ a.size a _ (h.size_word, h.condition_22)
-        (put_last (words_means (numbers_given kinds a.kind a.size)) _ a.numbers (h.count, h.words)));
+        put_part (meanings.one (kind_fits t) (λ at. Bad at 21)) _ a.kind a _ h.0
+        (put_part (meanings.one (array_fits used) (λ at. Bad at 22)) _ a.size a _ h.1
+        (put_last (words_means (count a.kind a.size)) _ a.numbers h.2));
     back = λ fs a p.
         given (take_part (meanings.one (kind_fits t) (λ at. Bad at 21)) _ fs a p) (λ kind.
         given (take_part (meanings.one (array_fits used) (λ at. Bad at 22)) _ kind.rest a kind.more) (λ size.
-        given (take_last (words_means (numbers_given kinds kind.value size.value)) _ size.rest a size.more) (λ ns.
-        subst (λ (z : ArrayPart). IsArray t kinds used z × (fields_text fs ≡ array_bytes z)) ns.same (
-          record {
-            kind_word = kind.is.0;
-            condition_21 = kind.is.1;
-            size_word = size.is.0;
-            condition_22 = size.is.1;
-            count = ns.is.0;
-            words = ns.is.1;
-          },
-          kind.bytes _ (size.bytes _ ns.bytes),
-        ))));
+        given (take_last (words_means (count kind.value size.value)) _ size.rest a size.more) (λ ns.
+        subst (λ (z : ArrayPart). IsArrayWhere t count used z × (fields_text fs ≡ array_bytes z)) ns.same ((kind.is, size.is, ns.is), kind.bytes _ (size.bytes _ ns.bytes)))));
   }
+
+  -- a data array
+  pub array_means : (t : Tables) (kinds : List KindRow) (used : ℕ) → Means (array_fields t kinds used) (IsArray t kinds used) array_bytes
+  array_means t kinds used =
+      means_as (λ a h. record { kind_word = h.0.0; condition_21 = h.0.1; size_word = h.1.0; condition_22 = h.1.1; count = h.2.0; words = h.2.1 })
+      (λ a h. ((h.kind_word, h.condition_21), (h.size_word, h.condition_22), (h.count, h.words))) (array_where_means t (numbers_given kinds) used)
 
   -- ---- marks
 
-  module _ (t : Tables) (functions : List FunctionPart) (statics : ℕ) (arrays : List ArrayPart) (code : List Spelled) where
-    -- whether a mark at this offset may have this tag and index
-    abbrev fits_at : ℕ → ℕ → ℕ → Bool
-    fits_at offset = word_fits t functions statics arrays (marked_number_at offset code)
-
+  module _ (place : ℕ → Bool) (word : ℕ → ℕ → ℕ → Bool) where
     -- the mark of an offset, a tag and an index
     abbrev marked : ℕ → ℕ × ℕ → MarkPart
     marked offset p = record { offset = offset; tag = p.0; index = p.1 }
 
     -- what comes after the offset of a mark
     abbrev after_offset : ℕ → Grammar MarkPart
-    after_offset offset = pair (fits_at offset) (λ tag index at. Bad at 27) (λ tag index. done (marked offset (tag, index)))
+    after_offset offset = pair (word offset) (λ tag index at. Bad at 27) (λ tag index. done (marked offset (tag, index)))
 
-    -- a mark
-    pub mark_means : (least : ℕ) → Means (mark_fields t functions statics arrays code least) (IsMark t functions statics arrays code least) mark_bytes
+    -- a mark under tests
+    pub mark_where_means : Means (mark_where place word) (IsMarkWhere place word) mark_bytes
     unfolding mark_where then_with
-    mark_means least = record {
+    mark_where_means = record {
       whole = λ m h.
-          put_part (meanings.one (mark_fits code least) (λ at. Bad at 26)) after_offset m.offset m _ (h.offset_word, h.condition_26)
-          (put_last (meanings.two (fits_at m.offset) (λ tag index at. Bad at 27)) (λ p. marked m.offset p) (m.tag, m.index) (h.tag_word, h.index_word, h.condition_27));
+          put_part (meanings.one place (λ at. Bad at 26)) after_offset m.offset m _ h.0
+          (put_last (meanings.two (word m.offset) (λ tag index at. Bad at 27)) (λ p. marked m.offset p) (m.tag, m.index) h.1);
       back = λ fs m p.
-          given (take_part (meanings.one (mark_fits code least) (λ at. Bad at 26)) after_offset fs m p) (λ offset.
-          given (take_last (meanings.two (fits_at offset.value) (λ tag index at. Bad at 27)) (λ q. marked offset.value q) offset.rest m offset.more) (λ both.
-          subst (λ (z : MarkPart). IsMark t functions statics arrays code least z × (fields_text fs ≡ mark_bytes z)) both.same (
-            record {
-              offset_word = offset.is.0;
-              condition_26 = offset.is.1;
-              tag_word = both.is.0;
-              index_word = both.is.1;
-              condition_27 = both.is.2;
-            },
-            offset.bytes _ both.bytes,
-          )));
+          given (take_part (meanings.one place (λ at. Bad at 26)) after_offset fs m p) (λ offset.
+          given (take_last (meanings.two (word offset.value) (λ tag index at. Bad at 27)) (λ q. marked offset.value q) offset.rest m offset.more) (λ both.
+          subst (λ (z : MarkPart). IsMarkWhere place word z × (fields_text fs ≡ mark_bytes z)) both.same ((offset.is, both.is), offset.bytes _ both.bytes)));
     }
+
+  -- a mark
+  pub mark_means : (t : Tables) (functions : List FunctionPart) (statics : ℕ) (arrays : List ArrayPart) (code : List Spelled) (least : ℕ)
+      → Means (mark_fields t functions statics arrays code least) (IsMark t functions statics arrays code least) mark_bytes
+  mark_means t functions statics arrays code least =
+      means_as (λ m h. record { offset_word = h.0.0; condition_26 = h.0.1; tag_word = h.1.0; index_word = h.1.1; condition_27 = h.1.2 })
+      (λ m h. ((h.offset_word, h.condition_26), (h.tag_word, h.index_word, h.condition_27)))
+      (mark_where_means (mark_fits code least) (λ offset. word_fits t functions statics arrays (marked_number_at offset code)))
 
   -- ---- blocks
 

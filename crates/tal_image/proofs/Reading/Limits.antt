@@ -6,7 +6,7 @@ use Rattle.file_fields.specs.declared.fault.ImageFault.{ImageFault}
 use Rattle.file_fields.specs.declared.fault.ImageFault.TheVariants.{Bad}
 use Rattle.tal_image.specs.declared.parts.FunctionPart.{FunctionPart}
 use Rattle.tal_image.specs.Image.{ArrayPart}
-use Rattle.tal_image.specs.Conditions.{Tables, length_fits, sig_fits, kind_fits, array_fits, with_array, numbers_given}
+use Rattle.tal_image.specs.Conditions.{Tables, where_given, between, length_fits, part_length_fits, sig_fits, kind_fits, array_fits, with_array, numbers_given}
 use Rattle.file_fields.specs.Grammar.{Grammar, checked, each, many}
 use Rattle.file_fields.specs.Reading.{◌▸◌, word_at, run}
 use Rattle.file_fields.specs.Composed.{checked_run, many_run}
@@ -50,7 +50,18 @@ many_inverse {S} {A} row step n kept file at ys end e =
     let same = ok_pair (x.0 ∷ more.0.0) ys more.0.1 end more.2 in
     (x, more.0.0, one.1, more.1 ∙ ap (λ (z : ℕ). let r : Result (List A × ℕ) ImageFault = Ok (more.0.0, z) in r) same.1, same.0)
 
+-- a number within limits, or 0 where it may be left out, is not more than the higher one
+pub given_within : (partial : Bool) (low high n : ℕ) → where_given partial (between low high) n ≡ true → n ≤ high
+given_within true low high n h = grind (arith, nat_tests)
+given_within false low high n h = grind (arith, nat_tests)
+
 -- ---- functions
+
+-- a function, extern or not, has no more than are left
+pub part_fits : (ext : Bool) (later left n : ℕ) → part_length_fits ext later left n ≡ true → n ≤ left
+unfolding part_length_fits
+part_fits true later left n h = grind (arith, nat_tests)
+part_fits false later left n h = grind (arith, nat_tests)
 
 -- each function has a byte at least
 abbrev pub AllPositive : List FunctionPart → Type 0
@@ -61,7 +72,7 @@ AllPositive (f ∷ functions) = (0 < f.length) × AllPositive functions
 function_fits : (t : Tables) (later left : ℕ) (file : List ℕ) (at : ℕ) (f : FunctionPart × ℕ)
     → run (function_fields t later left) file at ≡ Ok f → (0 < f.0.length) × (f.0.length ≤ left)
 function_fits t later left file at f e =
-    let one = bind_inverse (word_at file at) _ f (sym (function_run t later left file at) ∙ e) in
+    let one = bind_inverse (word_at file at) _ f (sym (function_run t (length_fits later left) file at) ∙ e) in
     let met = passed (length_fits later left one.0.0) _ (Bad at 13) f one.2 in
     let two = bind_inverse (word_at file one.0.1) _ f met.1 in
     let last = passed (sig_fits t two.0.0) _ (Bad one.0.1 14) f two.2 in
@@ -91,7 +102,7 @@ functions_fit t (suc n) left file at fs end e =
 array_room : (t : Tables) (kinds : List KindRow) (used : ℕ) (file : List ℕ) (at : ℕ) (a : ArrayPart × ℕ)
     → run (array_fields t kinds used) file at ≡ Ok a → used + 2 + a.0.size ≤ 65536
 array_room t kinds used file at a e =
-    let one = bind_inverse (run (checked (kind_fits t) 21) file at) _ a (sym (array_run t kinds used file at) ∙ e) in
+    let one = bind_inverse (run (checked (kind_fits t) 21) file at) _ a (sym (array_run t (numbers_given kinds) used file at) ∙ e) in
     let two = bind_inverse (run (checked (array_fits used) 22) file one.0.1) _ a one.2 in
     let three = bind_inverse (run (each (numbers_given kinds one.0.0 two.0.0) any_number) file two.0.1) _ a two.2 in
     let met = checked_met (array_fits used) 22 file one.0.1 two.0 two.1 in

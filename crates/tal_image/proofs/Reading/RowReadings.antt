@@ -1,7 +1,6 @@
 -- How the rows of the tables are read, one field after another.
 use Rattle.std.proofs.Common.{◌≡◌, ℕ, suc, Bool, true, false, not, cond, ◌&&◌, List, [], ◌∷◌, Result, Ok, Err, refl, ap, ◌∙◌}
 use Rattle.std.specs.Prelude.{◌==◌, if◌then◌else◌}
-use Rattle.object_layout.specs.declared.rows.KindRow.{KindRow}
 use Rattle.tal_types.specs.declared.types.Ty.{Ty}
 use Rattle.file_fields.specs.declared.fault.ImageFault.{ImageFault}
 use Rattle.file_fields.specs.declared.fault.ImageFault.TheVariants.{Magic, Version, Bad}
@@ -9,8 +8,8 @@ use Rattle.file_fields.specs.Grammar.{Grammar, done, field, checked, each, then_
 use Rattle.file_fields.specs.Reading.{◌▸◌, word_at, pair_at, run}
 use Rattle.file_fields.specs.Composed.{bind_then, same_bind, run-then_with, then_run, number_run, pair_run, many_run}
 use Rattle.tal_image.specs.declared.parts.Header.{Header}
-use Rattle.tal_image.specs.Conditions.{Tables, between, heap_fits, type_fits, is_field_tag, length_fits, sig_fits, kind_fits, array_fits, numbers_given}
-use Rattle.tal_image.specs.Fields.{header_fields, type_with, type_field, field_type_field, field_type_with, sig_fields, function_fields, kind_fields, any_number, array_fields}
+use Rattle.tal_image.specs.Conditions.{Tables, between, where_given, heap_fits, type_fits, is_field_tag, sig_fits, kind_fits, array_fits}
+use Rattle.tal_image.specs.Fields.{header_where, type_with, type_field, field_type_field, field_type_with, sig_fields, function_where, kind_fields, any_number, array_where}
 
 -- a number, and what is read then
 pub number_then : {B : Type 0} (ok : ℕ → Bool) (fault : ℕ → ImageFault) (file : List ℕ) (at : ℕ) (f : ℕ → Grammar B) (more : ℕ × ℕ → Result (B × ℕ) ImageFault)
@@ -79,25 +78,25 @@ unfolding kind_fields
 kind_run t file at = run-then_with (field_type_field t) _ file at
 
 -- a function
-pub function_run : (t : Tables) (later left : ℕ) (file : List ℕ) (at : ℕ)
-    → run (function_fields t later left) file at
-    ≡ (word_at file at ▸ λ len. cond (length_fits later left len.0)
+pub function_run : (t : Tables) (long : ℕ → Bool) (file : List ℕ) (at : ℕ)
+    → run (function_where t long) file at
+    ≡ (word_at file at ▸ λ len. cond (long len.0)
     (word_at file len.1 ▸ λ sig. cond (sig_fits t sig.0) (Ok (record { length = len.0; sig = sig.0 }, sig.1)) (Err (Bad len.1 14)))
     (Err (Bad at 13)))
-unfolding function_fields
-function_run t later left file at =
-    number_then (length_fits later left) (λ at. Bad at 13) file at _ _ (λ len. number_then (sig_fits t) (λ at. Bad at 14) file len.1 _ _ (λ sig. refl))
+unfolding function_where
+function_run t long file at =
+    number_then long (λ at. Bad at 13) file at _ _ (λ len. number_then (sig_fits t) (λ at. Bad at 14) file len.1 _ _ (λ sig. refl))
 
 -- a data array
-pub array_run : (t : Tables) (kinds : List KindRow) (used : ℕ) (file : List ℕ) (at : ℕ)
-    → run (array_fields t kinds used) file at
+pub array_run : (t : Tables) (given : ℕ → ℕ → ℕ) (used : ℕ) (file : List ℕ) (at : ℕ)
+    → run (array_where t given used) file at
     ≡ (run (checked (kind_fits t) 21) file at ▸ λ kind. run (checked (array_fits used) 22) file kind.1 ▸ λ size.
-    run (each (numbers_given kinds kind.0 size.0) any_number) file size.1 ▸ λ given. Ok (record { kind = kind.0; size = size.0; numbers = given.0 }, given.1))
-unfolding array_fields
-array_run t kinds used file at =
-    then_run (checked (kind_fits t) 21) (λ kind. then_with (checked (array_fits used) 22) (λ size. then_with (each (numbers_given kinds kind size) any_number) (λ ns. done (record { kind = kind; size = size; numbers = ns })))) file at _ (λ kind.
-    then_run (checked (array_fits used) 22) (λ size. then_with (each (numbers_given kinds kind.0 size) any_number) (λ ns. done (record { kind = kind.0; size = size; numbers = ns }))) file kind.1 _ (λ size.
-    run-then_with (each (numbers_given kinds kind.0 size.0) any_number) (λ ns. done (record { kind = kind.0; size = size.0; numbers = ns })) file size.1))
+    run (each (given kind.0 size.0) any_number) file size.1 ▸ λ ns. Ok (record { kind = kind.0; size = size.0; numbers = ns.0 }, ns.1))
+unfolding array_where
+array_run t given used file at =
+    then_run (checked (kind_fits t) 21) (λ kind. then_with (checked (array_fits used) 22) (λ size. then_with (each (given kind size) any_number) (λ ns. done (record { kind = kind; size = size; numbers = ns })))) file at _ (λ kind.
+    then_run (checked (array_fits used) 22) (λ size. then_with (each (given kind.0 size) any_number) (λ ns. done (record { kind = kind.0; size = size; numbers = ns }))) file kind.1 _ (λ size.
+    run-then_with (each (given kind.0 size.0) any_number) (λ ns. done (record { kind = kind.0; size = size.0; numbers = ns })) file size.1))
 
 -- the header of these numbers
 abbrev header_of : ℕ → ℕ → ℕ → ℕ → ℕ → ℕ → ℕ → ℕ → ℕ → ℕ → ℕ → Header
@@ -116,27 +115,27 @@ header_of heap_words stacks sigs functions classes kinds statics arrays code blo
 }
 
 -- the header
-pub header_run : (file : List ℕ) (at : ℕ)
-    → run header_fields file at
-    ≡ (word_at file at ▸ λ magic. cond (magic.0 == 0x49565256) (word_at file magic.1 ▸ λ version. cond (version.0 == 1) (
-    run (checked heap_fits 1) file version.1 ▸ λ heap_words. run (checked (between 2 64) 2) file heap_words.1 ▸ λ stacks.
-    run (checked (between 1 4096) 3) file stacks.1 ▸ λ sigs. run (checked (between 1 16384) 4) file sigs.1 ▸ λ functions.
+pub header_run : (letters : ℕ) (partial : Bool) (file : List ℕ) (at : ℕ)
+    → run (header_where letters partial) file at
+    ≡ (run (field (λ n. n == letters) (λ at. Magic)) file at ▸ λ magic. run (field (λ n. n == 1) (λ at. Version)) file magic.1 ▸ λ version.
+    run (checked (where_given partial heap_fits) 1) file version.1 ▸ λ heap_words. run (checked (where_given partial (between 2 64)) 2) file heap_words.1 ▸ λ stacks.
+    run (checked (where_given partial (between 1 4096)) 3) file stacks.1 ▸ λ sigs. run (checked (where_given partial (between 1 16384)) 4) file sigs.1 ▸ λ functions.
     run (checked (between 0 1024) 5) file functions.1 ▸ λ classes. run (checked (between 0 256) 6) file classes.1 ▸ λ kinds.
     run (checked (between 0 65536) 7) file kinds.1 ▸ λ statics. run (checked (between 0 65536) 8) file statics.1 ▸ λ arrays.
-    run (checked (between 1 1048576) 9) file arrays.1 ▸ λ code. run (checked (between 0 65536) 10) file code.1 ▸ λ blocks.
+    run (checked (where_given partial (between 1 1048576)) 9) file arrays.1 ▸ λ code. run (checked (between 0 65536) 10) file code.1 ▸ λ blocks.
     run (checked (between 0 65536) 11) file blocks.1 ▸ λ marks.
-    Ok (header_of heap_words.0 stacks.0 sigs.0 functions.0 classes.0 kinds.0 statics.0 arrays.0 code.0 blocks.0 marks.0, marks.1)) (Err Version)) (Err Magic))
-unfolding header_fields
-header_run file at =
-    number_then (λ n. n == 0x49565256) (λ at. Magic) file at _ _ (λ magic. number_then (λ n. n == 1) (λ at. Version) file magic.1 _ _ (λ version.
-    then_run (checked heap_fits 1) _ file version.1 _ (λ heap_words.
-    then_run (checked (between 2 64) 2) _ file heap_words.1 _ (λ stacks.
-    then_run (checked (between 1 4096) 3) _ file stacks.1 _ (λ sigs.
-    then_run (checked (between 1 16384) 4) _ file sigs.1 _ (λ functions.
+    Ok (header_of heap_words.0 stacks.0 sigs.0 functions.0 classes.0 kinds.0 statics.0 arrays.0 code.0 blocks.0 marks.0, marks.1))
+unfolding header_where
+header_run letters partial file at =
+    then_run (field (λ n. n == letters) (λ at. Magic)) _ file at _ (λ magic. then_run (field (λ n. n == 1) (λ at. Version)) _ file magic.1 _ (λ version.
+    then_run (checked (where_given partial heap_fits) 1) _ file version.1 _ (λ heap_words.
+    then_run (checked (where_given partial (between 2 64)) 2) _ file heap_words.1 _ (λ stacks.
+    then_run (checked (where_given partial (between 1 4096)) 3) _ file stacks.1 _ (λ sigs.
+    then_run (checked (where_given partial (between 1 16384)) 4) _ file sigs.1 _ (λ functions.
     then_run (checked (between 0 1024) 5) _ file functions.1 _ (λ classes.
     then_run (checked (between 0 256) 6) _ file classes.1 _ (λ kinds.
     then_run (checked (between 0 65536) 7) _ file kinds.1 _ (λ statics.
     then_run (checked (between 0 65536) 8) _ file statics.1 _ (λ arrays.
-    then_run (checked (between 1 1048576) 9) _ file arrays.1 _ (λ code.
+    then_run (checked (where_given partial (between 1 1048576)) 9) _ file arrays.1 _ (λ code.
     then_run (checked (between 0 65536) 10) _ file code.1 _ (λ blocks.
     then_run (checked (between 0 65536) 11) _ file blocks.1 _ (λ marks. refl)))))))))))))

@@ -22,7 +22,7 @@ use Rattle.tal_image.specs.ImageReading.{FrontParts, front_at, behind_at, addres
 use Rattle.tal_image.proofs.Classes.Readings.{behind_parent_run}
 
 -- a part that is refused ends the reading
-refused : {A B : Type 0} (e : ImageFault) (r : Result A ImageFault) (f : A → Result B ImageFault) → Fails e r → Fails e (r ▸ f)
+pub refused : {A B : Type 0} (e : ImageFault) (r : Result A ImageFault) (f : A → Result B ImageFault) → Fails e r → Fails e (r ▸ f)
 refused {A} e r f h = passed_on e r (r ▸ f) (λ g q. ap (λ (z : Result A ImageFault). z ▸ f) q) h
 
 -- ---- a class behind its parent's number
