@@ -1,13 +1,14 @@
+-- Which images run so far.
 pub mod Built
-pub mod Outside
-pub mod Values
-pub mod States
-pub mod Effects
-pub mod Turns
-pub mod Typing
+-- The words that are shown.
 pub mod Shown
+-- The text of a report.
 pub mod Report
+-- A journal.
 pub mod Journal
+-- A machine: when it stands for a state and follows a journal.
 pub mod Machine
-pub mod Words
+-- How a machine is made and takes a turn.
+pub mod Stepping
+-- The law of what is shown.
 pub mod Laws

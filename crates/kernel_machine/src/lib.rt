@@ -2,15 +2,14 @@
 //
 // A `Machine` is made over a `Checked` image and recorded events. `turn` takes one turn, `run` takes many, and `report` gives
 // the text of what a machine (anything that is `Shown`) shows at its end. The `Journal` holds what a run did, and the room
-// that its turns need. So far code over numbers runs, with functions, calls, branches and frames, on stack 0; `first_outside`
-// tells where an image leaves that form.
+// that its turns need. So far stack 0 alone runs, and no call of the Nucleus; `first_unbuilt_call` tells where an image's code
+// has one.
 //
-// `State`, `Effect`, `TurnOf` and `RunOf` (in specs/) say what a run does to values with types; `Typed` says which states
-// typing allows. `Follows` says that the machine's words are those of such a run, told by its journal; each turn keeps it.
-// `ReportText` is the report. `laws` has that no run of a well typed image is stuck.
+// `Stands` (in specs/) says that the machine's words are those of a state of the typed machine, and `Follows` that this state
+// is that of the run that the journal tells; each turn keeps it. `ReportText` is the report.
 #![tactic(auto)]
 
-mod form;
+mod calls;
 mod journal;
 pub mod laws;
 mod machine;
@@ -20,11 +19,9 @@ mod run_end;
 mod running;
 mod screen_text;
 mod shown;
-mod stack_words;
-mod stepping;
 mod turn;
 
-pub use form::first_outside;
+pub use calls::first_unbuilt_call;
 pub use journal::Journal;
 pub use machine::Machine;
 pub use number_text::word_digits;

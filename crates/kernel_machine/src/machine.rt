@@ -3,35 +3,43 @@ ghost use Rattle.ia32_code.specs.Canonical.{Canonical};
 ghost use Rattle.device_model.specs.EventFile.{InOrder};
 ghost use Rattle.object_layout.specs.Areas.{code_start};
 ghost use Rattle.tal_checker.specs.WellTyped.{WellTyped};
+ghost use Rattle.typed_machine.specs.States.{entry_place};
+ghost use Rattle.typed_machine.specs.Code.{inst_at};
 ghost use Rattle.kernel_machine.specs.Built.{IsBuilt};
 ghost use Rattle.kernel_machine.specs.Machine.{MachineView, Follows, turn_of, end_of};
-ghost use Rattle.kernel_machine.specs.States.{entry_place};
-ghost use Rattle.kernel_machine.specs.Turns.{inst_at};
-ghost use Rattle.kernel_machine.specs.Words.{TakesTurn};
+ghost use Rattle.kernel_machine.specs.Stepping.{TakesTurn, CalledNone, ending_by};
 
 use crate::journal::Journal;
-use crate::laws::{first_is_typed, runs_go_on, turns_keep_typing};
 use crate::run_end::RunEnd;
 use crate::running::MOST_TURNS;
 use crate::shown::Shown;
-use crate::stack_words::{STACK_END, StackWords};
-use crate::stepping::{ESP, advance};
 use crate::turn::Turn;
 use device_model::{BLANK, CELLS, Event};
 use ia32_code::laws::canonical_is_none;
 use ia32_code::{Decoded, Inst, decode};
 use ia32_step::Cpu;
 use no_memory::NoMemory;
-use object_layout::areas::CODE_START;
+use object_layout::areas::{CODE_START, STACKS_START};
 use stack_states::{FlagBits, StackState};
 use std::alloc::Global;
 use std::marker::Model;
 use tal_checker::Checked;
 use tal_checker::laws::accepted_runs;
 use tal_image::Image;
+use tal_types::ImageView;
+use typed_machine::Ending;
+use typed_safety::laws::{runs_are_typed, turns_keep_typing, well_typed_images_keep_typing};
+use word_machine::{Memory, STACK_WORDS, Step, advance};
+
+const EAX: usize = 0;
+
+const ESP: usize = 4;
+
+/// The stack that runs, alone so far.
+const KERNEL: u32 = 0;
 
 /// ESP of stack 0 with its end word alone.
-const FIRST_ESP: u32 = STACK_END - 4;
+const FIRST_ESP: u32 = STACKS_START + 4 * (STACK_WORDS as u32 - 1);
 
 /// A machine over a checked image and recorded events.
 ///
@@ -40,28 +48,26 @@ const FIRST_ESP: u32 = STACK_END - 4;
 pub struct Machine {
     checked: Checked,
     events: Vec<Event>,
-    /// ESP is that of stack 0.
     cpu: Cpu,
-    turns: u32,
-    ending: Turn,
-    /// The memory of stack 0, which alone runs so far.
-    stack: StackWords,
+    memory: Memory,
     cells: Vec<u16>,
+    turns: u32,
+    ending: Option<Ending>,
 }
 
 impl Model for Machine {
-    ghost use Rattle.kernel_machine.specs.Machine.{MachineView, Lawful, ending_of};
-    ghost use Rattle.kernel_machine.specs.Words.{viewed};
+    ghost use Rattle.kernel_machine.specs.Machine.{MachineView, Lawful};
+    ghost use Rattle.kernel_machine.specs.Stepping.{viewed};
 
     ghost Value = { MachineView };
 
-    ghost view = { λ m. viewed m.checked.image m.events.items m.cpu m.turns (ending_of m.ending) m.stack m.cells.items };
+    ghost view = { λ m. viewed m.checked.image m.events.items m.cpu m.memory m.cells.items m.turns m.ending };
 
-    ghost invariant = { λ m. Lawful (viewed m.checked.image m.events.items m.cpu m.turns (ending_of m.ending) m.stack m.cells.items) };
+    ghost invariant = { λ m. Lawful (viewed m.checked.image m.events.items m.cpu m.memory m.cells.items m.turns m.ending) };
 }
 
 // Where stack 0 begins.
-#[tactic(auto, unfolding(crate::specs::States::entry_place))]
+#[tactic(auto, unfolding(typed_machine::specs::States::entry_place))]
 fn entry_place(image: &Image) -> u32
     requires { WellTyped image.now }
     ensures { result ≡ entry_place image.now 0 }
@@ -89,11 +95,35 @@ fn inst_in(image: &Image, pc: u32) -> (Inst, u8)
     }
 }
 
+// The end that an instruction of stack 0 came to, with this number in EAX.
+fn ending_by(step: Step, eax: u32) -> Option<Ending>
+    requires { CalledNone step }
+    ensures { result ≡ ending_by step eax }
+{
+    match step {
+        Step::Moves => None,
+        Step::Faults(vector) => Some(Ending::KernelFault(vector)),
+        Step::Calls(_) => unreachable!(),
+        Step::Ends => Some(Ending::Halted(eax)),
+    }
+}
+
+// What a turn answers after which there is this end.
+fn turn_of(ending: Option<Ending>) -> Turn
+    ensures { result ≡ turn_of ending }
+{
+    match ending {
+        None => Turn::On,
+        Some(Ending::Halted(number)) => Turn::Halted(number),
+        Some(Ending::KernelFault(vector)) => Turn::KernelFault(vector),
+    }
+}
+
 impl Machine {
     /// A machine before its first turn: stack 0 runs at its function, with all registers 0 and all flags clear.
     ///
-    /// The events' turns are 1 to [`crate::MOST_TURNS`] and do not fall, and the image is of the form that runs, for which
-    /// `first_outside` is the test. After `NoMemory` the image and the events are given up.
+    /// The events' turns are 1 to [`crate::MOST_TURNS`] and do not fall, and the image's code calls no entry of the Nucleus, for
+    /// which [`crate::first_unbuilt_call`] is the test. After `NoMemory` the image and the events are given up.
     pub fn new(alloc: Global, checked: Checked, events: Vec<Event>) -> Result<Machine, NoMemory>
         requires ordered { InOrder events.items }
         requires built { IsBuilt checked.image }
@@ -103,10 +133,10 @@ impl Machine {
         ensures turns { IfOk result (λ m. m.turns ≡ 0) }
         ensures ending { IfOk result (λ m. m.ending ≡ None) }
     {
-        accepted_runs();
-        first_is_typed();
-        let pc = entry_place(checked.image());
-        let stack = StackWords::new(alloc)?;
+        runs_are_typed();
+        let image = checked.image();
+        let pc = entry_place(image);
+        let memory = Memory::new(alloc, image)?;
         let cells = vec![in alloc; BLANK; CELLS]?;
         let flags = FlagBits {
             carry: false,
@@ -123,10 +153,10 @@ impl Machine {
             checked,
             events,
             cpu,
-            turns: 0,
-            ending: Turn::On,
-            stack,
+            memory,
             cells,
+            turns: 0,
+            ending: None,
         })
     }
 
@@ -146,12 +176,11 @@ impl Machine {
         ensures journal { journal.new ≡ journal.old }
         ensures answer { result ≡ turn_of self.new.ending }
     {
-        accepted_runs();
-        runs_go_on();
+        runs_are_typed();
         if !self.has_ended() {
             self.step();
         }
-        self.ending
+        turn_of(self.ending)
     }
 
     /// How many turns were taken.
@@ -174,9 +203,9 @@ impl Machine {
         ensures real { result ≢ RunEnd.NoMemory }
     {
         match self.ending {
-            Turn::On => RunEnd::Turns,
-            Turn::Halted(number) => RunEnd::Halted(number),
-            Turn::KernelFault(vector) => RunEnd::KernelFault(vector),
+            None => RunEnd::Turns,
+            Some(Ending::Halted(number)) => RunEnd::Halted(number),
+            Some(Ending::KernelFault(vector)) => RunEnd::KernelFault(vector),
         }
     }
 
@@ -186,23 +215,28 @@ impl Machine {
         requires turns { self.old.turns < MOST_TURNS }
         ensures { TakesTurn self.old self.new }
     {
+        // In an accepted image an instruction stands at the place, and it is well typed.
         accepted_runs();
+        well_typed_images_keep_typing();
         turns_keep_typing();
         let (inst, len) = inst_in(self.checked.image(), self.cpu.pc);
         self.turns += 1;
-        self.ending = advance(&mut self.cpu, &mut self.stack, &inst, len);
+        let step = advance(&mut self.cpu, &mut self.memory, KERNEL, &inst, len);
+        self.ending = ending_by(step, self.cpu.regs[EAX]);
     }
 
     // Whether there is an end.
     pub(crate) fn has_ended(&self) -> bool
         ensures { result ≡ is_some self.now.ending }
     {
-        !matches!(self.ending, Turn::On)
+        self.ending.is_some()
     }
 }
 
 impl Shown for Machine {
-    ghost shown = { λ m. m.shown };
+    ghost use Rattle.kernel_machine.specs.Machine.{shown_by};
+
+    ghost shown = { shown_by };
 
     fn regs(&self) -> [u32; 8] {
         self.cpu.regs
@@ -223,7 +257,7 @@ impl Shown for Machine {
     fn state(&self, stack: u32) -> StackState {
         // The machine's invariant, for the proof, is known once it is looked into.
         let _checked = &self.checked;
-        if stack == 0 {
+        if stack == KERNEL {
             StackState::Running
         } else {
             StackState::Empty
@@ -231,17 +265,17 @@ impl Shown for Machine {
     }
 
     fn stack_words(&self, stack: u32) -> &[u32] {
-        if stack == 0 {
-            self.stack.from(self.cpu.regs[ESP])
+        if stack == KERNEL {
+            self.memory.stack_words(KERNEL, self.cpu.regs[ESP])
         } else {
             &[]
         }
     }
 
     fn statics(&self) -> &[u32] {
-        // As in `state`.
-        let _checked = &self.checked;
-        &[]
+        let image = self.checked.image();
+        image.formed();
+        self.memory.statics(image.statics().len() as u32)
     }
 
     fn cells(&self) -> &[u16] {

@@ -1,13 +1,12 @@
 -- Causes of one part of a list are causes of the whole, and a list has one first cause.
-use Rattle.std.specs.Prelude.{Option, Some, None, Result, Ok, Err, IfErr}
+use Rattle.std.specs.Prelude.{Option, Some}
 use Rattle.std.proofs.Common.{◌≡◌, List, ℕ, [], ◌∷◌, ◌++◌, inl, inr, subst, sym, ◌∙◌}
-use Rattle.outside.specs.FileMaps.{FileMap, Lacks}
-use Rattle.outside.specs.Faults.{Faulted}
-use Rattle.verve_tool.specs.Causes.{Cause, Missing, Holds, Fails, ComesTo, IsFirst, NoneHolds, OneCause}
+use Rattle.outside.specs.FileMaps.{FileMap}
+use Rattle.verve_tool.specs.Causes.{Cause, Missing, Holds, ComesTo, NoneHolds, OneCause}
 use Rattle.verve_tool.specs.Seen.{FilesSeen}
 use Rattle.verve_tool.specs.Stops.{TellsFirst, StopsBy, StopsAt}
 use Rattle.verve_tool.specs.declared.stop.Stop.{Stop}
-use Rattle.verve_tool.specs.declared.stop.Stop.TheVariants.{Usage, Read, Write, Long, Image, Refused, Form, Events, NoMemory}
+use Rattle.verve_tool.specs.declared.stop.Stop.TheVariants.{Usage, Read, Write, NoMemory}
 
 -- more causes behind change nothing
 comes_more : (told : Option FileMap) (cs ds : List Cause) (c : Cause) → ComesTo told cs c → ComesTo told (cs ++ ds) c

@@ -1,19 +1,18 @@
 -- How a command ends, from what its parts did.
 use Rattle.std.specs.Prelude.{Option, Some, None, Result, Ok, Err, IsErrAnd}
-use Rattle.std.proofs.Common.{◌≡◌, ◌≢◌, ◌⊎◌, ◌≤◌, ◌<◌, ◌+◌, ℕ, List, [], inl, inr, refl, sym, ◌∙◌, ap, subst, arith}
-use Rattle.outside.specs.Faults.{Faulted}
+use Rattle.std.proofs.Common.{◌≡◌, ◌≤◌, ◌<◌, ℕ, List, [], inl, inr, refl, sym, ◌∙◌, ap, subst, arith}
 use Rattle.outside.specs.Sinks.{Gained, GainedFront}
-use Rattle.tal_image.specs.Image.{ImageParts}
+use Rattle.tal_checker.specs.WellTyped.{WellTyped}
 use Rattle.file_fields.specs.declared.fault.ImageFault.TheVariants as fault
-use Rattle.kernel_machine.specs.Machine.{MachineView, Follows, end_of}
+use Rattle.kernel_machine.specs.Machine.{MachineView, shown_by, Follows, end_of}
+use Rattle.kernel_machine.specs.Laws.{MachinesShowTheirRuns}
 use Rattle.kernel_machine.specs.Report.{ReportText}
-use Rattle.kernel_machine.specs.States.{Ending}
+use Rattle.typed_machine.specs.declared.ending.Ending.{Ending}
 use Rattle.kernel_machine.specs.declared.run_end.RunEnd.{RunEnd}
 use Rattle.kernel_machine.specs.declared.run_end.RunEnd.TheVariants as run_end
 use Rattle.stack_states.specs.declared.journal_entry.Entry.{Entry}
-use Rattle.verve_tool.specs.Commands.{RunWords, Request, Run, Check, causes, Loaded}
-use Rattle.verve_tool.specs.Lines.{accepted_text}
-use Rattle.verve_tool.specs.Causes.{Cause, Missing, Long, Malformed, IllTyped, Unbuilt, Eventful, TypedImage, status_of as status_of_cause}
+use Rattle.verve_tool.specs.Commands.{RunWords, Request, Run, causes}
+use Rattle.verve_tool.specs.Causes.{Cause, Missing, Long, Malformed, IllTyped, Unbuilt, Eventful, status_of as status_of_cause}
 use Rattle.verve_tool.specs.Seen.{FilesSeen, SinkSeen, Call, OnlyReads, OnlyPuts, Leaves}
 use Rattle.verve_tool.specs.Runs.{IsOver, RanWithin, text_of, status_at}
 use Rattle.verve_tool.specs.Outcome.{Ends, Finished, Did, Written, PartWritten, Idle, MayHaveRun, Stopped}
@@ -21,7 +20,7 @@ use Rattle.verve_tool.specs.Stops.{Acted, StopsAt, TellsFirst, Tells, IsUnread, 
 use Rattle.verve_tool.specs.declared.status.Status.{Status}
 use Rattle.verve_tool.specs.declared.status.Status.TheVariants as status
 use Rattle.verve_tool.specs.declared.stop.Stop.{Stop}
-use Rattle.verve_tool.specs.declared.stop.Stop.TheVariants.{Usage, Read, Write, Long as LongFile, Image, Refused, Form, Events, NoMemory}
+use Rattle.verve_tool.specs.declared.stop.Stop.TheVariants.{Usage, Read, Write, Long as LongFile, Image, Refused, NucleusCall, Events, NoMemory}
 
 -- a file was not read
 pub unread_status : (s : Stop) → IsUnread s → status_of s ≡ status.ReadFault
@@ -95,12 +94,13 @@ ends_stopped c request (Image n (fault.Rest at)) idle left h = stopped c request
 ends_stopped c request (Image n (fault.Bad at condition)) idle left h = stopped c request _ idle h
 ends_stopped c request (LongFile n) idle left h = stopped c request _ idle h
 ends_stopped c request (Refused address rule) idle left h = stopped c request _ idle h
-ends_stopped c request (Form n at) idle left h = stopped c request _ idle h
+ends_stopped c request (NucleusCall n at) idle left h = stopped c request _ idle h
 ends_stopped c request (Events n) idle left h = stopped c request _ idle h
 
 -- the report of a machine is that of the run which it follows
-text_is : (m : MachineView) (entries : List Entry) (f : Follows m entries) → ReportText m.shown (end_of m.ending) m.turns ≡ text_of f.run
-text_is m entries f = rw (f.stands.shown, f.stands.ending, f.stands.turns) refl
+text_is : MachinesShowTheirRuns → (m : MachineView) → WellTyped m.image → (entries : List Entry) (f : Follows m entries)
+    → ReportText (shown_by m) (end_of m.ending) m.turns ≡ text_of f.run
+text_is law m w entries f = ap (λ words. ReportText words (end_of m.ending) m.turns) (law m entries w f) ∙ rw (f.stands.ending, f.stands.turns) refl
 
 -- a run that answered other than want of memory is over
 over : (turns : ℕ) (m : MachineView) → (end_of m.ending ≡ run_end.Turns → m.turns ≡ turns) → (e : Option Ending) → m.ending ≡ e → IsOver turns m
@@ -113,9 +113,9 @@ did_run : (c : Call) (run : RunWords) (ran : RanWithin c run) (e : RunEnd) → I
 did_run c run ran e done end = (ran, done, ap status_at (end ∙ ap (λ o. end_of o) ran.follows.stands.ending), refl)
 
 -- the report that was told is that of the typed machine's run
-report_is : (entries : List Entry) (m : MachineView) (e : RunEnd) (f : Follows m entries) → e ≡ end_of m.ending
-    → ReportText m.shown e m.turns ≡ text_of f.run
-report_is entries m e f end = ap (λ (x : RunEnd). ReportText m.shown x m.turns) end ∙ text_is m entries f
+report_is : MachinesShowTheirRuns → (entries : List Entry) (m : MachineView) → WellTyped m.image → (e : RunEnd) (f : Follows m entries) → e ≡ end_of m.ending
+    → ReportText (shown_by m) e m.turns ≡ text_of f.run
+report_is law entries m w e f end = ap (λ (x : RunEnd). ReportText (shown_by m) x m.turns) end ∙ text_is law m w entries f
 
 -- a finished run ends by its status
 ends_finished : (c : Call) (request : Request) (e : RunEnd) (line : List ℕ) → Finished c request (status_at e) line → Ends c request (status_at e) line
@@ -125,23 +125,23 @@ ends_finished c request (run_end.KernelFault v) line h = h
 ends_finished c request run_end.NoMemory line h = h
 
 -- a run ended as it was told
-pub ends_told : (c : Call) (run : RunWords) (ran : RanWithin c run) (e : RunEnd) (r : Result Status Stop)
+pub ends_told : MachinesShowTheirRuns → (c : Call) (run : RunWords) (ran : RanWithin c run) (e : RunEnd) (r : Result Status Stop)
     → (e ≡ run_end.Turns → ran.machine.turns ≡ run.turns) → Tells c.out c.out_after ran.machine e r → Ends c (Run run) (told_status r) (told_line r)
-ends_told c run ran e (Ok s) all t = subst (λ (x : Status). Ends c (Run run) x []) (sym t.1) (ends_finished c (Run run) e [] (record {
+ends_told law c run ran e (Ok s) all t = subst (λ (x : Status). Ends c (Run run) x []) (sym t.1) (ends_finished c (Run run) e [] (record {
   text = text_of ran.follows.run;
   did = did_run c run ran e (over run.turns ran.machine (λ h. all (t.0 ∙ h)) ran.machine.ending refl) t.0;
-  written = subst (λ (x : List ℕ). Gained c.out.told c.out_after.told x) (report_is c.entries ran.machine e ran.follows t.0) t.2;
+  written = subst (λ (x : List ℕ). Gained c.out.told c.out_after.told x) (report_is law c.entries ran.machine ran.loaded.typed.well_typed e ran.follows t.0) t.2;
   line_is = refl;
 }))
-ends_told c run ran e (Err Write) all t = record {
+ends_told law c run ran e (Err Write) all t = record {
   s = status_at e;
   text = text_of ran.follows.run;
   did = did_run c run ran e (over run.turns ran.machine (λ h. all (t.0 ∙ h)) ran.machine.ending refl) t.0;
-  part = (t.1, subst (λ (x : List ℕ). GainedFront c.out.told c.out_after.told x) (report_is c.entries ran.machine e ran.follows t.0) t.2);
+  part = (t.1, subst (λ (x : List ℕ). GainedFront c.out.told c.out_after.told x) (report_is law c.entries ran.machine ran.loaded.typed.well_typed e ran.follows t.0) t.2);
   line_is = refl;
 }
-ends_told c run ran e (Err NoMemory) all t = record { silent = t; left = inr ran; line_is = refl }
-ends_told c run ran e (Err _) all t = absurd t
+ends_told law c run ran e (Err NoMemory) all t = record { silent = t; left = inr ran; line_is = refl }
+ends_told law c run ran e (Err _) all t = absurd t
 
 -- what was told of a run tells each fault
 pub told_puts : (r : Result Status Stop) → IsErrAnd r (λ s. s ≡ Write) → told_status r ≡ status.WriteFault
@@ -185,10 +185,10 @@ acted_wanting c request idle left reads puts = record {
 }
 
 -- a run was made and told
-pub acted_run : (c : Call) (run : RunWords) (ran : RanWithin c run) (e : RunEnd) (r : Result Status Stop)
+pub acted_run : MachinesShowTheirRuns → (c : Call) (run : RunWords) (ran : RanWithin c run) (e : RunEnd) (r : Result Status Stop)
     → (e ≡ run_end.Turns → ran.machine.turns ≡ run.turns) → Tells c.out c.out_after ran.machine e r
     → OnlyReads c.files c.files_after ⊥ → OnlyPuts c.out c.out_after (IsErrAnd r (λ s. s ≡ Write)) → Acted (Run run) c r
-acted_run c run ran e r all t reads puts = record {
-  ends = ends_told c run ran e r all t;
+acted_run law c run ran e r all t reads puts = record {
+  ends = ends_told law c run ran e r all t;
   leaves = leaves_all c (told_status r) ⊥ (IsErrAnd r (λ s. s ≡ Write)) reads puts (λ h. absurd h) (told_puts r);
 }

@@ -1,7 +1,7 @@
 -- What was read of files tells which causes do not hold of them, and which do.
 use Rattle.std.specs.Prelude.{Option, Some, None, IsSomeAnd, Result, Ok, Err, IfErr}
 use Rattle.std.proofs.Common.{◌≡◌, ◌≢◌, ◌⊎◌, ◌≤◌, ◌<◌, ℕ, ◌+◌, List, [], ◌∷◌, take, length, Bor, inl, inr, refl, sym, ◌∙◌, subst, arith}
-use Rattle.outside.specs.FileMaps.{FileMap, Gives, Lacks}
+use Rattle.outside.specs.FileMaps.{FileMap, Gives}
 use Rattle.tal_image.specs.Image.{ImageParts}
 use Rattle.tal_image.specs.Formed.{ImageOf}
 use Rattle.tal_image.specs.Laws.{OneMeaning}
@@ -11,16 +11,16 @@ use Rattle.file_fields.specs.declared.fault.ImageFault.TheVariants as fault
 use Rattle.tal_checker.specs.WellTyped.{WellTyped, FirstRefusal, OneRefusal}
 use Rattle.tal_checker.specs.declared.answer.CheckAnswer.{CheckAnswer}
 use Rattle.tal_checker.specs.declared.answer.CheckAnswer.TheVariants as answer
-use Rattle.kernel_machine.specs.Built.{IsBuilt, FirstOutside, first_of, fields_outside}
-use Rattle.verve_tool.specs.Commands.{RunWords, Request, Run, Check, Listing, causes, Serves, Loaded, NothingStops}
+use Rattle.kernel_machine.specs.Built.{first_unbuilt_call, IsBuilt}
+use Rattle.verve_tool.specs.Commands.{RunWords, Run, Check, Listing, causes, NothingStops}
 use Rattle.verve_tool.specs.Lines.{fault_line}
-use Rattle.verve_tool.specs.Causes.{Cause, Missing, Long, Malformed, IllTyped, Unbuilt, Eventful, Holds, Fails, NoneHolds, FileRead, HoldsImage, TypedImage}
+use Rattle.verve_tool.specs.Causes.{Cause, Missing, Long, Malformed, IllTyped, Unbuilt, Eventful, Holds, Fails, NoneHolds, FileRead, HoldsImage, TypedImage, code_byte}
 use Rattle.verve_tool.specs.Seen.{FilesSeen}
-use Rattle.verve_tool.specs.Stops.{StopsBy, StopsAt, TellsFirst, stop_of_fault, stop_of_answer}
+use Rattle.verve_tool.specs.Stops.{StopsBy, StopsAt, stop_of_fault, stop_of_answer}
 use Rattle.verve_tool.proofs.CauseLists.{none_of_both, stops_more, stops_later, stops_by_bytes}
 use Rattle.verve_tool.specs.declared.load.TheConstants.{IMAGE_MOST, EVENTS_MOST}
 use Rattle.verve_tool.specs.declared.stop.Stop.{Stop}
-use Rattle.verve_tool.specs.declared.stop.Stop.TheVariants.{Image, Form, Events}
+use Rattle.verve_tool.specs.declared.stop.Stop.TheVariants.{Image, NucleusCall, Events}
 
 -- a file has one front of a length
 one_front : (o : Option (List ℕ)) (n : ℕ) (a b : List ℕ) → IsSomeAnd o (λ whole. a ≡ take n whole) → IsSomeAnd o (λ whole. b ≡ take n whole) → a ≡ b
@@ -92,17 +92,16 @@ pub typed_stops_none : OneMeaning → OneRefusal → (told : Option FileMap) (na
 typed_stops_none meaning refusal told name image t =
     (not_malformed meaning told name image t.held, (not_ill_typed meaning refusal told name image t, tt))
 
--- a list is not empty and with a first element at once
-no_first : (xs : List ℕ) (at : ℕ) → xs ≡ [] → first_of xs ≡ Some at → ⊥
-no_first [] at e f = cc
-no_first (x ∷ xs) at e f = cc
+-- there is a first call, or none
+one-call : (first : Option ℕ) (offset : ℕ) → first ≡ None → first ≡ Some offset → ⊥
+one-call first offset none some = cc
 
--- an image of the form that runs is not outside it
+-- an image that calls no entry of the Nucleus is built
 pub not_unbuilt : OneMeaning → (told : Option FileMap) (name : List ℕ) (image : ImageParts) → TypedImage told name image → IsBuilt image
     → Fails told (Unbuilt name)
 not_unbuilt meaning None name image t built = tt
-not_unbuilt meaning (Some files) name image t built = λ line h. no_first (fields_outside image) h.0 built
-    (subst (λ (i : ImageParts). FirstOutside i h.0) (same_image meaning files name h.1.image image h.1.typed.held t.held) h.1.first)
+not_unbuilt meaning (Some files) name image t built = λ line h. one-call (first_unbuilt_call image) h.1.offset built
+    (subst (λ (i : ImageParts). first_unbuilt_call i ≡ Some h.1.offset) (same_image meaning files name h.1.image image h.1.typed.held t.held) h.1.first)
 
 -- an event file that was read and is empty has no events
 pub not_eventful : (told : Option FileMap) (name : List ℕ) → FileRead told name EVENTS_MOST [] → Fails told (Eventful name)
@@ -180,12 +179,12 @@ answer_stops meaning told name image (answer.Refused address rule) held refused 
   status = refl;
 }
 
--- an image outside the form that runs stops a run
-pub form_stops : (told : Option FileMap) (name events : Bor (List ℕ)) (image : ImageParts) (at : ℕ) → TypedImage told name.now image
-    → FirstOutside image at → StopsBy told (Unbuilt name.now ∷ Eventful events.now ∷ []) (Form name at)
-form_stops told name events image at typed first = record {
+-- a call of the Nucleus stops a run
+pub call_stops : (told : Option FileMap) (name events : Bor (List ℕ)) (image : ImageParts) (offset at : ℕ) → TypedImage told name.now image
+    → first_unbuilt_call image ≡ Some offset → at ≡ code_byte image + offset → StopsBy told (Unbuilt name.now ∷ Eventful events.now ∷ []) (NucleusCall name at)
+call_stops told name events image offset at typed first byte = record {
   cause = Unbuilt name.now;
-  first = record { comes = inl refl; holds = (at, record { image = image; typed = typed; first = first }, refl) };
+  first = record { comes = inl refl; holds = (at, record { image = image; typed = typed; offset = offset; first = first; byte = byte }, refl) };
   status = refl;
 }
 

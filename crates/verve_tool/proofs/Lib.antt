@@ -1,3 +1,4 @@
+pub mod CodePlace
 pub mod CauseLists
 pub mod FilesRead
 pub mod Endings

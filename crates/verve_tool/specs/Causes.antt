@@ -1,13 +1,14 @@
 -- Why the files of a command stop it: the causes, which come in an order, and of which the first that holds decides.
-use Rattle.std.specs.Prelude.{◌≡◌, ◌≢◌, ◌⊎◌, ◌<◌, ◌≤◌, ℕ, List, [], ◌∷◌, length, Option, Some, None}
+use Rattle.std.specs.Prelude.{◌≡◌, ◌≢◌, ◌⊎◌, ◌<◌, ◌≤◌, ℕ, ◌+◌, List, [], ◌∷◌, ◌++◌, length, Option, Some, None}
+use Rattle.std.specs.List.{flat_map}
 use Rattle.outside.specs.FileMaps.{FileMap, Gives, Lacks}
-use Rattle.tal_image.specs.Image.{ImageParts}
+use Rattle.tal_image.specs.Image.{ImageParts, numbers, header, sig_bytes, function_bytes, class_bytes, kind_bytes, field_bytes, array_bytes}
 use Rattle.tal_image.specs.Formed.{ImageOf}
 use Rattle.tal_image.specs.Fields.{FirstFault}
 use Rattle.file_fields.specs.declared.fault.ImageFault.{ImageFault}
 use Rattle.file_fields.specs.declared.fault.ImageFault.TheVariants.{NoMemory}
 use Rattle.tal_checker.specs.WellTyped.{WellTyped, FirstRefusal}
-use Rattle.kernel_machine.specs.Built.{FirstOutside}
+use Rattle.kernel_machine.specs.Built.{first_unbuilt_call}
 use Rattle.verve_tool.specs.Lines.{read_line, long_line, fault_line, refused_line, not_built_line}
 use Rattle.verve_tool.specs.declared.load.TheConstants.{IMAGE_MOST, EVENTS_MOST}
 use Rattle.verve_tool.specs.declared.status.Status.{Status}
@@ -23,7 +24,7 @@ pub data Cause : Type 0 where
   Malformed : List ℕ → Cause
   -- its image is not well typed
   IllTyped : List ℕ → Cause
-  -- its image has a form that does not run yet
+  -- its image calls an entry of the Nucleus, and no such call is built
   Unbuilt : List ℕ → Cause
   -- it has events, which are not built
   Eventful : List ℕ → Cause
@@ -59,11 +60,29 @@ pub record IsIllTyped (told : Option FileMap) (name : List ℕ) (address rule : 
   pub held : HoldsImage told name image
   pub refusal : FirstRefusal image address rule
 
--- a well typed image does, and this is the first byte of the file outside the form that runs
+-- the bytes of an image's file that stand before the code: the header, and the tables up to the data arrays
+abbrev pub bytes_before_code : ImageParts → List ℕ
+bytes_before_code i =
+    numbers (header i)
+    ++ (flat_map sig_bytes i.sigs
+    ++ (flat_map function_bytes i.functions
+    ++ (numbers i.entries
+    ++ (flat_map class_bytes i.classes
+    ++ (flat_map kind_bytes i.kinds
+    ++ (flat_map field_bytes i.statics
+    ++ flat_map array_bytes i.arrays))))))
+
+-- the byte of the file at which the code begins
+unfoldable pub code_byte : ImageParts → ℕ
+code_byte i = length (bytes_before_code i)
+
+-- a well typed image does, and at this byte of the file its first CALL of a Nucleus entry begins, so far behind the code's begin
 pub record IsUnbuilt (told : Option FileMap) (name : List ℕ) (at : ℕ) : Type 0 where
   pub image : ImageParts
   pub typed : TypedImage told name image
-  pub first : FirstOutside image at
+  pub offset : ℕ
+  pub first : first_unbuilt_call image ≡ Some offset
+  pub byte : at ≡ code_byte image + offset
 
 -- the file has more than so many bytes
 pub record IsLong (told : Option FileMap) (name : List ℕ) (most : ℕ) : Type 0 where

@@ -1,5 +1,5 @@
 -- Each command: its words, the causes that stop it, in their order, and what its files are where none does.
-use Rattle.std.specs.Prelude.{◌≡◌, ◌≢◌, ◌≤◌, ◌⊎◌, ℕ, List, [], ◌∷◌, map, codes, decimal, String, string_bytes, Option, Some}
+use Rattle.std.specs.Prelude.{◌≡◌, ◌≢◌, ◌≤◌, ◌⊎◌, ℕ, List, [], ◌∷◌, map, codes, decimal, String, string_bytes, Option}
 use Rattle.std.specs.declared.alloc.Global.{Global}
 use Rattle.outside.specs.FileMaps.{FileMap}
 use Rattle.tal_image.specs.Image.{ImageParts}
@@ -53,7 +53,7 @@ causes (Run run) =
 causes (Check name) = Missing name ∷ Long name IMAGE_MOST ∷ Malformed name ∷ IllTyped name ∷ []
 causes (Listing name) = Missing name ∷ Long name IMAGE_MOST ∷ Malformed name ∷ []
 
--- the files of a run: a well typed image of the form that runs, and no events
+-- the files of a run: a well typed image that calls no entry of the Nucleus, and no events
 pub record Loaded (told : Option FileMap) (run : RunWords) (image : ImageParts) : Type 0 where
   pub typed : TypedImage told run.image image
   pub built : IsBuilt image

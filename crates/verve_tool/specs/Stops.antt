@@ -4,7 +4,7 @@ use Rattle.std.specs.Borrow.{Bor}
 use Rattle.outside.specs.FileMaps.{FileMap, Lacks}
 use Rattle.outside.specs.Faults.{Faulted}
 use Rattle.outside.specs.Sinks.{Gained, GainedFront}
-use Rattle.kernel_machine.specs.Machine.{MachineView, end_of}
+use Rattle.kernel_machine.specs.Machine.{MachineView, shown_by, end_of}
 use Rattle.kernel_machine.specs.Report.{ReportText}
 use Rattle.kernel_machine.specs.declared.run_end.RunEnd.{RunEnd}
 use Rattle.file_fields.specs.declared.fault.ImageFault.{ImageFault}
@@ -23,7 +23,7 @@ use Rattle.verve_tool.specs.declared.words.Command.TheVariants as command
 use Rattle.verve_tool.specs.declared.status.Status.{Status}
 use Rattle.verve_tool.specs.declared.status.Status.TheVariants as status
 use Rattle.verve_tool.specs.declared.stop.Stop.{Stop}
-use Rattle.verve_tool.specs.declared.stop.Stop.TheVariants.{Usage, Read, Write, Long, Image, Refused, Form, Events, NoMemory}
+use Rattle.verve_tool.specs.declared.stop.Stop.TheVariants.{Usage, Read, Write, Long, Image, Refused, NucleusCall, Events, NoMemory}
 
 -- the run that a command asks for
 abbrev pub run_of : RunCommand → RunWords
@@ -48,7 +48,7 @@ status_of Write = status.WriteFault
 status_of (Long name) = status.TooLong
 status_of (Image name f) = fault_status f
 status_of (Refused address rule) = status.Refused
-status_of (Form name at) = status.NotBuilt
+status_of (NucleusCall name at) = status.NotBuilt
 status_of (Events name) = status.NotBuilt
 status_of NoMemory = status.NoMemory
 
@@ -60,7 +60,7 @@ line_of Write = write_line
 line_of (Long name) = long_line name.now
 line_of (Image name f) = fault_line name.now f
 line_of (Refused address rule) = refused_line address rule
-line_of (Form name at) = not_built_line name.now at
+line_of (NucleusCall name at) = not_built_line name.now at
 line_of (Events name) = not_built_line name.now 0
 line_of NoMemory = no_memory_line
 
@@ -102,9 +102,9 @@ StopsAt before after causes s = StopsBy before.told causes s
 -- what was told of a machine after a run that answered this: its report, or why not
 abbrev pub Tells : SinkSeen → SinkSeen → MachineView → RunEnd → Result Status Stop → Type 0
 Tells before after machine end (Ok s) = (end ≡ end_of machine.ending) × (s ≡ status_at end)
-    × Gained before.told after.told (ReportText machine.shown end machine.turns)
+    × Gained before.told after.told (ReportText (shown_by machine) end machine.turns)
 Tells before after machine end (Err Write) = (end ≡ end_of machine.ending) × Faulted before.faults after.faults
-    × GainedFront before.told after.told (ReportText machine.shown end machine.turns)
+    × GainedFront before.told after.told (ReportText (shown_by machine) end machine.turns)
 Tells before after machine end (Err NoMemory) = after.told ≡ before.told
 Tells before after machine end (Err _) = ⊥
 

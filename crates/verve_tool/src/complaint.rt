@@ -113,7 +113,7 @@ pub(crate) fn complain<E: Sink>(err: &mut E, stop: &Stop<'_>)
         Stop::Long(name) => say(err, &[b"long ", name.as_bytes(), b"\n"]),
         Stop::Image(name, fault) => say_fault(err, name, fault),
         Stop::Refused { address, rule } => say_refused(err, address, rule),
-        Stop::Form { name, at } => say_not_built(err, name, at),
+        Stop::NucleusCall { name, at } => say_not_built(err, name, at),
         Stop::Events(name) => say_not_built(err, name, 0),
         Stop::NoMemory => say(err, &[b"no memory\n"]),
     }

@@ -15,6 +15,7 @@
 #![tactic(auto)]
 
 mod checks;
+mod code_place;
 mod command;
 mod complaint;
 pub mod laws;

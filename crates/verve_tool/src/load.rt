@@ -1,5 +1,5 @@
 // The files of a command: read whole, each once, and then accepted or not.
-ghost use Rattle.std.specs.Prelude.{◌≡◌, ◌∷◌, [], Option, IfOk, IfErr, OnOk, IsErrAnd};
+ghost use Rattle.std.specs.Prelude.{◌≡◌, ◌≤◌, length, ◌∷◌, [], Option, IfOk, IfErr, OnOk, IsErrAnd};
 ghost use Rattle.outside.specs.FileMaps.{FileMap};
 ghost use Rattle.tal_image.specs.Formed.{ImageOf};
 ghost use Rattle.tal_checker.specs.WellTyped.{WellTyped};
@@ -9,9 +9,10 @@ ghost use Rattle.verve_tool.specs.Causes.{Missing, Long, Malformed, IllTyped, Un
 ghost use Rattle.verve_tool.specs.Seen.{files_seen, OnlyReads};
 ghost use Rattle.verve_tool.specs.Stops.{StopsBy, StopsAt, IsUnread, run_of};
 
+use crate::code_place::code_byte;
 use crate::stop::Stop;
 use crate::words::RunCommand;
-use kernel_machine::first_outside;
+use kernel_machine::first_unbuilt_call;
 use outside::{Files, ReadAnswer};
 use std::alloc::Global;
 use tal_checker::laws::one_refusal;
@@ -20,7 +21,7 @@ use tal_image::Image;
 use tal_image::laws::one_meaning;
 
 // 4 MiB.
-const IMAGE_MOST: usize = 4194304;
+pub(crate) const IMAGE_MOST: usize = 4194304;
 
 // 32 MiB.
 const EVENTS_MOST: usize = 33554432;
@@ -75,8 +76,15 @@ fn accept<'a>(alloc: Global, name: &'a str, bytes: &[u8]) -> Result<Checked, Sto
     Ok(check(alloc, image)?)
 }
 
-// Whether an accepted image has the form that runs, and there are no events.
-fn runs<'a>(image: &Image, run: RunCommand<'a>, event_bytes: &[u8]) -> Result<(), Stop<'a>>
+// Whether an accepted image, which these bytes stand for, calls no entry of the Nucleus, and there are no events.
+fn runs<'a>(
+    image: &Image,
+    run: RunCommand<'a>,
+    image_bytes: &[u8],
+    event_bytes: &[u8],
+) -> Result<(), Stop<'a>>
+    requires stands { ImageOf image_bytes.now image.now }
+    requires within { length image_bytes.now ≤ IMAGE_MOST }
     ensures built { OnOk result (IsBuilt image.now) }
     ensures no_events { OnOk result (event_bytes.now ≡ []) }
     ensures stopped { (told : Option FileMap) → TypedImage told run.entry.image.now image.now
@@ -84,10 +92,10 @@ fn runs<'a>(image: &Image, run: RunCommand<'a>, event_bytes: &[u8]) -> Result<()
         → IfErr result (λ s. StopsBy told (Unbuilt run.entry.image.now ∷ Eventful run.entry.events.now ∷ []) s) }
 {
     one_meaning();
-    if let Some(at) = first_outside(image) {
-        return Err(Stop::Form {
+    if let Some(offset) = first_unbuilt_call(image) {
+        return Err(Stop::NucleusCall {
             name: run.image,
-            at,
+            at: code_byte(image, image_bytes) + offset,
         });
     }
     if !event_bytes.is_empty() {
@@ -145,6 +153,6 @@ pub(crate) fn load_run<'a, F: Files>(
     let image_bytes = read_file(alloc, files, run.image, IMAGE_MOST)?;
     let event_bytes = read_file(alloc, files, run.events, EVENTS_MOST)?;
     let checked = accept(alloc, run.image, &image_bytes)?;
-    runs(checked.image(), run, &event_bytes)?;
+    runs(checked.image(), run, &image_bytes, &event_bytes)?;
     Ok(checked)
 }

@@ -10,6 +10,7 @@ use crate::load::load_run;
 use crate::status::Status;
 use crate::stop::Stop;
 use crate::words::RunCommand;
+use kernel_machine::laws::machines_show_their_runs;
 use kernel_machine::{Journal, MOST_TURNS, Machine, RunEnd, report, run as run_machine};
 use outside::{Files, Sink};
 use std::alloc::Global;
@@ -58,6 +59,7 @@ pub(crate) fn act_run<'a, F: Files, K: Sink>(
     ensures { Acted (Run (run_of run.entry)) (call_of F.told F.steady F.read_faults F.write_faults K.told K.faults
         files.old files.new out.old out.new journal.new.entries kept.new) result }
 {
+    machines_show_their_runs();
     let checked = load_run(alloc, files, run)?;
     let mut machine = Machine::new(alloc, checked, Vec::new(alloc))?;
     let end = run_machine(&mut machine, journal, run.turns);

@@ -24,7 +24,7 @@ pub enum Status {
     KernelFault,
     /// Memory was wanting; nothing was written.
     NoMemory,
-    /// The image of a run has a form that does not run yet, or there are events, which are not built.
+    /// The image of a run calls an entry of the Nucleus, or there are events; neither is built.
     NotBuilt,
 }
 

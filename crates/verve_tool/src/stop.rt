@@ -23,8 +23,8 @@ pub(crate) enum Stop<'a> {
     Image(&'a str, ImageFault),
     // This rule fails at this address.
     Refused { address: u32, rule: u8 },
-    // The image of the file of this name has a form that does not run yet, from this byte of the file on.
-    Form { name: &'a str, at: u32 },
+    // The image of the file of this name has a CALL at this byte of the file, of an entry of the Nucleus that is not built.
+    NucleusCall { name: &'a str, at: u32 },
     // The file of this name has events, which are not built.
     Events(&'a str),
     // Memory was wanting.
@@ -55,7 +55,7 @@ impl Stop<'_> {
             Stop::Image(_, ImageFault::NoMemory) | Stop::NoMemory => Status::NoMemory,
             Stop::Image(..) => Status::Malformed,
             Stop::Refused { .. } => Status::Refused,
-            Stop::Form { .. } | Stop::Events(_) => Status::NotBuilt,
+            Stop::NucleusCall { .. } | Stop::Events(_) => Status::NotBuilt,
         }
     }
 }

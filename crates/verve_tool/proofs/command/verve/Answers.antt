@@ -1,4 +1,4 @@
-use Rattle.std.proofs.Common.{[], arith, refl}
+use Rattle.std.proofs.Common.{[], arith}
 use Rattle.verve_tool.specs.Commands.{causes}
 use Rattle.verve_tool.proofs.Exact.{usage_status, missing_status, stopped_status, complete_status, accepted_status}
 use Rattle.verve_tool.proofs.Complaints.{gained_nothing, front_of_whole}

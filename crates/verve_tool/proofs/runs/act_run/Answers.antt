@@ -21,7 +21,7 @@ returns-in_err-machine g c =
 
 pub returns : goal.returns
 returns g c =
-    acted_run _ (run_of c.args.run) (record {
+    acted_run c.machines_show_their_runs.ensures _ (run_of c.args.run) (record {
       machine = c.run-end.new.machine;
       is = refl;
       loaded = rw (c.run-end.ensures.image, c.in_ok-machine.ensures.image) c.in_ok-checked.ensures.loaded;

@@ -1,0 +1,260 @@
+-- A machine that stands for a typed state shows that state's words.
+use Rattle.std.specs.Prelude.{zero, suc, replicate, slice_index}
+use Rattle.std.specs.Option.{option_map_or}
+use Rattle.std.proofs.Common.{◌≡◌, ℕ, ◌+◌, ◌-◌, ◌*◌, ◌/◌, ◌%◌, ◌<◌, ◌≤◌, ◌==◌, Bool, true, false, if◌then◌else◌, List, [], ◌∷◌, length, map, Some, slice_get, refl, sym, ◌∙◌, ap, ap₂, arith}
+use Rattle.std.proofs.lemmas.Bool.Decides.{nat_tests}
+use Rattle.std.proofs.lemmas.List.{length-replicate}
+use Rattle.ia32_step.specs.declared.cpu.Cpu.{Cpu}
+use Rattle.object_layout.specs.Areas.{statics_start, stacks_start}
+use Rattle.device_model.specs.declared.screen.TheConstants.{CELLS}
+use Rattle.stack_states.specs.declared.stack_state.StackState.{StackState}
+use Rattle.stack_states.specs.declared.stack_state.StackState.TheVariants.{Empty, Running}
+use Rattle.object_layout.specs.declared.rows.FieldTy.{FieldTy}
+use Rattle.tal_image.specs.Image.{ImageParts}
+use Rattle.tal_image.specs.Conditions.{statics_fit}
+use Rattle.tal_image.specs.Shown.{shown}
+use Rattle.typed_machine.specs.Values.{Value, Word, all_objects}
+use Rattle.typed_machine.specs.States.{State, Stack, EmptyStack, RunningStack, YieldedStack, InterruptedStack, places_of, most_values}
+use Rattle.typed_machine.specs.Typing.{Typed}
+use Rattle.typed_machine.specs.Words.{upper_end, stack_pointer, esp_of}
+use Rattle.typed_safety.specs.Laws.{RunsAreTyped}
+use Rattle.word_machine.specs.Memory.{MemoryView, word_of, word_at, is_mapped}
+use Rattle.word_machine.specs.Standing.{kept_values, values_at, Holds, WordsStand}
+use Rattle.kernel_machine.specs.Shown.{ShownStack, ShownWords, words_from, esp_by, stack_by, stacks_by, state_by, states_by, shown_stacks, shown_of}
+use Rattle.kernel_machine.specs.Machine.{MachineView, shown_by, Stands, one_runs, Lawful}
+use Rattle.kernel_machine.specs.Laws.{MachinesShowTheirRuns}
+use Rattle.kernel_machine.proofs.Screen.{screen-count}
+use Rattle.kernel_machine.proofs.Stacks.{first-is-current}
+
+-- ---- words one after another
+
+-- a word that stands at an address
+word-there : (m : MemoryView) (a w : ℕ) → word_of m a ≡ Some w → word_at m a ≡ w
+unfolding word_at
+word-there m a w e = rw e refl
+
+-- each word of a list stands where it belongs
+pub words-are : (m : MemoryView) (a n : ℕ) (ws : List ℕ) → length ws ≡ n → ((k : ℕ) → k < n → slice_get ws k ≡ word_of m (a + 4 * k)) → ws ≡ words_from m a n
+unfolding words_from
+words-are m a zero [] e each = refl
+words-are m a zero (w ∷ ws) e each = absurd (cc)
+words-are m a (suc n) [] e each = absurd (cc)
+words-are m a (suc n) (w ∷ ws) e each =
+    let first : Some w ≡ word_of m (a + 0) = each 0 (omega arith) in
+    let none : a + 0 ≡ a = omega arith in
+    let here : word_of m a ≡ Some w = sym (rw none at first) in
+    ap₂ (λ (x : ℕ) xs. x ∷ xs) (sym (word-there m a w here)) (words-are m (a + 4) n ws (omega (arith, e))
+    (λ k low. let next : a + 4 * suc k ≡ a + 4 + 4 * k = omega arith in rw next at (each (suc k) (omega (arith, low)))))
+
+-- the words of values that stand from an address up
+pub words-of-values : (m : MemoryView) (places : List ℕ) (a : ℕ) (values : List Value) → Holds m places a values → words_from m a (length values) ≡ map (Word places) values
+unfolding words_from
+words-of-values m places a [] h = refl
+words-of-values m places a (v ∷ vs) h =
+    let none : a + 4 * 0 ≡ a = omega arith in
+    let here : word_of m a ≡ Some (Word places v) = rw none at (h 0 v refl) in
+    ap₂ (λ (x : ℕ) xs. x ∷ xs) (word-there m a (Word places v) here) (words-of-values m places (a + 4) vs
+    (λ k w e. let next : a + 4 * suc k ≡ a + 4 + 4 * k = omega arith in rw next at (h (suc k) w e)))
+
+-- ---- a stack
+
+-- the values of the running stack
+running-values : (image : ImageParts) (s : State) (n : ℕ) → Typed image s → slice_get s.stacks n ≡ Some RunningStack → values_at s n ≡ s.values
+unfolding values_at
+running-values image s n typed here = go (n == s.current) refl
+  where
+    go : (b : Bool) → (n == s.current) ≡ b → (if b then s.values else option_map_or kept_values (slice_get s.stacks n) []) ≡ s.values
+    go true e = refl
+    go false e = absurd (let same = typed.only n here in grind (arith, nat_tests))
+
+-- the values of another
+other-values : (image : ImageParts) (s : State) (n : ℕ) (stack : Stack) → Typed image s → slice_get s.stacks n ≡ Some stack → (stack ≡ RunningStack → ⊥)
+    → values_at s n ≡ kept_values stack
+unfolding values_at
+other-values image s n stack typed here other = go (n == s.current) refl
+  where
+    go : (b : Bool) → (n == s.current) ≡ b → (if b then s.values else option_map_or kept_values (slice_get s.stacks n) []) ≡ kept_values stack
+    go true e = absurd (other (let same : n ≡ s.current = grind (arith, nat_tests) in let current = typed.one in cc))
+    go false e = rw here refl
+
+-- ESP of a stack, and that it has room for the stack's words
+record EspIs (s : State) (cpu : Cpu) (n : ℕ) (stack : Stack) : Type 0 where
+  esp : esp_by cpu n (state_by (places_of s) n stack) ≡ stack_pointer n (length (values_at s n))
+  few : length (values_at s n) ≤ most_values
+
+esp-is : (image : ImageParts) (s : State) (cpu : Cpu) (m : MemoryView) → Typed image s → WordsStand image all_objects s cpu m → (n : ℕ) (stack : Stack)
+    → slice_get s.stacks n ≡ Some stack → EspIs s cpu n stack
+unfolding kept_values
+esp-is image s cpu m typed h n RunningStack here =
+    let values = running-values image s n typed here in
+    let current = typed.only n here in
+    let top : slice_index cpu.regs 4 ≡ esp_of s = ap (λ rs. slice_index rs 4) h.processor.regs in
+    record { esp = rw (values, current) top; few = rw values typed.thread.room }
+esp-is image s cpu m typed h n EmptyStack here =
+    let values = other-values image s n EmptyStack typed here (λ e. cc e) in
+    record { esp = rw values (omega arith); few = rw values (omega arith) }
+esp-is image s cpu m typed h n (YieldedStack place kept) here =
+    let values = other-values image s n (YieldedStack place kept) typed here (λ e. cc e) in
+    record { esp = rw values refl; few = rw values (typed.others n (YieldedStack place kept) here).room }
+esp-is image s cpu m typed h n (InterruptedStack thread kept) here =
+    let values = other-values image s n (InterruptedStack thread kept) typed here (λ e. cc e) in
+    record { esp = rw values refl; few = rw values (typed.others n (InterruptedStack thread kept) here).room }
+
+-- how many words lie from a stack's ESP up to its end
+depth-is : (n depth : ℕ) → depth ≤ most_values → (upper_end n - stack_pointer n depth) / 4 ≡ depth
+depth-is n depth few = omega (arith, few)
+
+-- a place of a list is below its length
+place-inside : (xs : List Stack) (n : ℕ) (x : Stack) → slice_get xs n ≡ Some x → n < length xs
+place-inside [] n x e = absurd (cc)
+place-inside (y ∷ ys) zero x e = omega arith
+place-inside (y ∷ ys) (suc n) x e = let later = place-inside ys n x e in omega (arith, later)
+
+-- a stack's words are those of its values
+stack-shows : (image : ImageParts) (s : State) (cpu : Cpu) (m : MemoryView) → Typed image s → WordsStand image all_objects s cpu m → (n : ℕ) (stack : Stack)
+    → slice_get s.stacks n ≡ Some stack
+    → stack_by cpu m n (state_by (places_of s) n stack) ≡ record { state = state_by (places_of s) n stack; words = map (Word (places_of s)) (values_at s n) }
+stack-shows image s cpu m typed h n stack here =
+    let at = esp-is image s cpu m typed h n stack here in
+    let inside : n < image.stacks = rw typed.count at (place-inside s.stacks n stack here) in
+    let depth = depth-is n (length (values_at s n)) at.few in
+    let words = words-of-values m (places_of s) (stack_pointer n (length (values_at s n))) (values_at s n) (h.memory.stacks n inside) in
+    ap (λ ws. record { state = state_by (places_of s) n stack; words = ws })
+    (ap₂ (λ a k. words_from m a ((upper_end n - k) / 4)) at.esp at.esp ∙ (ap (words_from m (stack_pointer n (length (values_at s n)))) depth ∙ words))
+
+-- and so it is with all stacks from one on
+stacks-show : (image : ImageParts) (s : State) (cpu : Cpu) (m : MemoryView) → Typed image s → WordsStand image all_objects s cpu m → (n : ℕ) (stacks : List Stack)
+    → ((k : ℕ) (stack : Stack) → slice_get stacks k ≡ Some stack → slice_get s.stacks (n + k) ≡ Some stack)
+    → stacks_by cpu m n (states_by (places_of s) n stacks) ≡ shown_stacks s n stacks
+unfolding stacks_by states_by shown_stacks
+stacks-show image s cpu m typed h n [] there = refl
+stacks-show image s cpu m typed h n (stack ∷ stacks) there =
+    let none : n + 0 ≡ n = omega arith in
+    let here : slice_get s.stacks n ≡ Some stack = rw none at (there 0 stack refl) in
+    ap₂ (λ (x : ShownStack) xs. x ∷ xs) (stack-shows image s cpu m typed h n stack here)
+    (stacks-show image s cpu m typed h (n + 1) stacks
+    (λ k x e. let next : n + suc k ≡ n + 1 + k = omega arith in rw next at (there (suc k) x e)))
+
+-- ---- all that is shown
+
+-- what is shown is its parts
+shown-same : (a b : ShownWords) → a.regs ≡ b.regs → a.flags ≡ b.flags → a.place ≡ b.place → a.stacks ≡ b.stacks → a.statics ≡ b.statics → a.cells ≡ b.cells → a ≡ b
+shown-same a b regs flags place stacks statics cells = λ i. record { regs = regs i; flags = flags i; place = place i; stacks = stacks i; statics = statics i; cells = cells i }
+
+-- a machine shows the words of each typed state that it stands for
+stands-shows : (machine : MachineView) (s : State) → Typed machine.image s → Stands machine s → shown_by machine ≡ shown_of s
+unfolding shown_of
+stands-shows machine s typed h =
+    let all : (k : ℕ) (stack : Stack) → slice_get s.stacks k ≡ Some stack → slice_get s.stacks (0 + k) ≡ Some stack =
+    λ k stack e. let none : 0 + k ≡ k = omega arith in rw none e in
+    let stacks = stacks-show machine.image s machine.cpu machine.memory typed h.words 0 s.stacks all in
+    let statics = words-of-values machine.memory (places_of s) statics_start s.statics h.words.memory.statics in
+    shown-same (shown_by machine) (shown_of s) h.words.processor.regs h.words.processor.flags h.words.processor.place
+    (ap (stacks_by machine.cpu machine.memory 0) h.stacks ∙ stacks)
+    (ap (words_from machine.memory statics_start) (sym typed.statics.count) ∙ statics)
+    h.cells
+
+-- the law: the state that a run comes to is typed
+pub follows-shows : RunsAreTyped → MachinesShowTheirRuns
+follows-shows law machine entries w f =
+    stands-shows machine f.run.state (law machine.image w machine.events machine.turns _ f.run f.legal.reached).typed f.stands
+
+-- ---- of a machine whose stack 0 runs alone
+
+-- stack k of those from number n on
+record IsBy (cpu : Cpu) (m : MemoryView) (n k : ℕ) (states : List StackState) (t : ShownStack) : Type 0 where
+  state : StackState
+  here : slice_get states k ≡ Some state
+  is : t ≡ stack_by cpu m (n + k) state
+
+stacks-read : (cpu : Cpu) (m : MemoryView) (n k : ℕ) (states : List StackState) (t : ShownStack) → slice_get (stacks_by cpu m n states) k ≡ Some t → IsBy cpu m n k states t
+unfolding stacks_by
+stacks-read cpu m n k [] t e = absurd (cc)
+stacks-read cpu m n zero (x ∷ xs) t e = let none : n + 0 ≡ n = omega arith in record { state = x; here = refl; is = rw none cc }
+stacks-read cpu m n (suc k) (x ∷ xs) t e =
+    let r = stacks-read cpu m (n + 1) k xs t e in
+    let next : n + 1 + k ≡ n + suc k = omega arith in
+    record { state = r.state; here = r.here; is = rw next at r.is }
+
+-- the first runs
+pub first-shown : (cpu : Cpu) (m : MemoryView) (count k : ℕ) (t : ShownStack) → k ≡ 0 → slice_get (stacks_by cpu m 0 (one_runs count)) k ≡ Some t → t ≡ stack_by cpu m 0 Running
+first-shown cpu m count zero t first e =
+    let r = stacks-read cpu m 0 0 (one_runs count) t e in
+    let same : Running ≡ r.state = cc in r.is ∙ ap (stack_by cpu m 0) (sym same)
+first-shown cpu m count (suc k) t first e = absurd (cc)
+
+-- what several are alike
+alike : (count k : ℕ) (x : StackState) → slice_get (replicate count Empty) k ≡ Some x → x ≡ Empty
+alike zero k x e = absurd (cc)
+alike (suc count) zero x e = cc
+alike (suc count) (suc k) x e = alike count k x e
+
+-- no other has started
+pub other-shown : (cpu : Cpu) (m : MemoryView) (count k : ℕ) (t : ShownStack) → (k ≡ 0 → ⊥) → slice_get (stacks_by cpu m 0 (one_runs count)) k ≡ Some t
+    → t ≡ record { state = Empty; words = [] }
+unfolding words_from
+other-shown cpu m count zero t other e = absurd (other refl)
+other-shown cpu m count (suc k) t other e =
+    let r = stacks-read cpu m 0 (suc k) (one_runs count) t e in
+    let empty : r.state ≡ Empty = alike (count - 1) k r.state r.here in
+    let none : (upper_end (0 + suc k) - upper_end (0 + suc k)) / 4 ≡ 0 = omega arith in
+    r.is ∙ ap (stack_by cpu m (0 + suc k)) empty ∙ ap (λ n. record { state = Empty; words = words_from m (upper_end (0 + suc k)) n }) none
+
+-- there are as many as the machine has
+stacks-count : (cpu : Cpu) (m : MemoryView) (n : ℕ) (states : List StackState) → length (stacks_by cpu m n states) ≡ length states
+unfolding stacks_by
+stacks-count cpu m n [] = refl
+stacks-count cpu m n (x ∷ xs) = ap suc (stacks-count cpu m (n + 1) xs)
+
+pub shown-count : (cpu : Cpu) (m : MemoryView) (count : ℕ) → 0 < count → count ≡ length (stacks_by cpu m 0 (one_runs count))
+shown-count cpu m count some =
+    let others : length (replicate (count - 1) Empty) ≡ count - 1 = length-replicate {A = StackState} (count - 1) Empty in
+    omega (arith, some, stacks-count cpu m 0 (one_runs count), others)
+
+-- what an image shows of its statics, which are few
+pub statics-shown : (image : ImageParts) (statics : List FieldTy) → statics ≡ (shown image).statics → length statics ≡ length image.statics
+unfolding shown
+statics-shown image statics e = ap length e
+
+pub statics-few : (n : ℕ) → statics_fit n ≡ true → n ≤ 65536
+statics-few n e = grind (arith, nat_tests, e)
+
+-- what a lawful machine's look-ups rest on: ESP tells a depth of stack 0, whose words are there, and so are the statics; the
+-- cells are all there
+pub record LooksUp (machine : MachineView) : Type 0 where
+  pub depth : ℕ
+  pub esp : slice_index machine.cpu.regs 4 ≡ stack_pointer 0 depth
+  pub few : depth ≤ most_values
+  pub some : 0 < machine.image.stacks
+  pub room : (a : ℕ) → stacks_start ≤ a → a < upper_end 0 → a % 4 ≡ 0 → is_mapped machine.memory a ≡ true
+  pub statics : (k : ℕ) → k < length machine.image.statics → is_mapped machine.memory (statics_start + 4 * k) ≡ true
+  pub cells : length machine.cells ≡ CELLS
+
+-- a value of a list below its length
+value-there : (vs : List Value) (k : ℕ) → k < length vs → (v : Value) × (slice_get vs k ≡ Some v)
+value-there [] k low = absurd (omega (arith, low))
+value-there (v ∷ vs) zero low = (v, refl)
+value-there (v ∷ vs) (suc k) low = value-there vs k (omega (arith, low))
+
+-- where a word stands, one is mapped
+there-mapped : (m : MemoryView) (a w : ℕ) → word_of m a ≡ Some w → is_mapped m a ≡ true
+unfolding is_mapped
+there-mapped m a w e = rw e refl
+
+pub looks-up : (machine : MachineView) → Lawful machine → LooksUp machine
+looks-up machine h =
+    let s = h.state in
+    let current = first-is-current machine.image s machine.image.stacks h.typed (sym h.alone ∙ h.stands.stacks) in
+    let regs : slice_index machine.cpu.regs 4 ≡ esp_of s = ap (λ rs. slice_index rs 4) h.stands.words.processor.regs in
+    let inside = place-inside s.stacks 0 RunningStack (rw current at h.typed.one) in
+    let some : 0 < machine.image.stacks = rw h.typed.count at inside in
+    record {
+      depth = length s.values;
+      esp = rw current at regs;
+      few = h.typed.thread.room;
+      some = some;
+      room = λ a low high aligned. h.stands.words.memory.room a low (omega (arith, high, some)) aligned;
+      statics = λ k low. let v = value-there s.statics k (rw (← h.typed.statics.count) at low) in
+          there-mapped machine.memory _ _ (h.stands.words.memory.statics k v.0 v.1);
+      cells = ap length h.stands.cells ∙ screen-count s.devices;
+    }
