@@ -3,5 +3,6 @@ pub mod RunningRows
 pub mod KeyedRows
 pub mod KeptRows
 pub mod Spans
+pub mod Indexes
 pub mod DataArrays
 pub mod Annotations

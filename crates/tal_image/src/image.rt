@@ -7,6 +7,7 @@ ghost use Rattle.tal_image.specs.Shown.{shapes_of};
 
 use crate::image_reader::PlacedRows;
 use crate::image_rows::ImageRows;
+use crate::index::{block_offsets, index_of, mark_offsets, owners};
 use crate::parts::{BlockPart, MarkPart};
 use crate::placement::{addresses, array_offsets, fun_rows};
 use no_memory::NoMemory;
@@ -24,6 +25,12 @@ pub struct Image {
     pub(crate) shapes: Shapes,
     /// where each function begins, as an address
     pub(crate) starts: Vec<u32>,
+    /// for each byte of the code the number of the function that has it
+    pub(crate) owners: Vec<u32>,
+    /// which block begins at an offset of the code
+    pub(crate) block_places: Vec<u32>,
+    /// which mark is of the instruction that begins at an offset of the code
+    pub(crate) mark_places: Vec<u32>,
     /// where each data array begins, in words from the first
     pub(crate) offsets: Vec<u32>,
 }
@@ -90,10 +97,18 @@ impl Image {
         } = placed;
         let shapes = shapes(alloc, &rows, &funs)?;
         let starts = addresses(alloc, &funs)?;
+        let owners = owners(alloc, &rows.functions)?;
+        let block_offsets = block_offsets(alloc, &rows.blocks)?;
+        let block_places = index_of(alloc, &block_offsets)?;
+        let mark_offsets = mark_offsets(alloc, &rows.marks)?;
+        let mark_places = index_of(alloc, &mark_offsets)?;
         Ok(Image {
             rows,
             shapes,
             starts,
+            owners,
+            block_places,
+            mark_places,
             offsets,
         })
     }

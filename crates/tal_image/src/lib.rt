@@ -1,10 +1,10 @@
 // Image files, both ways: which images the bytes of a file stand for, and what is wrong with bytes that stand for none.
 //
 // `Image` is an image: it is read from the bytes of a file and written as them, or put together of its rows (`ImageRows`).
-// It shows typing what that asks of it, and finds functions, blocks, marks and words of data arrays by halving. `FileOf` (in
-// specs/) is the file of an image, `Formed` what every image keeps, by the numbers of the conditions, and `ImageOf` both
-// together. `FirstFault` is what is wrong with a file: the first of its fields that breaks a condition, or in which the file
-// ends. The module `laws` has what holds of them; `ImageFault` is a fault.
+// It shows typing what that asks of it, and finds functions, blocks and marks by an index, and words of data arrays by
+// halving. `FileOf` (in specs/) is the file of an image, `Formed` what every image keeps, by the numbers of the conditions,
+// and `ImageOf` both together. `FirstFault` is what is wrong with a file: the first of its fields that breaks a condition, or
+// in which the file ends. The module `laws` has what holds of them; `ImageFault` is a fault.
 //
 // A new field of the format stands in its grammar (specs/Fields.antt), in its row's reader (`header_reader`, `row_reader`,
 // `class_reader`, `code_reader`) and in its writer (`writing`), and nowhere else.
@@ -21,6 +21,7 @@ mod header_reader;
 mod image;
 mod image_reader;
 mod image_rows;
+mod index;
 pub mod laws;
 mod look_ups;
 mod mark_words;

@@ -1,22 +1,15 @@
 ghost use Rattle.std.specs.Prelude.{◌≡◌, ◌≤◌, ◌<◌, ℕ, length, slice_get, slice_index, Some};
 ghost use Rattle.object_layout.specs.Areas.{code_start};
-ghost use Rattle.tal_image.specs.Kept.{RisesBy, IsAtKey, IsLastUpTo};
+ghost use Rattle.tal_image.specs.Kept.{RisesBy, IsLastUpTo};
 ghost use Rattle.tal_image.specs.Shown.{spans, function_in, data_row_in, data_words, array_words};
 
 use crate::image::Image;
-use crate::parts::{ArrayPart, BlockPart, DataRow, MarkPart};
+use crate::index::place_in;
+use crate::parts::{ArrayPart, DataRow};
 use crate::placement::data_place;
 use object_layout::areas::{CODE_START, descriptor_address};
 use object_layout::{FieldTy, Shapes};
 use tal_types::{Context, ImageView, Mark, Sig, Span};
-
-/// Where this number stands among rising ones.
-fn find(rising: &[u32], number: u32) -> Option<usize>
-    requires { RisesBy (λ (n : ℕ). n) rising.now }
-    ensures { IsAtKey (λ (n : ℕ). n) rising.now number result }
-{
-    rising.binary_search(&number).ok()
-}
 
 /// Where the last of rising numbers stands that is not above this one.
 fn find_last(rising: &[u32], number: u32) -> Option<usize>
@@ -27,22 +20,6 @@ fn find_last(rising: &[u32], number: u32) -> Option<usize>
         Ok(at) => Some(at),
         Err(next) => next.checked_sub(1),
     }
-}
-
-/// Which block begins at an offset of the code.
-fn find_block(blocks: &[BlockPart], offset: u32) -> Option<usize>
-    requires { RisesBy (λ (b : BlockPart). b.offset) blocks.now }
-    ensures { IsAtKey (λ (b : BlockPart). b.offset) blocks.now offset result }
-{
-    blocks.binary_search_by_key(&offset, |b| b.offset).ok()
-}
-
-/// Which mark is of the instruction that begins at an offset of the code.
-fn find_mark(marks: &[MarkPart], offset: u32) -> Option<usize>
-    requires { RisesBy (λ (m : MarkPart). m.offset) marks.now }
-    ensures { IsAtKey (λ (m : MarkPart). m.offset) marks.now offset result }
-{
-    marks.binary_search_by_key(&offset, |m| m.offset).ok()
 }
 
 /// The number at a place of a list, and 0 past its end.
@@ -141,26 +118,31 @@ impl ImageView for Image {
     }
 
     fn function_at(&self, address: u32) -> Option<u32> {
-        let f = find(&self.starts, address)?;
-        Some(self.rows.functions[f].sig)
+        self.formed();
+        let span = self.function_of(address)?;
+        if span.start == address {
+            Some(span.sig)
+        } else {
+            None
+        }
     }
 
     fn function_of(&self, pc: u32) -> Option<Span> {
-        let f = find_last(&self.starts, pc)?;
-        let span = self.span(f);
-        if pc < span.end { Some(span) } else { None }
+        let offset = pc.checked_sub(CODE_START)?;
+        let f = self.owners.get(offset as usize)?;
+        Some(self.span(*f as usize))
     }
 
     fn block_at(&self, pc: u32) -> Option<Context> {
         let offset = pc.checked_sub(CODE_START)?;
-        let at = find_block(&self.rows.blocks, offset)?;
+        let at = place_in(&self.block_places, offset)?;
         let block = &self.rows.blocks[at];
         Some(Context::plain(&block.types, block.slots.items()))
     }
 
     fn mark_at(&self, pc: u32) -> Option<Mark> {
         let offset = pc.checked_sub(CODE_START)?;
-        let at = find_mark(&self.rows.marks, offset)?;
+        let at = place_in(&self.mark_places, offset)?;
         let mark = self.rows.marks[at];
         Some(Mark {
             tag: mark.tag,

@@ -16,8 +16,8 @@ use Rattle.tal_image.specs.Fields.{after_block, after_mark, with_class, all_inst
 use Rattle.tal_image.specs.Formed.{Formed, EachAfter, IsBlockPart, IsClass, IsMark, tables}
 use Rattle.tal_image.specs.Kept.{ClassHasWords, KeepsImage, RisesBy, array_offsets}
 use Rattle.tal_image.specs.Shown.{spans}
-use Rattle.tal_image.proofs.Finding.KeyedRows.{rises, rises-map}
-use Rattle.tal_image.proofs.Finding.Spans.{has_bytes, code_holds, starts_rise, length-spans}
+use Rattle.tal_image.proofs.Finding.KeyedRows.{rises}
+use Rattle.tal_image.proofs.Finding.Spans.{has_bytes, code_holds, length-spans}
 use Rattle.tal_image.proofs.Finding.DataArrays.{arrays_fit, few_numbers, kinds_there, offsets_rise, offsets_within, length-array_offsets}
 
 -- a number between two others
@@ -83,10 +83,6 @@ module _ (i : ImageParts) (f : Formed i) where
       lowest least m holds = grind (arith, nat_tests)
 
 module _ (a : Inside) (k : KeepsImage a) where
-  -- functions begin at rising addresses
-  pub starts_in_order : RisesBy (λ (n : ℕ). n) a.starts.items
-  starts_in_order = subst (λ l. RisesBy (λ (n : ℕ). n) l) (sym k.starts) (rises-map (λ (s : Span). s.start) (spans code_start a.rows.functions.items) (starts_rise code_start a.rows.functions.items (have_bytes (parts_of a.rows) k.formed)))
-
   -- each function has its address
   pub length-starts : length a.starts.items ≡ length a.rows.functions.items
   length-starts = ap length k.starts ∙ length-map (spans code_start a.rows.functions.items) (λ (s : Span). s.start) ∙ length-spans code_start a.rows.functions.items

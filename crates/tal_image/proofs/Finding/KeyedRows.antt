@@ -1,12 +1,8 @@
 -- The first row with a key, among rows whose keys rise.
-use Rattle.std.proofs.Common.{ℕ, zero, suc, ◌≡◌, ◌≢◌, ◌<◌, ◌≤◌, ◌+◌, ◌-◌, ◌⊎◌, inl, inr, true, false, nat_eq, ◌==◌, List, [], ◌∷◌, length, get_or, map, Option, Some, None, Result, Ok, Err, if◌then◌else◌, refl, sym, ap, ◌∙◌, arith}
-use Rattle.std.specs.List.Sorted.{IsSearchInRange, IsBinarySearchResult, IsNonDecreasingBy}
+use Rattle.std.proofs.Common.{ℕ, zero, suc, ◌≡◌, ◌≢◌, ◌<◌, ◌≤◌, ◌+◌, ◌-◌, ◌⊎◌, inl, inr, true, false, nat_eq, ◌==◌, List, [], ◌∷◌, length, get_or, map, Option, Some, None, if◌then◌else◌, refl, sym, ap, ◌∙◌, arith}
 use Rattle.std.specs.Option.{SomeIff}
-use Rattle.std.specs.Ordering.{nat_cmp, ordering_index}
-use Rattle.std.specs.Result.{result_ok}
 use Rattle.std.proofs.lemmas.Bool.{cases_lt}
 use Rattle.std.proofs.lemmas.Bool.Decides.{nat_tests}
-use Rattle.std.proofs.lemmas.Cmp.{ranked}
 use Rattle.std.proofs.lemmas.List.{get_or-map, length-map}
 use Rattle.tal_image.specs.Kept.{RisesBy, IsAtKey, IsLastUpTo}
 use Rattle.tal_image.specs.Formed.{EachAfter}
@@ -73,22 +69,6 @@ at-map key xs n None missing = λ i d within e. missing i (key d) (rw (length-ma
 at-map key xs n (Some i) found =
     let within : i < length xs = rw (length-map xs key) at found.0 in
     (within, λ d. sym (get_or-map key xs i d (key d) within) ∙ found.1 (key d))
-
-module _ {A : Type 0} (key : A → ℕ) (xs : List A) (n : ℕ) (rising : RisesBy key xs) where
-  -- comparisons with a number rise as the keys do
-  comparisons_rise : IsNonDecreasingBy (λ x. ordering_index (nat_cmp (key x) n)) xs
-  comparisons_rise i j d le within =
-      let keys_rise : key (get_or xs i d) ≤ key (get_or xs j d) = grind (arith, rising i j d, λ (same : i ≡ j). ap (λ k. key (get_or xs k d)) same) in
-      grind (arith, nat_tests)
-
-  -- a search by halving ends at the key, or finds that it is nowhere
-  pub halved : (r : Result ℕ ℕ) → IsSearchInRange r (length xs) → IsBinarySearchResult (λ x. nat_cmp (key x) n) xs r → IsAtKey key xs n (result_ok r)
-  halved (Ok at) bound equal = (bound, λ d. ranked _ n _ (sym (equal d)))
-  halved (Err at) bound parted = λ i d within e. by_side i d within e (cases_lt i at)
-    where
-      by_side : (i : ℕ) (d : A) → i < length xs → key (get_or xs i d) ≡ n → (i < at) ⊎ (at ≤ i) → ⊥
-      by_side i d within e (inl before) = let low : key (get_or xs i d) < n = ranked _ n _ (sym ((parted comparisons_rise).0 i d (omega arith) before)) in omega (arith, e)
-      by_side i d within e (inr behind) = let high : n < key (get_or xs i d) = ranked _ n _ (sym ((parted comparisons_rise).1 i d behind within)) in omega (arith, e)
 
 -- what rises never falls
 pub never_falls : (xs : List ℕ) → RisesBy (λ (n : ℕ). n) xs → (i j : ℕ) → i ≤ j → j < length xs → get_or xs i 0 ≤ get_or xs j 0

@@ -1,40 +1,35 @@
-use Rattle.std.proofs.Common.{ℕ, ◌≡◌, ◌<◌, length, get_or, slice_get, sym, subst, ◌∙◌, Some, arith}
+use Rattle.std.proofs.Common.{◌≡◌, ◌<◌, ◌≤◌, ◌+◌, length, get_or, slice_get, sym, subst, ◌∙◌, Some, arith}
 use Rattle.object_layout.specs.Areas.{code_start}
-use Rattle.tal_image.specs.Image.{ImageParts, parts_of}
+use Rattle.tal_image.specs.Image.{ImageParts}
 use Rattle.tal_image.specs.Shown.{shown, spans}
-use Rattle.tal_image.proofs.Finding.KeptRows.{starts_in_order, length-starts, have_bytes}
-use Rattle.tal_image.proofs.Finding.Spans.{holds-at, holds-nowhere, holds-before}
+use Rattle.tal_image.proofs.Finding.Indexes.{unowned-before, owner-there, owner-nowhere}
 use Rattle.tal_image.proofs.look_ups.ImageImageView.function_of.Goals as goal
 
-pub find_last-requires : goal.find_last-requires
-find_last-requires c = rw c.deref.ensures.value (starts_in_order c.self.inside c.self.invariant)
+pub returns-in_err-offset : goal.returns-in_err-offset
+unfolding shown
+returns-in_err-offset c =
+    let before : c.args.pc < code_start = omega (arith, c.in_err-offset.ensures) in
+    c.from_residual.ensures ∙ sym (unowned-before code_start c.args.self.now.functions c.args.pc before)
 
 pub returns-in_err-f : goal.returns-in_err-f
 unfolding shown
 returns-in_err-f c =
-    let fs = c.self.inside.rows.functions.items in
-    let some = have_bytes (parts_of c.self.inside.rows) c.self.invariant.formed in
-    c.from_residual.ensures ∙ rw (← c.self.view_is) (sym (holds-before fs some code_start c.args.pc (rw (← c.self.invariant.starts, ← c.deref.ensures.value) c.in_err-f.ensures)))
+    let place : c.args.pc ≡ code_start + c.in_ok-offset.offset = omega (arith, c.in_ok-offset.ensures.0, c.in_ok-offset.ensures.1) in
+    let past : length c.self.inside.owners.items ≤ c.in_ok-offset.offset = rw (← c.deref.ensures.value) c.in_err-f.ensures.lookup.3 in
+    c.from_residual-in_err-f.ensures ∙ rw (← c.self.view_is) (sym (owner-nowhere c.self.inside c.self.invariant c.args.pc c.in_ok-offset.offset place past))
 
-pub span-span-requires : goal.span-span-requires
-span-span-requires c =
-    let paired = length-starts c.self.inside c.self.invariant in
-    let within : c.in_ok-f.f < length c.self.inside.starts.items = rw (← c.deref.ensures.value) c.in_ok-f.ensures.0 in
-    subst (λ (i : ImageParts). c.in_ok-f.f < length i.functions) c.self.view_is (omega arith)
+pub span-requires : goal.span-requires
+span-requires c =
+    let place : c.args.pc ≡ code_start + c.in_ok-offset.offset = omega (arith, c.in_ok-offset.ensures.0, c.in_ok-offset.ensures.1) in
+    let within : c.in_ok-offset.offset < length c.self.inside.owners.items = rw (← c.deref.ensures.value) c.in_ok-f.ensures.lookup.3.0 in
+    let is = subst (λ l. c.in_ok-f.f.now ≡ get_or l c.in_ok-offset.offset c.in_ok-f.f.now) c.deref.ensures.value c.in_ok-f.ensures.lookup.1 in
+    subst (λ (i : ImageParts). c.in_ok-f.f.now < length i.functions) c.self.view_is (owner-there c.self.inside c.self.invariant c.args.pc c.in_ok-offset.offset place c.in_ok-f.f.now within is).0
 
-pub returns-then-pc-span : goal.returns-then-pc-span
+pub returns : goal.returns
 unfolding shown
-returns-then-pc-span c =
-    let fs = c.self.inside.rows.functions.items in
-    let some = have_bytes (parts_of c.self.inside.rows) c.self.invariant.formed in
-    let there : slice_get (spans code_start fs) c.in_ok-f.f ≡ Some c.span-span.result = subst (λ (i : ImageParts). slice_get (spans code_start i.functions) c.in_ok-f.f ≡ Some c.span-span.result) (sym c.self.view_is) c.span-span.ensures in
-    rw (← c.self.view_is) (sym (holds-at fs some code_start c.args.pc c.in_ok-f.f c.span-span.result there (rw (← c.self.invariant.starts, ← c.deref.ensures.value) c.in_ok-f.ensures.1) c.if-pc-span.true))
-
-pub returns-else-pc-span : goal.returns-else-pc-span
-unfolding shown
-returns-else-pc-span c =
-    let fs = c.self.inside.rows.functions.items in
-    let some = have_bytes (parts_of c.self.inside.rows) c.self.invariant.formed in
-    let there : slice_get (spans code_start fs) c.in_ok-f.f ≡ Some c.span-span.result = subst (λ (i : ImageParts). slice_get (spans code_start i.functions) c.in_ok-f.f ≡ Some c.span-span.result) (sym c.self.view_is) c.span-span.ensures in
-    let later = subst (λ l. (k : ℕ) → c.in_ok-f.f < k → k < length l → c.args.pc < get_or l k 0) (c.deref.ensures.value ∙ c.self.invariant.starts) c.in_ok-f.ensures.2 in
-    rw (← c.self.view_is) (sym (holds-nowhere fs some code_start c.args.pc c.in_ok-f.f c.span-span.result there c.if-pc-span.false later))
+returns c =
+    let place : c.args.pc ≡ code_start + c.in_ok-offset.offset = omega (arith, c.in_ok-offset.ensures.0, c.in_ok-offset.ensures.1) in
+    let within : c.in_ok-offset.offset < length c.self.inside.owners.items = rw (← c.deref.ensures.value) c.in_ok-f.ensures.lookup.3.0 in
+    let is = subst (λ l. c.in_ok-f.f.now ≡ get_or l c.in_ok-offset.offset c.in_ok-f.f.now) c.deref.ensures.value c.in_ok-f.ensures.lookup.1 in
+    let there = subst (λ (i : ImageParts). slice_get (spans code_start i.functions) c.in_ok-f.f.now ≡ Some c.span.result) (sym c.self.view_is) c.span.ensures in
+    rw (← c.self.view_is) (sym ((owner-there c.self.inside c.self.invariant c.args.pc c.in_ok-offset.offset place c.in_ok-f.f.now within is).1 ∙ there))
