@@ -3,7 +3,7 @@ use object_layout::{FieldTy, Shapes};
 use std::alloc::Global;
 use std::test::Fail;
 use tal_flow::{Edges, Place, Rule, flow, is_entry, pass, place_of};
-use tal_types::{Context, ImageView, Mark, Sig, Span, Ty, entry_context};
+use tal_types::{Annotation, Context, ImageView, Mark, Sig, Span, Ty, entry_context};
 
 const START: u32 = 0x100000;
 
@@ -68,6 +68,17 @@ impl ImageView for Small {
     fn block_at(&self, pc: u32) -> Option<Context> {
         if pc == self.block {
             Some(Context::plain(&[Ty::Junk; 7], &[]))
+        } else {
+            None
+        }
+    }
+
+    fn annotation_at(&self, pc: u32) -> Option<Annotation<'_>> {
+        if pc == self.block {
+            Some(Annotation {
+                types: &[Ty::Junk; 7],
+                slots: &[],
+            })
         } else {
             None
         }

@@ -3,7 +3,8 @@ use object_layout::{ClassRow, FieldList, FieldTy, MethodList, Shapes};
 use std::alloc::Global;
 use std::test::Fail;
 use tal_types::{
-    Context, FlagKind, ImageView, Mark, Sig, Span, Ty, context_below, entry_context, sub,
+    Annotation, Context, FlagKind, ImageView, Mark, Sig, Span, Ty, below_annotation, context_below,
+    entry_context, sub, types_fit,
 };
 
 fn two_classes(alloc: Global) -> Result<Shapes, Fail> {
@@ -68,6 +69,41 @@ fn contexts_are_below_with_more_pairs(rt: HostRuntime) -> Result<(), Fail> {
     Ok(())
 }
 
+#[test]
+fn context_becomes_types_alone(rt: HostRuntime) -> Result<(), Fail> {
+    let shapes = two_classes(rt.alloc())?;
+    let types = [
+        Ty::Obj(1),
+        Ty::Num,
+        Ty::Junk,
+        Ty::Junk,
+        Ty::Junk,
+        Ty::Junk,
+        Ty::Fun(3),
+    ];
+    let slots = [Ty::Num, Ty::Junk];
+    let mut context = Context::plain(&[Ty::Num; 7], &[Ty::Num; 3]);
+    context.set_plain(&types, &slots);
+    assert_eq!(rt; context, Context::plain(&types, &slots));
+    assert_eq!(rt; context.register(Reg::Edi), Ty::Fun(3));
+
+    let mut wider = types;
+    wider[0] = Ty::Ref(0);
+    let block = Annotation {
+        types: &wider,
+        slots: &[Ty::Junk, Ty::Junk],
+    };
+    assert_eq!(rt; types_fit(&shapes, &context, &wider), true);
+    assert_eq!(rt; types_fit(&shapes, &context, &[Ty::Num; 7]), false);
+    assert_eq!(rt; below_annotation(&shapes, &context, &block), true);
+    let block = Annotation {
+        types: &wider,
+        slots: &[],
+    };
+    assert_eq!(rt; below_annotation(&shapes, &context, &block), false);
+    Ok(())
+}
+
 /// An image that has classes alone.
 #[derive(Drop)]
 struct ClassesAlone {
@@ -110,6 +146,10 @@ impl ImageView for ClassesAlone {
     }
 
     fn block_at(&self, _pc: u32) -> Option<Context> {
+        None
+    }
+
+    fn annotation_at(&self, _pc: u32) -> Option<Annotation<'_>> {
         None
     }
 

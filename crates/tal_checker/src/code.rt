@@ -2,7 +2,7 @@
 ghost use Rattle.std.specs.Prelude.{◌≡◌, ◌≤◌, length, IfOk, IfErr};
 ghost use Rattle.std.specs.Option.{option_map, option_and_then};
 ghost use Rattle.tal_types.specs.Kept.{context_of};
-ghost use Rattle.tal_flow.specs.Strongest.{known_at, start};
+ghost use Rattle.tal_flow.specs.Strongest.{start};
 ghost use Rattle.tal_checker.specs.Passing.{Passed, RefusesCode};
 
 use crate::answer::CheckAnswer;
@@ -12,7 +12,7 @@ use ia32_code::{Decoded, decode};
 use object_layout::areas::CODE_START;
 use std::alloc::Global;
 use tal_flow::pass;
-use tal_types::{Context, ImageView, Sig, entry_context};
+use tal_types::{Context, ImageView, Sig};
 
 /// The signature of the function that begins at an address.
 fn signature_from<V: ImageView>(image: &V, pc: u32) -> Option<Sig>
@@ -24,23 +24,16 @@ fn signature_from<V: ImageView>(image: &V, pc: u32) -> Option<Sig>
     }
 }
 
-/// What an address has by itself: at a function's first instruction what its signature says, at a block the annotation.
-#[tactic(auto, unfolding(tal_flow::specs::Strongest::known_at))]
-fn known_at<V: ImageView>(image: &V, pc: u32) -> Option<Context>
-    ensures { option_map context_of result ≡ known_at (V.shown image.now) pc }
-{
-    match signature_from(image, pc) {
-        Some(sig) => Some(entry_context(&sig)),
-        None => image.block_at(pc),
-    }
-}
-
-/// Turns what falls to an address into what is known there.
+/// Turns what falls to an address into what is known there: at a function's first instruction what its signature says, at a
+/// block the annotation.
+#[tactic(auto, unfolding(tal_flow::specs::Strongest::start, tal_flow::specs::Strongest::known_at, tal_types::specs::Contexts::entry))]
 fn start_at<V: ImageView>(image: &V, context: &mut Context, pc: u32)
     ensures { context_of context.new ≡ start (V.shown image.now) pc (context_of context.old) }
 {
-    if let Some(known) = known_at(image, pc) {
-        *context = known;
+    if let Some(sig) = signature_from(image, pc) {
+        context.set_plain(&sig.params, &[]);
+    } else if let Some(block) = image.annotation_at(pc) {
+        context.set_plain(block.types, block.slots);
     }
 }
 

@@ -1,14 +1,13 @@
-#![tactic(auto, unfolding(crate::specs::Calls::arguments_fit, crate::specs::Calls::call_of_signature, crate::specs::Calls::call_to, crate::specs::Calls::call_by, crate::specs::Calls::is_callable, crate::specs::Calls::is_fit, crate::specs::Calls::result_of, crate::specs::Calls::nucleus_arguments, crate::specs::Calls::entry_number, crate::specs::Calls::is_entry, tal_types::specs::Contexts::register_type, tal_types::specs::Types::sub))]
+#![tactic(auto, unfolding(crate::specs::Calls::arguments_fit, crate::specs::Calls::call_of_signature, crate::specs::Calls::call_to, crate::specs::Calls::call_by, crate::specs::Calls::is_callable, crate::specs::Calls::is_fit, crate::specs::Calls::result_of, crate::specs::Calls::nucleus_arguments, crate::specs::Calls::entry_number, crate::specs::Calls::is_entry))]
 
 ghost use Rattle.std.specs.Prelude.{◌≡◌, slice_get};
 ghost use Rattle.std.specs.Option.{option_and_then};
 ghost use Rattle.tal_types.specs.Kept.{live_of};
-ghost use Rattle.tal_flow.specs.Calls.{arguments_fit, call_of_signature, nucleus_arguments, entry_number, is_entry, entry_gives, call_to, call_by, is_callable, is_fit, result_of};
+ghost use Rattle.tal_flow.specs.Calls.{call_of_signature, nucleus_arguments, entry_number, is_entry, entry_gives, call_to, call_by, is_callable, is_fit, result_of};
 
 use crate::known::register;
 use ia32_code::Reg;
-use object_layout::Shapes;
-use tal_types::{Context, ImageView, Sig, Ty, sub};
+use tal_types::{Context, ImageView, Ty, types_fit};
 
 /// What a Nucleus entry asks of EAX and ECX.
 #[derive(Clone, Copy, Debug, PartialEq, Eq)]
@@ -36,19 +35,6 @@ pub enum Called {
     Gives(Ty),
 }
 
-/// Whether each register's type is below its parameter's.
-fn arguments_fit(shapes: &Shapes, context: &Context, sig: &Sig) -> bool
-    ensures { result ≡ arguments_fit shapes.now (live_of context.now) sig.now }
-{
-    sub(shapes, register(context, Reg::Eax), sig.params[0])
-        && sub(shapes, register(context, Reg::Ecx), sig.params[1])
-        && sub(shapes, register(context, Reg::Edx), sig.params[2])
-        && sub(shapes, register(context, Reg::Ebx), sig.params[3])
-        && sub(shapes, register(context, Reg::Ebp), sig.params[4])
-        && sub(shapes, register(context, Reg::Esi), sig.params[5])
-        && sub(shapes, register(context, Reg::Edi), sig.params[6])
-}
-
 /// A call of a function whose signature has the number.
 fn call_of_signature<V: ImageView>(image: &V, context: &Context, g: Option<u32>) -> Called
     ensures { result ≡ call_of_signature (V.shown image.now) (live_of context.now) g }
@@ -59,7 +45,7 @@ fn call_of_signature<V: ImageView>(image: &V, context: &Context, g: Option<u32>)
     };
     match found {
         None => Called::Nowhere,
-        Some(sig) => if arguments_fit(image.shapes(), context, &sig) {
+        Some(sig) => if types_fit(image.shapes(), context, &sig.params) {
             Called::Gives(sig.result)
         } else {
             Called::Misfit

@@ -20,15 +20,15 @@ use crate::rules::operand_rule;
 use crate::seen::{Seen, see};
 use crate::trials::{RuleName, ask, first_failing, rule_number};
 use ia32_code::{Cond, Inst};
-use tal_types::{Context, ImageView, context_below};
+use tal_types::{Context, ImageView, below_annotation};
 
 /// Whether what is known on an edge to an address is below the annotation of the block there, where
 /// there is one.
 fn fits<V: ImageView>(image: &V, context: &Context, address: u32) -> bool
     ensures { result ≡ edge_fits (V.shown image.now).shapes (context_of context.now) ((V.shown image.now).block_at address) }
 {
-    match image.block_at(address) {
-        Some(block) => context_below(image.shapes(), context, &block),
+    match image.annotation_at(address) {
+        Some(block) => below_annotation(image.shapes(), context, &block),
         None => true,
     }
 }

@@ -37,33 +37,6 @@ impl Operands {
     }
 }
 
-fn one(a: Operand) -> Operands
-    ensures { result ≡ one a }
-{
-    Operands {
-        all: [a, a, a],
-        count: 1,
-    }
-}
-
-fn two(a: Operand, b: Operand) -> Operands
-    ensures { result ≡ two a b }
-{
-    Operands {
-        all: [a, b, b],
-        count: 2,
-    }
-}
-
-fn three(a: Operand, b: Operand, c: Operand) -> Operands
-    ensures { result ≡ three a b c }
-{
-    Operands {
-        all: [a, b, c],
-        count: 3,
-    }
-}
-
 /// An instruction, by what typing says of it. Targets are addresses.
 #[derive(Debug, Drop)]
 pub enum Form {
@@ -105,24 +78,60 @@ fn address_at(next: u32, distance: i32) -> u32
     next.wrapping_add(distance.cast_unsigned())
 }
 
-/// An operation on the first source and others, which goes to its destination.
-fn compute(sources: Operands, destination: Operand, kind: Option<FlagKind>) -> Form
-    ensures { result ≡ Form.Compute sources destination false kind }
+/// An operation on one operand, with its destination.
+fn from_one(x: &Operand, d: &Operand, kind: Option<FlagKind>) -> Form
+    ensures { result ≡ Form.Compute (one x.now) d.now false kind }
 {
     Form::Compute {
-        sources,
-        destination,
+        sources: Operands {
+            all: [*x, *x, *x],
+            count: 1,
+        },
+        destination: *d,
         wide: false,
         kind,
     }
 }
 
-/// A product or a quotient of 64 bits, which goes to EAX and EDX.
-fn wide(sources: Operands) -> Form
-    ensures { result ≡ Form.Compute sources (Operand.R Reg.Eax) true (Some FlagKind.Lost) }
+/// An operation on two operands, with its destination.
+fn from_two(x: &Operand, y: &Operand, d: &Operand, kind: Option<FlagKind>) -> Form
+    ensures { result ≡ Form.Compute (two x.now y.now) d.now false kind }
 {
     Form::Compute {
-        sources,
+        sources: Operands {
+            all: [*x, *y, *y],
+            count: 2,
+        },
+        destination: *d,
+        wide: false,
+        kind,
+    }
+}
+
+/// A product of EAX and an operand, which goes to EAX and EDX.
+fn product(x: &Operand) -> Form
+    ensures { result ≡ Form.Compute (two (Operand.R Reg.Eax) x.now) (Operand.R Reg.Eax) true (Some FlagKind.Lost) }
+{
+    Form::Compute {
+        sources: Operands {
+            all: [Operand::R(Reg::Eax), *x, *x],
+            count: 2,
+        },
+        destination: Operand::R(Reg::Eax),
+        wide: true,
+        kind: Some(FlagKind::Lost),
+    }
+}
+
+/// A quotient of EDX and EAX by an operand, which goes to EAX and EDX.
+fn quotient(x: &Operand) -> Form
+    ensures { result ≡ Form.Compute (three (Operand.R Reg.Eax) (Operand.R Reg.Edx) x.now) (Operand.R Reg.Eax) true (Some FlagKind.Lost) }
+{
+    Form::Compute {
+        sources: Operands {
+            all: [Operand::R(Reg::Eax), Operand::R(Reg::Edx), *x],
+            count: 3,
+        },
         destination: Operand::R(Reg::Eax),
         wide: true,
         kind: Some(FlagKind::Lost),
@@ -130,23 +139,23 @@ fn wide(sources: Operands) -> Form
 }
 
 /// The form of an operation of `Alu`.
-fn alu_form(next: u32, op: Alu, dst: Operand, src: Operand) -> Form
-    ensures { result ≡ form_of next (Inst.Alu op dst src) }
+fn alu_form(next: u32, op: Alu, dst: &Operand, src: &Operand) -> Form
+    ensures { result ≡ form_of next (Inst.Alu op dst.now src.now) }
 {
     match (op, dst, src) {
-        (Alu::Cmp, _, _) => Form::Compare(dst, src),
-        (Alu::Add, Operand::R(Reg::Esp), Operand::I(n)) => Form::DropSlots(n),
-        _ => compute(two(dst, src), dst, Some(FlagKind::Num)),
+        (Alu::Cmp, _, _) => Form::Compare(*dst, *src),
+        (Alu::Add, Operand::R(Reg::Esp), Operand::I(n)) => Form::DropSlots(*n),
+        _ => from_two(dst, src, dst, Some(FlagKind::Num)),
     }
 }
 
 /// The form of a shift.
-fn shift_form(next: u32, op: Shift, dst: Operand, by: Count) -> Form
-    ensures { result ≡ form_of next (Inst.Shift op dst by) }
+fn shift_form(next: u32, op: Shift, dst: &Operand, by: Count) -> Form
+    ensures { result ≡ form_of next (Inst.Shift op dst.now by) }
 {
     match by {
-        Count::By(n) => compute(
-            one(dst),
+        Count::By(n) => from_one(
+            dst,
             dst,
             if n % 32 == 0 {
                 None
@@ -154,10 +163,7 @@ fn shift_form(next: u32, op: Shift, dst: Operand, by: Count) -> Form
                 Some(FlagKind::Eq)
             },
         ),
-        Count::Cl => {
-            let count = Operand::R(Reg::Ecx);
-            compute(two(dst, count), dst, Some(FlagKind::Lost))
-        }
+        Count::Cl => from_two(dst, &Operand::R(Reg::Ecx), dst, Some(FlagKind::Lost)),
     }
 }
 
@@ -165,35 +171,33 @@ fn shift_form(next: u32, op: Shift, dst: Operand, by: Count) -> Form
 pub(crate) fn form_of(next: u32, inst: &Inst) -> Form
     ensures { result ≡ form_of next inst.now }
 {
-    let eax = Operand::R(Reg::Eax);
-    let edx = Operand::R(Reg::Edx);
-    match *inst {
-        Inst::Alu { op, dst, src } => alu_form(next, op, dst, src),
-        Inst::Mov { dst, src } => Form::Move(dst, src),
+    match inst {
+        Inst::Alu { op, dst, src } => alu_form(next, *op, dst, src),
+        Inst::Mov { dst, src } => Form::Move(*dst, *src),
         Inst::Lea {
             dst: Operand::R(r),
             src: Operand::M(m),
-        } => Form::Address(r, m),
+        } => Form::Address(*r, *m),
         Inst::Lea { .. } | Inst::Priv { .. } => Form::Refused,
-        Inst::Test { dst, src } => Form::TestBits(dst, src),
-        Inst::Inc(dst) | Inst::Dec(dst) => compute(one(dst), dst, Some(FlagKind::Eq)),
-        Inst::Not(dst) => compute(one(dst), dst, None),
-        Inst::Neg(dst) => compute(one(dst), dst, Some(FlagKind::Num)),
-        Inst::Mul(src) | Inst::Imul1(src) => wide(two(eax, src)),
-        Inst::Div(src) | Inst::Idiv(src) => wide(three(eax, edx, src)),
-        Inst::Imul2 { dst, src } => compute(two(dst, src), dst, Some(FlagKind::Lost)),
+        Inst::Test { dst, src } => Form::TestBits(*dst, *src),
+        Inst::Inc(dst) | Inst::Dec(dst) => from_one(dst, dst, Some(FlagKind::Eq)),
+        Inst::Not(dst) => from_one(dst, dst, None),
+        Inst::Neg(dst) => from_one(dst, dst, Some(FlagKind::Num)),
+        Inst::Mul(src) | Inst::Imul1(src) => product(src),
+        Inst::Div(src) | Inst::Idiv(src) => quotient(src),
+        Inst::Imul2 { dst, src } => from_two(dst, src, dst, Some(FlagKind::Lost)),
         Inst::Imul3 { dst, src, imm } => {
-            compute(two(src, Operand::I(imm)), dst, Some(FlagKind::Lost))
+            from_two(src, &Operand::I(*imm), dst, Some(FlagKind::Lost))
         }
-        Inst::Shift { op, dst, by } => shift_form(next, op, dst, by),
-        Inst::Cdq => compute(one(eax), edx, None),
+        Inst::Shift { op, dst, by } => shift_form(next, *op, dst, *by),
+        Inst::Cdq => from_one(&Operand::R(Reg::Eax), &Operand::R(Reg::Edx), None),
         Inst::Nop => Form::Nothing,
-        Inst::Push(src) => Form::PushOf(src),
-        Inst::Pop(r) => Form::PopTo(r),
-        Inst::CallRel(distance) => Form::CallTo(address_at(next, distance)),
-        Inst::CallAt(src) => Form::CallBy(src),
+        Inst::Push(src) => Form::PushOf(*src),
+        Inst::Pop(r) => Form::PopTo(*r),
+        Inst::CallRel(distance) => Form::CallTo(address_at(next, *distance)),
+        Inst::CallAt(src) => Form::CallBy(*src),
         Inst::Ret => Form::Return,
-        Inst::Jmp(distance) => Form::Jump(address_at(next, distance)),
-        Inst::Jcc(condition, distance) => Form::Branch(condition, address_at(next, distance)),
+        Inst::Jmp(distance) => Form::Jump(address_at(next, *distance)),
+        Inst::Jcc(condition, distance) => Form::Branch(*condition, address_at(next, *distance)),
     }
 }

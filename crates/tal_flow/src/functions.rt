@@ -32,5 +32,5 @@ pub(crate) fn fits_result<V: ImageView>(image: &V, pc: u32, t: Ty) -> bool
 pub(crate) fn has_block<V: ImageView>(image: &V, pc: u32, address: u32) -> bool
     ensures { result ≡ has_block (V.shown image.now) pc address }
 {
-    image.block_at(address).is_some() && in_function(image, pc, address)
+    image.annotation_at(address).is_some() && in_function(image, pc, address)
 }

@@ -128,33 +128,44 @@ pub(crate) fn set_slot(context: &mut Context, i: u32, t: Ty)
     context.slots[i as usize] = t;
 }
 
-/// The slots behind a new slot 0; the last of them is given up.
-fn pushed(slots: &[Ty; 64], t: Ty) -> [Ty; 64]
-    ensures given { length slots.now ≡ 64 }
-    ensures long { length result ≡ 64 }
-    ensures first { slice_index_or result 0 Ty.Junk ≡ t }
-    ensures rest { (k : ℕ) → k < 63 → slice_index_or result (k + 1) Ty.Junk ≡ slice_index_or slots.now k Ty.Junk }
+/// A context has room for 64 slots. It computes nothing.
+fn all_there(slots: &[Ty; 64])
+    ensures { length slots.now ≡ 64 }
+{}
+
+/// Moves the slots, so many, one up, and puts a slot of the type before them. Behind them is Junk.
+fn shift_up(slots: &mut [Ty; 64], depth: usize, t: Ty)
+    requires room { depth < 64 }
+    requires junk { (k : ℕ) → depth ≤ k → slice_index_or slots.old k Ty.Junk ≡ Ty.Junk }
+    ensures given { length slots.old ≡ 64 }
+    ensures long { length slots.new ≡ 64 }
+    ensures first { slice_index_or slots.new 0 Ty.Junk ≡ t }
+    ensures rest { (k : ℕ) → k < 63 → slice_index_or slots.new (k + 1) Ty.Junk ≡ slice_index_or slots.old k Ty.Junk }
 {
-    let mut all = [Ty::Junk; 64];
-    for i in 0..63usize {
-        all[i + 1] = slots[i];
+    let mut i = depth;
+    while i > 0 {
+        slots[i] = slots[i - 1];
+        i -= 1;
     }
-    all[0] = t;
-    all
+    slots[0] = t;
 }
 
-/// The slots without the first `n`, and Junk behind them.
-fn dropped(slots: &[Ty; 64], n: usize) -> [Ty; 64]
-    requires { n ≤ 64 }
-    ensures given { length slots.now ≡ 64 }
-    ensures long { length result ≡ 64 }
-    ensures rest { (k : ℕ) → slice_index_or result k Ty.Junk ≡ slice_index_or slots.now (k + n) Ty.Junk }
+/// Takes the first `n` of the slots, so many, off. Behind them is Junk.
+fn shift_down(slots: &mut [Ty; 64], depth: usize, n: usize)
+    requires within { depth ≤ 64 }
+    requires few { n ≤ depth }
+    requires junk { (k : ℕ) → depth ≤ k → slice_index_or slots.old k Ty.Junk ≡ Ty.Junk }
+    ensures given { length slots.old ≡ 64 }
+    ensures long { length slots.new ≡ 64 }
+    ensures rest { (k : ℕ) → slice_index_or slots.new k Ty.Junk ≡ slice_index_or slots.old (k + n) Ty.Junk }
 {
-    let mut rest = [Ty::Junk; 64];
-    for i in n..64 {
-        rest[i - n] = slots[i];
+    for i in 0..depth {
+        slots[i] = if i + n < depth {
+            slots[i + n]
+        } else {
+            Ty::Junk
+        };
     }
-    rest
 }
 
 /// Puts a slot of the type before the others.
@@ -163,7 +174,8 @@ pub(crate) fn push(context: &mut Context, t: Ty)
     ensures known { live_of context.new ≡ with_slots (t ∷ (live_of context.old).slots) (live_of context.old) }
     ensures dead { context.new.dead ≡ context.old.dead }
 {
-    context.slots = pushed(&context.slots, t);
+    all_there(&context.slots);
+    shift_up(&mut context.slots, context.depth as usize, t);
     context.depth += 1;
 }
 
@@ -173,7 +185,7 @@ pub(crate) fn drop_slots(context: &mut Context, n: u32)
     ensures known { live_of context.new ≡ with_slots (drop n (live_of context.old).slots) (live_of context.old) }
     ensures dead { context.new.dead ≡ context.old.dead }
 {
-    context.slots = dropped(&context.slots, n as usize);
+    shift_down(&mut context.slots, context.depth as usize, n as usize);
     context.depth -= n as u8;
 }
 

@@ -9,7 +9,7 @@ use crate::parts::{ArrayPart, DataRow};
 use crate::placement::data_place;
 use object_layout::areas::{CODE_START, descriptor_address};
 use object_layout::{FieldTy, Shapes};
-use tal_types::{Context, ImageView, Mark, Sig, Span};
+use tal_types::{Annotation, Context, ImageView, Mark, Sig, Span};
 
 /// Where the last of rising numbers stands that is not above this one.
 fn find_last(rising: &[u32], number: u32) -> Option<usize>
@@ -134,10 +134,18 @@ impl ImageView for Image {
     }
 
     fn block_at(&self, pc: u32) -> Option<Context> {
+        let block = self.annotation_at(pc)?;
+        Some(Context::plain(block.types, block.slots))
+    }
+
+    fn annotation_at(&self, pc: u32) -> Option<Annotation<'_>> {
         let offset = pc.checked_sub(CODE_START)?;
         let at = place_in(&self.block_places, offset)?;
         let block = &self.rows.blocks[at];
-        Some(Context::plain(&block.types, block.slots.items()))
+        Some(Annotation {
+            types: &block.types,
+            slots: block.slots.items(),
+        })
     }
 
     fn mark_at(&self, pc: u32) -> Option<Mark> {

@@ -2,6 +2,7 @@ ghost use Rattle.std.specs.Prelude.{◌≡◌, ◌≤◌, ℕ, length, take, sli
 ghost use Rattle.tal_types.specs.declared.types.Ty.TheVariants.{Junk};
 
 use crate::types::{FlagKind, Ty};
+use ia32_code::Reg;
 
 /// All that is known before an instruction. Contracts see it as `context_of` says.
 #[derive(Clone, Copy, Debug, PartialEq, Eq)]
@@ -25,6 +26,15 @@ pub struct Context {
     pub ghost no_more_slots: { (k : ℕ) → depth ≤ k → slice_index_or slots k Junk ≡ Junk },
 }
 
+/// Types alone, as an image tells them of a block: those of EAX, ECX, EDX, EBX, EBP, ESI and EDI, and of the frame's slots,
+/// slot 0 first, of which there are at most 64.
+#[derive(Clone, Copy, Debug)]
+pub struct Annotation<'a> {
+    pub types: &'a [Ty; 7],
+    pub slots: &'a [Ty],
+    pub ghost few: { length slots.now ≤ 64 },
+}
+
 impl Context {
     ghost use Rattle.tal_types.specs.Contexts.{Dead, plain};
     ghost use Rattle.tal_types.specs.Kept.{context_of, live_of};
@@ -37,7 +47,7 @@ impl Context {
         Context {
             dead: true,
             regs: [Ty::Junk; 8],
-            slots: filled(&[]),
+            slots: [Ty::Junk; 64],
             depth: 0,
             kind: FlagKind::Lost,
             pairs: 0,
@@ -51,24 +61,40 @@ impl Context {
         requires { length slots.now ≤ 64 }
         ensures { context_of result ≡ plain types.now slots.now }
     {
-        Context {
-            dead: false,
-            regs: [
-                types[0],
-                types[1],
-                types[2],
-                types[3],
-                Ty::Junk,
-                types[4],
-                types[5],
-                types[6],
-            ],
-            slots: filled(slots),
-            depth: slots.len() as u8,
-            kind: FlagKind::Lost,
-            pairs: 0,
-            heads: 0,
-        }
+        let mut context = Context::dead();
+        context.set_plain(types, slots);
+        context
+    }
+
+    /// Becomes types alone.
+    pub fn set_plain(&mut self, types: &[Ty; 7], slots: &[Ty])
+        requires { length slots.now ≤ 64 }
+        ensures { context_of self.new ≡ plain types.now slots.now }
+    {
+        self.dead = false;
+        self.regs = [
+            types[0],
+            types[1],
+            types[2],
+            types[3],
+            Ty::Junk,
+            types[4],
+            types[5],
+            types[6],
+        ];
+        clear(&mut self.slots, slots.len(), self.depth as usize);
+        fill(&mut self.slots, slots);
+        self.depth = slots.len() as u8;
+        self.kind = FlagKind::Lost;
+        self.pairs = 0;
+        self.heads = 0;
+    }
+
+    /// The type of a register.
+    pub fn register(&self, r: Reg) -> Ty
+        ensures { result ≡ (live_of self.now).regs r }
+    {
+        self.regs[usize::from(r.number())]
     }
 
     /// The types of the frame's slots, slot 0 first.
@@ -80,15 +106,25 @@ impl Context {
     }
 }
 
-/// The slots of a list, and Junk past the last.
-fn filled(slots: &[Ty]) -> [Ty; 64]
-    requires { length slots.now ≤ 64 }
-    ensures slots { take (length slots.now) result ≡ slots.now }
-    ensures rest { (k : ℕ) → length slots.now ≤ k → slice_index_or result k Junk ≡ Junk }
+/// Puts the slots of a list first, where Junk stands past the last.
+fn fill(all: &mut [Ty; 64], slots: &[Ty])
+    requires few { length slots.now ≤ 64 }
+    requires rest { (k : ℕ) → length slots.now ≤ k → slice_index_or all.old k Junk ≡ Junk }
+    ensures slots { take (length slots.now) all.new ≡ slots.now }
+    ensures rest { (k : ℕ) → length slots.now ≤ k → slice_index_or all.new k Junk ≡ Junk }
 {
-    let mut all = [Ty::Junk; 64];
     for i in 0..slots.len() {
         all[i] = slots[i];
     }
-    all
+}
+
+/// Puts Junk from one slot on, where it stands already from another on.
+fn clear(all: &mut [Ty; 64], from: usize, to: usize)
+    requires to { to ≤ 64 }
+    requires rest { (k : ℕ) → to ≤ k → slice_index_or all.old k Junk ≡ Junk }
+    ensures { (k : ℕ) → from ≤ k → slice_index_or all.new k Junk ≡ Junk }
+{
+    for i in from..to {
+        all[i] = Ty::Junk;
+    }
 }

@@ -1,9 +1,9 @@
 ghost use Rattle.std.specs.Prelude.{◌≡◌};
-ghost use Rattle.tal_types.specs.Contexts.{same, kind_below, all_sub, every, has_all, context_below};
-ghost use Rattle.tal_types.specs.Kept.{type_at, pair_in, context_of};
+ghost use Rattle.tal_types.specs.Contexts.{same, kind_below, all_sub, every, has_all, context_below, register_type, plain};
+ghost use Rattle.tal_types.specs.Kept.{type_at, pair_in, live_of, context_of};
 ghost use Rattle.tal_types.specs.Types.{sub, within};
 
-use crate::contexts::Context;
+use crate::contexts::{Annotation, Context};
 use crate::types::{FlagKind, Ty};
 use ia32_code::Reg;
 use object_layout::Shapes;
@@ -110,4 +110,27 @@ pub fn context_below(shapes: &Shapes, a: &Context, b: &Context) -> bool
         && kind_below(a.kind, b.kind)
         && has_all(a.pairs, b.pairs)
         && has_all(a.heads, b.heads)
+}
+
+/// Whether each register's type is below the one of these, which are of EAX, ECX, EDX, EBX, EBP, ESI and EDI.
+#[tactic(auto, unfolding(crate::specs::Contexts::register_type, crate::specs::Types::sub))]
+pub fn types_fit(shapes: &Shapes, context: &Context, types: &[Ty; 7]) -> bool
+    ensures { result ≡ every (λ r. sub shapes.now ((live_of context.now).regs r) (register_type types.now r)) }
+{
+    sub(shapes, context.register(Reg::Eax), types[0])
+        && sub(shapes, context.register(Reg::Ecx), types[1])
+        && sub(shapes, context.register(Reg::Edx), types[2])
+        && sub(shapes, context.register(Reg::Ebx), types[3])
+        && sub(shapes, context.register(Reg::Ebp), types[4])
+        && sub(shapes, context.register(Reg::Esi), types[5])
+        && sub(shapes, context.register(Reg::Edi), types[6])
+}
+
+/// Whether a context is below types alone.
+#[tactic(auto, unfolding(crate::specs::Contexts::context_below, crate::specs::Contexts::live_below, crate::specs::Contexts::plain, crate::specs::Contexts::has_all, crate::specs::Contexts::kind_below, crate::specs::Kept::context_of))]
+pub fn below_annotation(shapes: &Shapes, context: &Context, block: &Annotation<'_>) -> bool
+    ensures { result ≡ context_below shapes.now (context_of context.now) (plain block.now.types.now block.now.slots.now) }
+{
+    context.dead
+        || types_fit(shapes, context, block.types) && all_sub(shapes, context.slots(), block.slots)
 }

@@ -1,10 +1,11 @@
 ghost use Rattle.std.specs.Prelude.{◌≡◌};
 ghost use Rattle.std.specs.Option.{option_map};
 ghost use Rattle.object_layout.specs.Laws.{ClassLaws};
+ghost use Rattle.tal_types.specs.Contexts.{plain};
 ghost use Rattle.tal_types.specs.Kept.{context_of};
 ghost use Rattle.tal_types.specs.Shown.{ShownImage};
 
-use crate::contexts::Context;
+use crate::contexts::{Annotation, Context};
 use crate::signatures::Sig;
 use object_layout::{FieldTy, Shapes};
 
@@ -51,9 +52,13 @@ pub trait ImageView {
     fn function_of(&self, pc: u32) -> Option<Span>
         ensures { result ≡ (shown self.now).function_of pc };
 
-    /// The annotation of the block that begins at an address.
+    /// What is known where the block begins that begins at an address.
     fn block_at(&self, pc: u32) -> Option<Context>
         ensures { option_map context_of result ≡ (shown self.now).block_at pc };
+
+    /// The same as the image has it: the block's types, with no context built of them.
+    fn annotation_at(&self, pc: u32) -> Option<Annotation<'_>>
+        ensures { option_map (λ b. plain b.types.now b.slots.now) result ≡ (shown self.now).block_at pc };
 
     /// The mark of the instruction that begins at an address.
     fn mark_at(&self, pc: u32) -> Option<Mark>

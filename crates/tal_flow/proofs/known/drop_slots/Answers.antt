@@ -3,8 +3,8 @@ use Rattle.tal_types.proofs.Meanings.{same_live}
 use Rattle.tal_flow.proofs.Fields.{take-dropped, depth-most}
 use Rattle.tal_flow.proofs.known.drop_slots.Goals as goal
 
-pub dropped-context-requires : goal.dropped-context-requires
-dropped-context-requires c =
+pub shift_down-requires : goal.shift_down-requires
+shift_down-requires c =
     let d = depth-most c.args.context.now in
     let s = c.args.context.now.shallow in
     omega (arith, c.requires)
@@ -20,8 +20,8 @@ overflow_sub-context c = let d = depth-most c.args.context.now in omega (arith, 
 
 pub returns-clause-known : goal.returns-clause-known
 returns-clause-known c =
-    let made = c.dropped-context.ensures in
+    let made = c.shift_down.ensures in
     let d = depth-most c.args.context.now in
     same_live _ _ (λ r. refl)
-    (take-dropped c.dropped-context.result c.args.context.now.slots c.args.context.now.depth c.args.n made.long made.given c.args.context.now.shallow (omega (arith, c.requires)) made.rest)
+    (take-dropped c.shift_down.new.slots c.args.context.now.slots c.args.context.now.depth c.args.n made.long made.given c.args.context.now.shallow (omega (arith, c.requires)) made.rest)
     refl (λ i a. refl) (λ t r. refl)

@@ -8,18 +8,23 @@ overflow_add-context c = let s = c.args.context.now.shallow in omega arith
 
 pub invariant_of-context-clause-shallow : goal.invariant_of-context-clause-shallow
 invariant_of-context-clause-shallow c =
-    let d = depth-of c.args.context.now c.pushed-context.ensures.given in
+    let d = depth-of c.args.context.now c.shift_up.ensures.given in
     omega (arith, c.requires)
 
 pub invariant_of-context-clause-no_more_slots : goal.invariant_of-context-clause-no_more_slots
 invariant_of-context-clause-no_more_slots c = λ k l.
-    let made = c.pushed-context.ensures in
-    junk-pushed c.pushed-context.result c.args.context.now.slots c.args.context.now.depth k made.long made.given made.rest c.args.context.now.no_more_slots l
+    let made = c.shift_up.ensures in
+    junk-pushed c.shift_up.new.slots c.args.context.now.slots c.args.context.now.depth k made.long made.given made.rest c.args.context.now.no_more_slots l
 
 pub returns-clause-known : goal.returns-clause-known
 returns-clause-known c =
-    let made = c.pushed-context.ensures in
+    let made = c.shift_up.ensures in
     let d = depth-of c.args.context.now made.given in
     same_live _ _ (λ r. refl)
-    (take-pushed c.pushed-context.result c.args.context.now.slots c.args.context.now.depth c.args.t made.long made.given (omega (arith, c.requires)) made.first made.rest)
+    (take-pushed c.shift_up.new.slots c.args.context.now.slots c.args.context.now.depth c.args.t made.long made.given (omega (arith, c.requires)) made.first made.rest)
     refl (λ i a. refl) (λ t r. refl)
+
+pub shift_up-requires-clause-room : goal.shift_up-requires-clause-room
+shift_up-requires-clause-room c =
+    let d = depth-of c.args.context.now c.all_there.ensures in
+    omega (arith, c.requires)
