@@ -1,6 +1,6 @@
-use Rattle.std.proofs.Common.{◌≡◌, ◌≢◌, ℕ, zero, suc, ◌+◌, ◌<◌, ◌≤◌, false, List, [], ◌∷◌, length, ◌++◌, get_or, set, take, replicate, refl, ap, sym, ◌∙◌, arith, if◌then◌else◌}
+use Rattle.std.proofs.Common.{◌≡◌, ℕ, zero, suc, ◌+◌, ◌<◌, false, List, [], ◌∷◌, length, ◌++◌, get_or, set, take, replicate, refl, ap, sym, ◌∙◌, arith, if◌then◌else◌}
 use Rattle.std.proofs.lemmas.Bool.Decides.{nat_tests}
-use Rattle.std.proofs.lemmas.List.{get_or_default, get_or-set_other, take_more, take_more_set}
+use Rattle.std.proofs.lemmas.List.{get_or_default, take_more, take_more_set}
 use Rattle.std.proofs.lemmas.Nat.Bits.{bit_at-zero}
 use Rattle.ia32_code.specs.declared.instruction.Reg.{Reg}
 use Rattle.ia32_code.specs.declared.instruction.Reg.TheVariants.{Eax, Ecx, Edx, Ebx, Esp, Ebp, Esi, Edi}
@@ -65,7 +65,3 @@ filled-more all slots i long l m same =
     take_more_set all i (get_or slots i Num) (omega arith)
     ∙ ap (λ xs. xs ++ get_or slots i Num ∷ []) same
     ∙ sym (take_more slots i Num m)
-
--- a slot that is filled in leaves those behind it
-pub filled-rest : (all : List Ty) (i : ℕ) (t : Ty) → ((k : ℕ) → i ≤ k → get_or all k Junk ≡ Junk) → (k : ℕ) → i + 1 ≤ k → get_or (set all i t) k Junk ≡ Junk
-filled-rest all i t rest k l = let apart : k ≢ i = omega arith in get_or-set_other all i k t Junk apart ∙ rest k (omega arith)
