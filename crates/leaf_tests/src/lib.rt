@@ -11,6 +11,8 @@ mod heaps;
 #[cfg(test)]
 mod layouts;
 #[cfg(test)]
+mod names;
+#[cfg(test)]
 mod stacks;
 #[cfg(test)]
 mod steps;
