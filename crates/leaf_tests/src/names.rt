@@ -36,6 +36,7 @@ end
 
 #[test]
 fn tables_number_their_names(rt: HostRuntime) -> Result<(), Fail> {
+    assert!(rt; TEXT.len() < 1000);
     let module = parse(rt.alloc(), TEXT)?;
     let names = ModuleNames::of(rt.alloc(), module.lines())?;
     assert!(rt; names.sigs.number(b"plain") == Some(0));
@@ -52,6 +53,7 @@ fn tables_number_their_names(rt: HostRuntime) -> Result<(), Fail> {
 
 #[test]
 fn members_are_looked_for_in_the_classes_above(rt: HostRuntime) -> Result<(), Fail> {
+    assert!(rt; TEXT.len() < 1000);
     let module = parse(rt.alloc(), TEXT)?;
     let names = ModuleNames::of(rt.alloc(), module.lines())?;
     assert!(rt; names.field_byte(0, b"v") == Some(4));
@@ -66,6 +68,7 @@ fn members_are_looked_for_in_the_classes_above(rt: HostRuntime) -> Result<(), Fa
 
 #[test]
 fn types_name_rows_by_number(rt: HostRuntime) -> Result<(), Fail> {
+    assert!(rt; TEXT.len() < 1000);
     let module = parse(rt.alloc(), TEXT)?;
     let names = ModuleNames::of(rt.alloc(), module.lines())?;
     assert!(rt; names.type_of(&TypeText::Junk) == Some(Ty::Junk));
@@ -80,6 +83,7 @@ fn types_name_rows_by_number(rt: HostRuntime) -> Result<(), Fail> {
 
 #[test]
 fn a_unit_has_the_names_of_rows_by_first_mention(rt: HostRuntime) -> Result<(), Fail> {
+    assert!(rt; TEXT.len() < 1000);
     let module = parse(rt.alloc(), TEXT)?;
     let names = ModuleNames::of(rt.alloc(), module.lines())?;
     let found = names.unit_names(rt.alloc(), module.lines())?;

@@ -1,0 +1,2 @@
+-- Rows one after another.
+pub mod Steps
