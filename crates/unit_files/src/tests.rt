@@ -80,3 +80,32 @@ fn the_shortest_unit_has_163_bytes(rt: HostRuntime) -> Result<(), Fail> {
     assert_eq!(rt; file.as_slice(), shortest_file(rt.alloc())?.as_slice());
     Ok(())
 }
+
+#[test]
+fn a_unit_lends_its_rows(rt: HostRuntime) -> Result<(), Fail> {
+    let unit = shortest(rt.alloc())?;
+    let function = UnitFun {
+        name: 1,
+        ext: false,
+        length: 1,
+        sig: 0,
+    };
+    let rows = [
+        unit.names().len(),
+        unit.sigs().len(),
+        unit.entries().len(),
+        unit.classes().len(),
+        unit.kinds().len(),
+        unit.statics().len(),
+        unit.data_rows().len(),
+        unit.data_words().len(),
+        unit.blocks().len(),
+        unit.marks().len(),
+        unit.fixups().len(),
+    ];
+    assert_eq!(rt; [unit.heap_words(), unit.stacks()], [0, 0]);
+    assert_eq!(rt; rows, [2, 1, 0, 0, 0, 0, 0, 0, 0, 0, 0]);
+    assert_eq!(rt; unit.functions(), [function].as_slice());
+    assert_eq!(rt; unit.code(), [0xC3].as_slice());
+    Ok(())
+}
