@@ -1,7 +1,7 @@
 // Small formats: numbers within limits, and numbers that rise.
 ghost use Rattle.file_fields.specs.Grammar.{between, checked};
 
-use file_fields::{ImageFault, Reader, Row, RowAfter};
+use file_fields::{ImageFault, Reader, Row, RowAfter, put_counted, read_whole};
 use std::alloc::Global;
 use std::test::*;
 
@@ -65,5 +65,27 @@ fn rows_look_at_those_before_them(rt: HostRuntime) -> Result<(), Fail> {
     let mut again = Reader::new(&file);
     let refused = again.rows_after::<Limits, u32, u32>(rt.alloc(), &LIMITS, 2, 5);
     assert_eq!(rt; refused.err(), Some(ImageFault::Bad { at: 0, field: 8 }));
+    Ok(())
+}
+
+#[test]
+fn a_whole_file_is_one_number(rt: HostRuntime) -> Result<(), Fail> {
+    let number = read_whole::<Limits, u32>(rt.alloc(), &[2, 0, 0, 0], &LIMITS)?;
+    assert_eq!(rt; number, 2);
+    let short = read_whole::<Limits, u32>(rt.alloc(), &[2, 0, 0], &LIMITS);
+    assert_eq!(rt; short.err(), Some(ImageFault::Short { at: 3 }));
+    let bad = read_whole::<Limits, u32>(rt.alloc(), &[4, 0, 0, 0, 9], &LIMITS);
+    assert_eq!(rt; bad.err(), Some(ImageFault::Bad { at: 0, field: 7 }));
+    let rest = read_whole::<Limits, u32>(rt.alloc(), &[3, 0, 0, 0, 9], &LIMITS);
+    assert_eq!(rt; rest.err(), Some(ImageFault::Rest { at: 4 }));
+    Ok(())
+}
+
+#[test]
+fn numbers_stand_behind_their_count(rt: HostRuntime) -> Result<(), Fail> {
+    let mut file = vec![in rt.alloc(); 7u8]?;
+    put_counted::<Limits, u32>(&mut file, &[5, 258])?;
+    let bytes = [7, 2, 0, 0, 0, 5, 0, 0, 0, 2, 1, 0, 0];
+    assert_eq!(rt; file.as_slice(), bytes.as_slice());
     Ok(())
 }
