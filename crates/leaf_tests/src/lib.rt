@@ -13,6 +13,8 @@ mod layouts;
 #[cfg(test)]
 mod names;
 #[cfg(test)]
+mod operands;
+#[cfg(test)]
 mod rows;
 #[cfg(test)]
 mod stacks;

@@ -1,0 +1,2 @@
+-- Items one after another.
+pub mod Steps
