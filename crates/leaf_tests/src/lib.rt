@@ -13,10 +13,6 @@ mod layouts;
 #[cfg(test)]
 mod names;
 #[cfg(test)]
-mod operands;
-#[cfg(test)]
-mod rows;
-#[cfg(test)]
 mod stacks;
 #[cfg(test)]
 mod steps;
