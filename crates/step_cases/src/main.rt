@@ -3,7 +3,7 @@
 #![tactic(auto)]
 
 mod case;
-mod no_words;
+mod one_word;
 mod playing;
 mod script;
 mod unplayed;

@@ -1,6 +1,6 @@
 // An instruction is run, and told.
 use crate::case::{Case, REGISTERS};
-use crate::no_words::{NoWords, needs_no_word};
+use crate::one_word::{OneWord, needs_no_word};
 use crate::unplayed::Unplayed;
 use ia32_code::{Decoded, Inst, decode, len_of};
 use ia32_step::{Cpu, Effect, exec};
@@ -63,7 +63,7 @@ pub fn play(
         flags,
         pc: START,
     };
-    let effect = exec(&mut cpu, &mut NoWords, &inst, len);
+    let effect = exec(&mut cpu, &mut OneWord { word: 0 }, &inst, len);
     push_registers(text, &case.shown, &regs, &cpu.regs)?;
     text.push(' ')?;
     push_flags(text, cpu.flags)?;

@@ -1,40 +1,44 @@
-// A memory of no words, and the instructions that need none.
-ghost use Rattle.std.specs.Prelude.{◌≡◌, ℕ, true, false};
+// A memory for instructions that touch no word of it, and which instructions these are.
+ghost use Rattle.std.specs.Prelude.{◌≡◌, ◌==◌, ℕ, Bool, true, if◌then◌else◌};
 ghost use Rattle.ia32_step.specs.Operands.{WordState};
 ghost use Rattle.ia32_step.specs.Reaches.{Reaches, IsReached};
 
 use ia32_code::{Inst, Operand};
 use ia32_step::Bus;
 
-/// No words.
+/// The word at 0x300000, and no other.
 #[derive(Drop)]
-pub struct NoWords;
+pub struct OneWord {
+    pub word: u32,
+}
 
-impl Bus for NoWords {
-    ghost is_mapped = { λ _ _. false };
+impl Bus for OneWord {
+    ghost is_mapped = { λ _ a. a == 3145728 };
 
-    ghost word_at = { λ _ _. 0 };
+    ghost word_at = { λ bus a. (if a == 3145728 then bus.word else 0) };
 
-    fn mapped(&self, _address: u32) -> bool {
-        false
+    fn mapped(&self, address: u32) -> bool {
+        address == 0x30_0000
     }
 
     fn load(&self, _address: u32) -> u32 {
-        0
+        self.word
     }
 
-    fn store(&mut self, _address: u32, _word: u32) {}
+    fn store(&mut self, _address: u32, word: u32) {
+        self.word = word;
+    }
 }
 
 fn is_no_word(operand: &Operand) -> bool
-    ensures { (m : WordState) → result ≡ true → IsReached operand.now m (λ _. false) }
+    ensures { (m : WordState) (mapped : ℕ → Bool) → result ≡ true → IsReached operand.now m mapped }
 {
     !matches!(operand, Operand::M(_))
 }
 
 /// Whether the instruction touches no word of memory.
 pub fn needs_no_word(inst: &Inst) -> bool
-    ensures { (m : WordState) → result ≡ true → Reaches inst.now m (λ _. false) }
+    ensures { (m : WordState) (mapped : ℕ → Bool) → result ≡ true → Reaches inst.now m mapped }
 {
     match inst {
         Inst::Alu { dst, src, .. }
