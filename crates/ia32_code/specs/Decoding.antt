@@ -4,7 +4,7 @@ use Rattle.ia32_code.specs.declared.instruction.Inst.{Inst}
 use Rattle.ia32_code.specs.declared.spelling.Spelling.{Spelling}
 use Rattle.ia32_code.specs.declared.decoding.Decoded.{Decoded}
 use Rattle.ia32_code.specs.declared.decoding.Decoded.TheVariants.{One, Short, Unknown}
-use Rattle.ia32_code.specs.Spells.{Spells, meaning}
+use Rattle.ia32_code.specs.Spells.{Filled, text, Spells, meaning}
 use Rattle.ia32_code.specs.declared.reading.Stop.{Stop}
 use Rattle.ia32_code.specs.declared.reading.Stop.TheVariants as stop
 use Rattle.ia32_code.specs.Reading.{spelling_at}
@@ -44,6 +44,10 @@ DecodedLaw = (bytes : List ℕ) → ((k : ℕ) → slice_index bytes k < 256) �
 -- Bytes that begin with a spelling are decoded as its instruction.
 abbrev pub FrontLaw : Type 0
 FrontLaw = (text more : List ℕ) (inst : Inst) → Spells text inst → decoded (text ++ more) ≡ One inst (length text)
+
+-- Bytes that begin with a spelling are read as it.
+abbrev pub ReadBack : Type 0
+ReadBack = (spelling : Spelling) (more : List ℕ) → Filled spelling → spelling_at (text spelling ++ more) ≡ Ok (spelling, more)
 
 -- the instruction of an answer, with its length
 abbrev pub instruction_of : Decoded → Option (Inst × ℕ)

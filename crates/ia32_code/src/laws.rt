@@ -3,7 +3,7 @@ ghost use Rattle.std.specs.Prelude.{◌≡◌, ◌≤◌, ◌<◌, List, ℕ, So
 ghost use Rattle.ia32_code.specs.declared.instruction.Inst.{Inst};
 ghost use Rattle.ia32_code.specs.declared.spelling.Spelling.{Spelling};
 ghost use Rattle.ia32_code.specs.Spells.{Spells, Filled};
-ghost use Rattle.ia32_code.specs.Decoding.{PrefixLaw, DecodedLaw, FrontLaw};
+ghost use Rattle.ia32_code.specs.Decoding.{PrefixLaw, DecodedLaw, FrontLaw, ReadBack};
 ghost use Rattle.ia32_code.specs.Canonical.{Canonical, HasNone};
 ghost use Rattle.ia32_code.specs.Ranges.{InstInRange};
 ghost use Rattle.ia32_code.specs.Order.{IsNotShorter, IsFirst};
@@ -17,6 +17,11 @@ pub fn prefix_law()
 /// Bytes that begin with a spelling are decoded as its instruction, whatever follows.
 pub fn front_law()
     ensures { FrontLaw }
+{}
+
+/// Bytes that begin with a spelling are read as it, whatever follows: each spelling is read back.
+pub fn spellings_are_read()
+    ensures { ReadBack }
 {}
 
 /// The answer to bytes, as `decode` gives it, tells what they begin with. By the prefix law no other answer does.
