@@ -2,3 +2,4 @@ pub mod OneEnd
 pub mod ReadFields
 pub mod WholeFiles
 pub mod NumberMeanings
+pub mod FarEnds

@@ -1,7 +1,8 @@
 -- What holds of every grammar and every file.
-use Rattle.std.specs.Prelude.{◌≡◌, ℕ, ◌≤◌, Bool, ◌⊎◌, List, [], ◌++◌, length}
+use Rattle.std.specs.Prelude.{◌≡◌, ℕ, ◌+◌, ◌≤◌, Bool, ◌⊎◌, List, [], ◌++◌, length}
 use Rattle.file_fields.specs.declared.fault.ImageFault.{ImageFault}
 use Rattle.file_fields.specs.Grammar.{Grammar, done, pair, field, number_bytes, Field, fields_text, AreBytes, Sound, EndsInside, FaultOf, SoundFile}
+use Rattle.file_fields.specs.Reach.{MostAny}
 use Rattle.file_fields.specs.Parts.{Means, Checked, CheckedPair, pair_bytes}
 
 -- a file has one first fault, or stands for one thing
@@ -17,6 +18,10 @@ EachIsOne {A} g = (file : List ℕ) → AreBytes file → ((x : A) × SoundFile 
 -- a file that ends inside a field has no more than so many bytes
 abbrev pub EndsBy : {A : Type 0} → Grammar A → ℕ → Type 0
 EndsBy {A} g most = (fs : List Field) (after : Grammar A) (bytes : List ℕ) → Sound g fs after → EndsInside after bytes → length (fields_text fs ++ bytes) ≤ most
+
+-- fields that have no more than so many bytes end a file inside one of them within eleven bytes more, the most of an instruction
+abbrev pub EndsByMost : {A : Type 0} → Grammar A → Type 0
+EndsByMost {A} g = (n : ℕ) → MostAny g n → EndsBy g (n + 11)
 
 -- the bytes are the front of a file: all of it, or as many as 32 bits count
 pub record IsFrontOf (file front : List ℕ) : Type 0 where

@@ -6,3 +6,5 @@ pub mod Reading
 -- what holds of parts one after another, for parts of every type
 pub mod Parts
 pub mod Composed
+-- how far fields reach
+pub mod Reach
