@@ -111,6 +111,12 @@ signatures-front s _ _ sound l (under c p d e t) =
 pub lineage-short : (s : ShapesView) (c : ℕ) → first_fault s ≡ None → c < length s.classes → length (lineage s c) ≤ 8
 lineage-short s c sound l = omega (arith, lineage-length s c, (classes-sound s sound c l).shallow)
 
+-- the table of a class names its lineage
+display_words-law : (s : ShapesView) (c k : ℕ) → first_fault s ≡ None → c < length s.classes → k < 8 → table_word s c (3 + k) ≡ Some (get_or (map table_address (lineage s c)) k 0)
+display_words-law s c k sound l h =
+    let short = lineage-short s c sound l in
+    table_word-at s c (3 + k) _ l short (classes-sound s sound c l).few_methods (omega arith) (display-word s c k short h)
+
 -- the table of a class names each ancestor at its depth
 display-law : (s : ShapesView) (c d : ℕ) → first_fault s ≡ None → Below s c d ≡ true → table_word s c (3 + Depth s d) ≡ Some (table_address d)
 display-law s c d sound h =
@@ -120,8 +126,8 @@ display-law s c d sound h =
     let short = lineage-short s c sound p.0 in
     let a = ancestor_at s k c d earlier p.0 p.1 in
     let inside : Depth s d < length (lineage s c) = omega (arith, lineage-length s c) in
-    table_word-at s c (3 + Depth s d) (table_address d) p.0 short (classes-sound s sound c p.0).few_methods (omega arith)
-    (display-word s c (Depth s d) short (omega arith) ∙ get_or-map table_address (lineage s c) (Depth s d) 0 0 inside ∙ ap table_address a.1)
+    display_words-law s c (Depth s d) sound p.0 (omega arith)
+    ∙ ap Some (get_or-map table_address (lineage s c) (Depth s d) 0 0 inside ∙ ap table_address a.1)
 
 -- tables of two classes are apart
 table_address-apart : (c d : ℕ) → table_address c ≡ table_address d → c ≡ d
@@ -137,9 +143,8 @@ table_address-above c = omega arith
 displayed-law : (s : ShapesView) (c d : ℕ) → first_fault s ≡ None → c < length s.classes → d < length s.classes
     → table_word s c (3 + Depth s d) ≡ Some (table_address d) → Below s c d ≡ true
 displayed-law s c d sound l m h =
-    let short = lineage-short s c sound l in
     let level : Depth s d < 8 = omega (arith, (classes-sound s sound d m).shallow) in
-    let word = table_word-at s c (3 + Depth s d) _ l short (classes-sound s sound c l).few_methods (omega arith) (display-word s c (Depth s d) short level) in
+    let word = display_words-law s c (Depth s d) sound l level in
     let same : get_or (map table_address (lineage s c)) (Depth s d) 0 ≡ table_address d = same_Some _ _ (sym word ∙ h) in
     ⊎_elim
     (λ (inside : Depth s d < length (lineage s c)).
@@ -209,6 +214,7 @@ class-laws s sound = record {
   shallow = λ c l. (classes-sound s sound c l).shallow;
   few_fields = λ c l. (classes-sound s sound c l).few_fields;
   few_methods = λ c l. (classes-sound s sound c l).few_methods;
+  display_words = λ c k l h. display_words-law s c k sound l h;
   display = λ c d h. display-law s c d sound h;
   displayed = λ c d l m h. displayed-law s c d sound l m h;
 }

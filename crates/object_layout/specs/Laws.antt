@@ -1,4 +1,4 @@
-use Rattle.std.specs.Prelude.{◌≡◌, ℕ, ◌+◌, ◌<◌, ◌≤◌, ◌⊎◌, true, [], ◌∷◌, ◌++◌, length, None, Some}
+use Rattle.std.specs.Prelude.{◌≡◌, ℕ, ◌+◌, ◌<◌, ◌≤◌, ◌⊎◌, true, [], ◌∷◌, ◌++◌, length, map, slice_index_or, None, Some}
 use Rattle.object_layout.specs.declared.rows.FieldTy.{FieldTy}
 use Rattle.object_layout.specs.Areas.{table_address}
 use Rattle.object_layout.specs.Classes.{ShapesView, parent, own_fields, lineage, Depth, Fields, Methods, Below, field_at, slot_at, table_word}
@@ -17,6 +17,8 @@ pub record ClassLaws (s : ShapesView) : Type 0 where
   pub shallow : (c : ℕ) → c < length s.classes → Depth s c ≤ 7
   pub few_fields : (c : ℕ) → c < length s.classes → length (Fields s c) ≤ 256
   pub few_methods : (c : ℕ) → c < length s.classes → length (Methods s c) ≤ 53
+  -- the words from 3 on of a class's table are the tables of its lineage, and 0 where that has ended
+  pub display_words : (c k : ℕ) → c < length s.classes → k < 8 → table_word s c (3 + k) ≡ Some (slice_index_or (map table_address (lineage s c)) k 0)
   -- a class's table tells at a class's depth whether it is below it
   pub display : (c d : ℕ) → Below s c d ≡ true → table_word s c (3 + Depth s d) ≡ Some (table_address d)
   pub displayed : (c d : ℕ) → c < length s.classes → d < length s.classes → table_word s c (3 + Depth s d) ≡ Some (table_address d) → Below s c d ≡ true

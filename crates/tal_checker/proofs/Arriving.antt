@@ -14,7 +14,7 @@ use Rattle.tal_flow.specs.Edges.{branching, falls_to, branches_to}
 use Rattle.tal_flow.specs.Forms.{form_of}
 use Rattle.tal_flow.specs.Functions.{in_function}
 use Rattle.tal_flow.specs.Rules.{edge_fits, is_dead, rule_of, next_address, Falls, Branches, Target}
-use Rattle.tal_flow.specs.Strongest.{Placed, rule_at, falls_from, known_at, carried, start, At, placed_at, Chained}
+use Rattle.tal_flow.specs.Strongest.{PlacedInst, rule_at, falls_from, known_at, carried, start, At, placed_at, Chained}
 use Rattle.object_layout.specs.Areas.{code_start}
 use Rattle.tal_image.specs.Conditions.{starts_stack}
 use Rattle.tal_image.specs.Image.{ImageParts}
@@ -37,7 +37,7 @@ pub record RunLaws : Type 0 where
   pub decides : StrongestDecides
   pub rows : RowsPass
   pub rules : OneRuleIsLeast
-  pub next : (v : ShownImage) (xs : List Placed) (n pc : ℕ) (x y : Placed) → Chained n xs → placed_at xs pc ≡ Some x → placed_at xs (next_address x.pc x.len) ≡ Some y
+  pub next : (v : ShownImage) (xs : List PlacedInst) (n pc : ℕ) (x y : PlacedInst) → Chained n xs → placed_at xs pc ≡ Some x → placed_at xs (next_address x.pc x.len) ≡ Some y
       → At v xs (next_address x.pc x.len) ≡ start v (next_address x.pc x.len) (falls_from v (At v xs pc) x)
   pub told : (s : ShapesView) (a b : ContextView) → context_below s a b ≡ true → ContextBelow s a b
   pub reflexive : (s : ShapesView) (a : ContextView) → ContextBelow s a a
@@ -47,17 +47,17 @@ module _ (laws : RunLaws) (image : ImageParts) (w : WellTyped image) (k : HasCod
   v = shown image
 
   -- an instruction by its address, among those that the texts give
-  placed : (pc : ℕ) (x : Placed) → instruction_in image pc ≡ Some x → placed_at (placed_spelled code_start k.code) pc ≡ Some x
-  placed pc x e = ap (λ (xs : List Placed). placed_at xs pc) (sym k.instructions_are) ∙ e
+  placed : (pc : ℕ) (x : PlacedInst) → instruction_in image pc ≡ Some x → placed_at (placed_spelled code_start k.code) pc ≡ Some x
+  placed pc x e = ap (λ (xs : List PlacedInst). placed_at xs pc) (sym k.instructions_are) ∙ e
 
-  back : (pc : ℕ) (x : Placed) → placed_at (placed_spelled code_start k.code) pc ≡ Some x → instruction_in image pc ≡ Some x
-  back pc x e = ap (λ (xs : List Placed). placed_at xs pc) k.instructions_are ∙ e
+  back : (pc : ℕ) (x : PlacedInst) → placed_at (placed_spelled code_start k.code) pc ≡ Some x → instruction_in image pc ≡ Some x
+  back pc x e = ap (λ (xs : List PlacedInst). placed_at xs pc) k.instructions_are ∙ e
 
-  spot-of : (pc : ℕ) (x : Placed) → instruction_in image pc ≡ Some x → Spot code_start image.code pc x
+  spot-of : (pc : ℕ) (x : PlacedInst) → instruction_in image pc ≡ Some x → Spot code_start image.code pc x
   spot-of pc x e = subst (λ (t : List ℕ). Spot code_start t pc x) (sym k.bytes) (spot k.code code_start pc x k.texts (placed pc x e))
 
   -- the function that has an instruction
-  function : (pc : ℕ) (x : Placed) → instruction_in image pc ≡ Some x → (s : Span) × Covers code_start (length image.sigs) image.functions pc s
+  function : (pc : ℕ) (x : PlacedInst) → instruction_in image pc ≡ Some x → (s : Span) × Covers code_start (length image.sigs) image.functions pc s
   function pc x e =
       let s = spot-of pc x e in
       let low = s.after_start in
@@ -70,7 +70,7 @@ module _ (laws : RunLaws) (image : ImageParts) (w : WellTyped image) (k : HasCod
   signature-there : (n : ℕ) → n < length image.sigs → IsSome (slice_get image.sigs n)
   signature-there n l = let e = slice_get-get_or image.sigs n (record { params = []; result = Junk }) l in rw e refl
 
-  spelled : (pc : ℕ) (x : Placed) → instruction_in image pc ≡ Some x → IsSpelledAt image pc x
+  spelled : (pc : ℕ) (x : PlacedInst) → instruction_in image pc ≡ Some x → IsSpelledAt image pc x
   unfolding signature_at shown
   spelled pc x e =
       let s = spot-of pc x e in
@@ -87,13 +87,13 @@ module _ (laws : RunLaws) (image : ImageParts) (w : WellTyped image) (k : HasCod
       }
 
   -- what is known where a block begins, and where none does and no function either
-  at-block : (pc : ℕ) (x : Placed) (d : ContextView) → instruction_in image pc ≡ Some x → begun_by pc (spans code_start image.functions) ≡ None
+  at-block : (pc : ℕ) (x : PlacedInst) (d : ContextView) → instruction_in image pc ≡ Some x → begun_by pc (spans code_start image.functions) ≡ None
       → block_in pc image.blocks ≡ Some d → strongest_at image pc ≡ d
   unfolding strongest_at At shown
   at-block pc x d e f b = at-known (shown image) (instructions image.code) Dead pc x d e (known-block (shown image) pc (Some d) f b)
 
   -- an edge to a block of the function arrives
-  to-block : (from to : ℕ) (x : Placed) (d : LiveContext) (b : ContextView) → instruction_in image from ≡ Some x → in_function (shown image) from to ≡ true
+  to-block : (from to : ℕ) (x : PlacedInst) (d : LiveContext) (b : ContextView) → instruction_in image from ≡ Some x → in_function (shown image) from to ≡ true
       → (shown image).block_at to ≡ Some b → edge_fits (shown image).shapes (Live d) ((shown image).block_at to) ≡ true → Arrives image from to (Live d)
   unfolding shown edge_fits
   to-block from to x d b e inside here fits =
@@ -110,11 +110,11 @@ module _ (laws : RunLaws) (image : ImageParts) (w : WellTyped image) (k : HasCod
       }
 
   -- an instruction has no rule
-  no-rule : (pc : ℕ) (x : Placed) → instruction_in image pc ≡ Some x → rule_at (shown image) (strongest_at image pc) x ≡ None
+  no-rule : (pc : ℕ) (x : PlacedInst) → instruction_in image pc ≡ Some x → rule_at (shown image) (strongest_at image pc) x ≡ None
   no-rule pc x e = (laws.rules.none (shown image) (strongest_at image pc) x.pc x.inst x.len).1 (none_fails laws.decides laws.rows image w pc x e)
 
   -- no rule fails, in the words of the form
-  fits-at : (pc : ℕ) (x : Placed) (c : LiveContext) → instruction_in image pc ≡ Some x → strongest_at image pc ≡ Live c
+  fits-at : (pc : ℕ) (x : PlacedInst) (c : LiveContext) → instruction_in image pc ≡ Some x → strongest_at image pc ≡ Live c
       → EdgesFit (shown image) c x.pc (next_address x.pc x.len) (form_of (next_address x.pc x.len) x.inst)
   unfolding rule_of
   fits-at pc x c e a =
@@ -122,7 +122,7 @@ module _ (laws : RunLaws) (image : ImageParts) (w : WellTyped image) (k : HasCod
       edges-fit (shown image) c x.pc (next_address x.pc x.len) (form_of (next_address x.pc x.len) x.inst)
       (no_number _ (ap (λ (d : ContextView). rule_at (shown image) d x) (sym a) ∙ n))
 
-  branches : (pc : ℕ) (x : Placed) (c d : LiveContext) (to : ℕ) → instruction_in image pc ≡ Some x → strongest_at image pc ≡ Live c
+  branches : (pc : ℕ) (x : PlacedInst) (c d : LiveContext) (to : ℕ) → instruction_in image pc ≡ Some x → strongest_at image pc ≡ Live c
       → Branches (shown image) (Live c) x.pc x.inst x.len ≡ Live d → Target x.pc x.inst x.len ≡ Some to → Arrives image pc to (Live d)
   unfolding Branches Target branches_to
   branches pc x c d to e a b t =
@@ -136,7 +136,7 @@ module _ (laws : RunLaws) (image : ImageParts) (w : WellTyped image) (k : HasCod
       to-block pc to x d block.0.0 e (subst (λ (n : ℕ). in_function v n to ≡ true) here block.1) block.0.1 fit
 
   -- a fall to no block arrives with what falls
-  to-next : (pc to : ℕ) (x y : Placed) (d : LiveContext) → instruction_in image pc ≡ Some x → instruction_in image to ≡ Some y → to ≡ next_address x.pc x.len
+  to-next : (pc to : ℕ) (x y : PlacedInst) (d : LiveContext) → instruction_in image pc ≡ Some x → instruction_in image to ≡ Some y → to ≡ next_address x.pc x.len
       → falls_from (shown image) (strongest_at image pc) x ≡ Live d
       → begun_by to (spans code_start image.functions) ≡ None → block_in to image.blocks ≡ None → strongest_at image to ≡ Live d
   unfolding strongest_at start shown
@@ -149,7 +149,7 @@ module _ (laws : RunLaws) (image : ImageParts) (w : WellTyped image) (k : HasCod
       let own : known_at v (next_address x.pc x.len) ≡ None = ap (known_at v) (sym n) ∙ known-block v to None g b in
       ap (λ (m : ℕ). At v xs m) n ∙ step ∙ ap (carried (falls_from v (At v xs pc) x)) own ∙ falls
 
-  falls : (pc : ℕ) (x : Placed) (c d : LiveContext) → instruction_in image pc ≡ Some x → strongest_at image pc ≡ Live c → falls_from (shown image) (Live c) x ≡ Live d
+  falls : (pc : ℕ) (x : PlacedInst) (c d : LiveContext) → instruction_in image pc ≡ Some x → strongest_at image pc ≡ Live c → falls_from (shown image) (Live c) x ≡ Live d
       → Arrives image pc (next_address x.pc x.len) (Live d)
   unfolding Falls falls_to shown is_dead
   falls pc x c d e a b =
@@ -182,7 +182,7 @@ module _ (laws : RunLaws) (image : ImageParts) (w : WellTyped image) (k : HasCod
       living : (d : LiveContext) (b : Bool) → (is_dead (Live d) || b) ≡ true → b ≡ true
       living d b e = e
 
-      arrive : (next : ℕ) (y : Placed) → next ≡ next_address x.pc x.len → instruction_in image next ≡ Some y → begun_by next (spans code_start image.functions) ≡ None
+      arrive : (next : ℕ) (y : PlacedInst) → next ≡ next_address x.pc x.len → instruction_in image next ≡ Some y → begun_by next (spans code_start image.functions) ≡ None
           → in_function (shown image) pc next ≡ true → edge_fits (shown image).shapes (Live d) ((shown image).block_at next) ≡ true
           → (shown image).function_of next ≡ (shown image).function_of pc → (o : Option ContextView) → (shown image).block_at next ≡ o → Arrives image pc next (Live d)
       arrive next y n h unbegun inside fit same (Some q) block = to-block pc next x d q e inside block fit

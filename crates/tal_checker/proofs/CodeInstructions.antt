@@ -7,7 +7,7 @@ use Rattle.ia32_code.specs.declared.instruction.Inst.{Inst}
 use Rattle.ia32_code.specs.declared.decoding.Decoded.{Decoded}
 use Rattle.ia32_code.specs.declared.decoding.Decoded.TheVariants.{One}
 use Rattle.ia32_code.specs.Decoding.{decoded, instruction_of}
-use Rattle.tal_flow.specs.Strongest.{Placed, placed_at}
+use Rattle.tal_flow.specs.Strongest.{PlacedInst, placed_at}
 use Rattle.tal_checker.specs.Instructions.{placed_then, placed_from}
 use Rattle.tal_checker.proofs.PlacedLists.{Ordered}
 
@@ -27,11 +27,11 @@ unfolding placed_from
 placed-step pc bytes i zero e some fits = absurd (omega arith)
 placed-step pc [] i (suc n) e some fits = absurd (omega arith)
 placed-step pc (b ∷ bytes) i (suc n) e some fits =
-    let x : Placed = record { pc = pc; inst = i; len = suc n } in
+    let x : PlacedInst = record { pc = pc; inst = i; len = suc n } in
     let k : (pc + 1) + n ≡ pc + suc n = omega arith in
     let s = placed-skip n (pc + 1) bytes (omega arith) ∙ ap (λ (m : ℕ). placed_from zero m (drop n bytes)) k in
     let m : suc n - 1 ≡ n = omega arith in
-    ap (λ (d : Decoded). placed_then pc (λ inside. placed_from inside (pc + 1) bytes) (instruction_of d)) e ∙ ap (λ (y : ℕ). x ∷ placed_from y (pc + 1) bytes) m ∙ ap (λ (t : List Placed). x ∷ t) s
+    ap (λ (d : Decoded). placed_then pc (λ inside. placed_from inside (pc + 1) bytes) (instruction_of d)) e ∙ ap (λ (y : ℕ). x ∷ placed_from y (pc + 1) bytes) m ∙ ap (λ (t : List PlacedInst). x ∷ t) s
 
 -- where no instruction is at the front, there are no more
 pub placed-end : (pc : ℕ) (bytes : List ℕ) → instruction_of (decoded bytes) ≡ None → placed_from 0 pc bytes ≡ []
@@ -40,13 +40,13 @@ placed-end pc [] e = refl
 placed-end pc (b ∷ bytes) e = ap (λ (o : Option (Inst × ℕ)). placed_then pc (λ inside. placed_from inside (pc + 1) bytes) o) e
 
 -- no instruction stands before where the bytes begin
-pub placed-above : (bytes : List ℕ) (k pc at : ℕ) (x : Placed) → placed_at (placed_from k pc bytes) at ≡ Some x → pc ≤ at
+pub placed-above : (bytes : List ℕ) (k pc at : ℕ) (x : PlacedInst) → placed_at (placed_from k pc bytes) at ≡ Some x → pc ≤ at
 unfolding placed_from placed_at
 placed-above [] k pc at x e = absurd (none-some x e)
 placed-above (b ∷ bytes) (suc k) pc at x e = let h = placed-above bytes k (pc + 1) at x e in omega arith
 placed-above (b ∷ bytes) zero pc at x e = go (instruction_of (decoded (b ∷ bytes))) e (λ n h. let l = placed-above bytes n (pc + 1) at x h in omega arith)
   where
-    here : (t : Bool) (y : Placed) (n : ℕ) → eqb pc at ≡ t → (if t then Some y else placed_at (placed_from n (pc + 1) bytes) at) ≡ Some x
+    here : (t : Bool) (y : PlacedInst) (n : ℕ) → eqb pc at ≡ t → (if t then Some y else placed_at (placed_from n (pc + 1) bytes) at) ≡ Some x
         → (placed_at (placed_from n (pc + 1) bytes) at ≡ Some x → pc ≤ at) → pc ≤ at
     here true y n q h further = let l = eqb-true pc at q in omega arith
     here false y n q h further = further h

@@ -6,25 +6,25 @@ use Rattle.tal_types.specs.Contexts.{ContextView}
 use Rattle.tal_types.specs.Shown.{ShownImage}
 use Rattle.ia32_code.specs.declared.instruction.Inst.{Inst}
 use Rattle.tal_flow.specs.Rules.{rule_of, NoRuleFails, LeastRule}
-use Rattle.tal_flow.specs.Strongest.{Placed, NoRuleAt, LeastRuleAt, rule_at, falls_from, start, contexts, at_in, NoneFails, placed_at}
+use Rattle.tal_flow.specs.Strongest.{PlacedInst, NoRuleAt, LeastRuleAt, rule_at, falls_from, start, contexts, at_in, NoneFails, placed_at}
 use Rattle.tal_checker.specs.Passing.{RefusedIn}
 use Rattle.tal_checker.proofs.PlacedLists.{there-first, there-later, at-first, at-later, there-cases, Ordered}
 
 -- an instruction has one least rule
-one_least : (v : ShownImage) (c : ContextView) (x : Placed) (n m : ℕ) → LeastRuleAt v c x n → LeastRuleAt v c x m → n ≡ m
+one_least : (v : ShownImage) (c : ContextView) (x : PlacedInst) (n m : ℕ) → LeastRuleAt v c x n → LeastRuleAt v c x m → n ≡ m
 one_least v c x n m f g = elim (cases_order n m) [
   | inl e ↦ e
   | inr k ↦ elim k [ inl l ↦ absurd (g.least n l f.fails) | inr l ↦ absurd (f.least m l g.fails) ]
 ]
 
 -- instructions are refused first at one address, by one rule
-pub one_refused : (v : ShownImage) (xs : List Placed) (c : ContextView) (a b r s : ℕ) → RefusedIn v xs c a r → RefusedIn v xs c b s → (a ≡ b) × (r ≡ s)
+pub one_refused : (v : ShownImage) (xs : List PlacedInst) (c : ContextView) (a b r s : ℕ) → RefusedIn v xs c a r → RefusedIn v xs c b s → (a ≡ b) × (r ≡ s)
 one_refused v xs c a b r s f g = elim (cases_order a b) [
   | inl e ↦ (
     e,
     let same : f.placed ≡ g.placed = same_Some f.placed g.placed (sym f.here ∙ ap (λ (x : ℕ). placed_at xs x) e ∙ g.here) in
         let there : LeastRuleAt v (at_in v xs c b) g.placed r =
-        subst (λ (x : Placed). LeastRuleAt v (at_in v xs c b) x r) same (subst (λ (x : ℕ). LeastRuleAt v (at_in v xs c x) f.placed r) e f.fails) in
+        subst (λ (x : PlacedInst). LeastRuleAt v (at_in v xs c b) x r) same (subst (λ (x : ℕ). LeastRuleAt v (at_in v xs c x) f.placed r) e f.fails) in
         one_least v (at_in v xs c b) g.placed r s there g.fails,
   )
   | inr k ↦ elim k [
@@ -34,7 +34,7 @@ one_refused v xs c a b r s f g = elim (cases_order a b) [
 ]
 
 -- the first instruction is refused
-pub refused_first : (v : ShownImage) (x : Placed) (xs : List Placed) (c : ContextView) (rule : ℕ) → Ordered (x ∷ xs) → LeastRuleAt v (start v x.pc c) x rule
+pub refused_first : (v : ShownImage) (x : PlacedInst) (xs : List PlacedInst) (c : ContextView) (rule : ℕ) → Ordered (x ∷ xs) → LeastRuleAt v (start v x.pc c) x rule
     → RefusedIn v (x ∷ xs) c x.pc rule
 refused_first v x xs c rule o f = record {
   placed = x;
@@ -47,7 +47,7 @@ refused_first v x xs c rule o f = record {
 }
 
 -- an instruction after the first is refused
-pub refused_later : (v : ShownImage) (x : Placed) (xs : List Placed) (c : ContextView) (address rule : ℕ) → Ordered (x ∷ xs) → NoRuleAt v (start v x.pc c) x
+pub refused_later : (v : ShownImage) (x : PlacedInst) (xs : List PlacedInst) (c : ContextView) (address rule : ℕ) → Ordered (x ∷ xs) → NoRuleAt v (start v x.pc c) x
     → RefusedIn v xs (falls_from v (start v x.pc c) x) address rule → RefusedIn v (x ∷ xs) c address rule
 refused_later v x xs c address rule o f s =
     let l : x.pc < address = o.0 address s.placed s.here in
@@ -58,7 +58,7 @@ refused_later v x xs c address rule o f s =
       earlier = λ before other b e. elim (there-cases x xs before other e) [
         | inl k ↦ (
             let d : at_in v (x ∷ xs) c before ≡ start v x.pc c = at-first v x xs c before k.0 ∙ ap (λ (n : ℕ). start v n c) (sym k.0) in
-            subst (λ (d : ContextView). NoRuleAt v d other) (sym d) (subst (λ (z : Placed). NoRuleAt v (start v x.pc c) z) k.1 f)
+            subst (λ (d : ContextView). NoRuleAt v d other) (sym d) (subst (λ (z : PlacedInst). NoRuleAt v (start v x.pc c) z) k.1 f)
             )
         | inr k ↦ (
             let m : x.pc < before = o.0 before other k in
@@ -73,7 +73,7 @@ pub record OneRuleIsLeast : Type 0 where
   pub none : (v : ShownImage) (c : ContextView) (pc : ℕ) (inst : Inst) (len : ℕ) → (rule_of v c pc inst len ≡ None) ↔ NoRuleFails v c pc inst len
 
 -- no rule fails at these instructions, or one does first
-pub decided : OneRuleIsLeast → (v : ShownImage) (xs : List Placed) (c : ContextView) → Ordered xs
+pub decided : OneRuleIsLeast → (v : ShownImage) (xs : List PlacedInst) (c : ContextView) → Ordered xs
     → NoneFails v xs (contexts v xs c) ⊎ ((address : ℕ) × (rule : ℕ) × RefusedIn v xs c address rule)
 decided laws v [] c o = inl tt
 decided laws v (x ∷ xs) c o = go (rule_at v (start v x.pc c) x) refl (decided laws v xs (falls_from v (start v x.pc c) x) o.1)

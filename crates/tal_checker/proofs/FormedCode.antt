@@ -9,7 +9,7 @@ use Rattle.std.proofs.lemmas.List.Concat.{flat_map-append}
 use Rattle.ia32_code.specs.Decoding.{FrontLaw}
 use Rattle.tal_types.specs.Contexts.{ContextView, plain}
 use Rattle.tal_types.specs.declared.signatures.Sig.{Sig}
-use Rattle.tal_flow.specs.Strongest.{Placed, placed_at}
+use Rattle.tal_flow.specs.Strongest.{PlacedInst, placed_at}
 use Rattle.tal_image.specs.declared.parts.BlockPart.{BlockPart}
 use Rattle.tal_image.specs.declared.parts.FunctionPart.{FunctionPart}
 use Rattle.object_layout.specs.Areas.{code_start}
@@ -20,8 +20,9 @@ use Rattle.tal_image.specs.Formed.{EachAfter, Each, IsFunction, IsEntry, IsBlock
 use Rattle.tal_image.specs.Image.{ImageParts}
 use Rattle.tal_image.specs.Shown.{spans, begun_by, block_in}
 use Rattle.tal_checker.specs.Instructions.{instructions}
-use Rattle.tal_checker.proofs.SpelledCode.{AreTexts, SpellingLength, spelled-text, placed_spelled, placed-code, first_there, begun_there, there-after}
-use Rattle.tal_checker.proofs.FunctionSpans.{AreFunctions, total, not_begun}
+use Rattle.tal_checker.specs.Laws.{CodeLaws}
+use Rattle.tal_checker.proofs.SpelledCode.{AreTexts, SpellingLength, spelled-text, placed_spelled, placed-code, first_there, begun_there, begun-inst, there-after}
+use Rattle.tal_checker.proofs.FunctionSpans.{AreFunctions, total, numbered, not_begun}
 
 -- the functions of a formed image
 are_functions : (t : Tables) (left : ℕ) (fs : List FunctionPart) → EachAfter after_function (λ later room f. IsFunction t later room f) left fs → AreFunctions t.sigs fs
@@ -67,15 +68,15 @@ module _ (front : FrontLaw) (long : SpellingLength) where
 
   -- where a function begins an instruction begins
   function-there : (fs : List FunctionPart) (bodies : List (List Spelled)) (a sigs pc g : ℕ) → AreFunctions sigs fs → AreBodies fs bodies
-      → begun_by pc (spans a fs) ≡ Some g → (x : Placed) × (placed_at (placed_spelled a (all_instructions bodies)) pc ≡ Some x)
+      → begun_by pc (spans a fs) ≡ Some g → (x : PlacedInst) × (placed_at (placed_spelled a (all_instructions bodies)) pc ≡ Some x)
   unfolding spans begun_by
   function-there [] bodies a sigs pc g h b e = absurd cc
   function-there (f ∷ fs) [] a sigs pc g h b e = absurd b
   function-there (f ∷ fs) (body ∷ bodies) a sigs pc g h b e = go (a == pc) refl e (λ k. function-there fs bodies (a + f.length) sigs pc g h.2 b.1 k)
     where
       go : (t : Bool) → (a == pc) ≡ t → (if t then Some f.sig else begun_by pc (spans (a + f.length) fs)) ≡ Some g
-          → (begun_by pc (spans (a + f.length) fs) ≡ Some g → (x : Placed) × (placed_at (placed_spelled (a + f.length) (all_instructions bodies)) pc ≡ Some x))
-          → (x : Placed) × (placed_at (placed_spelled a (body ++ all_instructions bodies)) pc ≡ Some x)
+          → (begun_by pc (spans (a + f.length) fs) ≡ Some g → (x : PlacedInst) × (placed_at (placed_spelled (a + f.length) (all_instructions bodies)) pc ≡ Some x))
+          → (x : PlacedInst) × (placed_at (placed_spelled a (body ++ all_instructions bodies)) pc ≡ Some x)
       go true p e later =
           let q : a ≡ pc = grind (arith, nat_tests) in
           let m = (body-texts body f.length b.0).1 in
@@ -151,9 +152,9 @@ pub record HasCode (image : ImageParts) : Type 0 where
   pub functions : AreFunctions (length image.sigs) image.functions
   pub whole : length image.code ≡ total image.functions
   pub room : code_start + length image.code < 2 ^ 32
-  pub begins : (pc g : ℕ) → begun_by pc (spans code_start image.functions) ≡ Some g → (x : Placed) × (placed_at (placed_spelled code_start code) pc ≡ Some x)
+  pub begins : (pc g : ℕ) → begun_by pc (spans code_start image.functions) ≡ Some g → (x : PlacedInst) × (placed_at (placed_spelled code_start code) pc ≡ Some x)
   pub blocks : (pc : ℕ) (c : ContextView) → block_in pc image.blocks ≡ Some c
-      → ((x : Placed) × (placed_at (placed_spelled code_start code) pc ≡ Some x)) × (begun_by pc (spans code_start image.functions) ≡ None)
+      → ((x : PlacedInst) × (placed_at (placed_spelled code_start code) pc ≡ Some x)) × (begun_by pc (spans code_start image.functions) ≡ None)
   pub entries : (s f : ℕ) → slice_get image.entries s ≡ Some f → IsStart image f
   pub count : length image.entries ≡ image.stacks
 
@@ -183,3 +184,21 @@ has_code front long image f =
       entries = λ s e h. entry-start image e (each-get (IsEntry image.sigs image.functions) image.entries s e f.entries h).condition_15;
       count = f.stacks;
     }
+
+-- what a formed image tells of its code
+pub code_laws : FrontLaw → SpellingLength → (image : ImageParts) (formed : Formed image) → CodeLaws image formed
+unfolding instructions
+code_laws front long image formed = record {
+  functions = λ n row e. numbered image.functions code_start (length image.sigs) n row has.functions e;
+  blocks = λ pc c e. let x = (has.blocks pc c e).0 in rw (has.instructions_are, x.1) refl;
+  begun = λ offset i x e here. begun-inst code code_start offset x i texts e (rw (← placed-code code code_start texts, ← formed.code) here);
+}
+  where
+    has : HasCode image
+    has = has_code front long image formed
+
+    code : List Spelled
+    code = all_instructions formed.bodies
+
+    texts : AreTexts code
+    texts = (bodies-texts front long image.functions formed.bodies formed.condition_23).0

@@ -9,7 +9,7 @@ use Rattle.ia32_code.specs.declared.instruction.Reg.TheVariants.{Eax, Ecx, Edx, 
 use Rattle.tal_types.specs.declared.types.Ty.{Ty}
 use Rattle.tal_types.specs.declared.types.Ty.TheVariants.{Num}
 use Rattle.tal_types.specs.declared.contexts.Context.{Context}
-use Rattle.tal_types.specs.Kept.{type_at, live_of, context_of}
+use Rattle.tal_types.specs.Kept.{kept_type, live_of, context_of}
 use Rattle.tal_checker.specs.Frames.{may_refer, reference_bits, row_in}
 
 -- so many bits make no larger number
@@ -62,7 +62,7 @@ dead-row c e = rw e refl
 
 -- eight types are those of the eight registers
 eight : (ts : List Ty) → length ts ≡ 8
-    → type_at ts Eax ∷ type_at ts Ecx ∷ type_at ts Edx ∷ type_at ts Ebx ∷ type_at ts Esp ∷ type_at ts Ebp ∷ type_at ts Esi ∷ type_at ts Edi ∷ [] ≡ ts
+    → kept_type ts Eax ∷ kept_type ts Ecx ∷ kept_type ts Edx ∷ kept_type ts Ebx ∷ kept_type ts Esp ∷ kept_type ts Ebp ∷ kept_type ts Esi ∷ kept_type ts Edi ∷ [] ≡ ts
 eight [] l = absurd (omega arith)
 eight (a ∷ []) l = absurd (omega arith)
 eight (a ∷ b ∷ []) l = absurd (omega arith)

@@ -10,7 +10,7 @@ use Rattle.tal_types.specs.Contexts.{ContextView, Dead}
 use Rattle.tal_types.specs.Shown.{ShownImage}
 use Rattle.tal_types.specs.declared.signatures.FrameRow.{FrameRow}
 use Rattle.tal_flow.specs.Rules.{NoRuleFails, LeastRule, Falls}
-use Rattle.tal_flow.specs.Strongest.{Placed, NoRuleAt, LeastRuleAt, falls_from, start, contexts, NoneFails}
+use Rattle.tal_flow.specs.Strongest.{PlacedInst, NoRuleAt, LeastRuleAt, falls_from, start, contexts, NoneFails}
 use Rattle.object_layout.specs.Areas.{code_start}
 use Rattle.frame_tables.specs.FrameRows.{RowAt}
 use Rattle.tal_checker.specs.Instructions.{placed_from, instructions}
@@ -37,8 +37,8 @@ pub none_left : (v : ShownImage) (code : List ℕ) (pc : ℕ) (bytes : List ℕ)
 none_left v code pc bytes c rows l e =
     let end = placed-end pc bytes e in
     record {
-      none_fails = l.accepts (subst (λ (t : List Placed). NoneFails v t (contexts v t c)) (sym end) tt);
-      rows = sym (append-nil rows) ∙ ap (λ (t : List Placed). rows ++ frame_rows t (contexts v t c)) (sym end) ∙ l.kept;
+      none_fails = l.accepts (subst (λ (t : List PlacedInst). NoneFails v t (contexts v t c)) (sym end) tt);
+      rows = sym (append-nil rows) ∙ ap (λ (t : List PlacedInst). rows ++ frame_rows t (contexts v t c)) (sym end) ∙ l.kept;
     }
 
 -- the rows in front of those of the instruction at the front are below it
@@ -58,15 +58,15 @@ module _ (v : ShownImage) (code : List ℕ) (pc : ℕ) (bytes : List ℕ) (c : C
   -- a rule fails at the instruction at the front
   pub left_refused : (rule : ℕ) → LeastRule v here pc i n rule → RefusedIn v (instructions code) Dead pc rule
   left_refused rule fails =
-      let x : Placed = record { pc = pc; inst = i; len = n } in
+      let x : PlacedInst = record { pc = pc; inst = i; len = n } in
       let f : LeastRuleAt v (start v pc c) x rule = subst (λ (d : ContextView). LeastRuleAt v d x rule) stands fails in
-      l.refuses pc rule (subst (λ (t : List Placed). RefusedIn v t c pc rule) (sym step) (refused_first v x (placed_from 0 (pc + n) (drop n bytes)) c rule ordered f))
+      l.refuses pc rule (subst (λ (t : List PlacedInst). RefusedIn v t c pc rule) (sym step) (refused_first v x (placed_from 0 (pc + n) (drop n bytes)) c rule ordered f))
 
   -- the instruction at the front passes
   pub left_after : (next : ContextView) (row : FrameRow) → NoRuleFails v here pc i n → next ≡ Falls v here pc i n → row ≡ row_in here
       → Left v code (pc + n) (drop n bytes) next (rows ++ record { pc = pc; row = row } ∷ [])
   left_after next row passes falls is =
-      let x : Placed = record { pc = pc; inst = i; len = n } in
+      let x : PlacedInst = record { pc = pc; inst = i; len = n } in
       let xs = placed_from 0 (pc + n) (drop n bytes) in
       let p : NoRuleAt v (start v pc c) x = subst (λ (d : ContextView). NoRuleAt v d x) stands passes in
       let f : next ≡ falls_from v (start v pc c) x = falls ∙ ap (λ (d : ContextView). falls_from v d x) stands in
@@ -74,9 +74,9 @@ module _ (v : ShownImage) (code : List ℕ) (pc : ℕ) (bytes : List ℕ) (c : C
       subst (λ (d : ContextView). Left v code (pc + n) (drop n bytes) d (rows ++ record { pc = pc; row = row } ∷ [])) (sym f)
       (subst (λ (q : FrameRow). Left v code (pc + n) (drop n bytes) (falls_from v (start v pc c) x) (rows ++ record { pc = pc; row = q } ∷ [])) (sym r)
       (record {
-        accepts = λ none. l.accepts (subst (λ (t : List Placed). NoneFails v t (contexts v t c)) (sym step) (p, none));
-        refuses = λ y rule q. l.refuses y rule (subst (λ (t : List Placed). RefusedIn v t c y rule) (sym step) (refused_later v x xs c y rule ordered p q));
+        accepts = λ none. l.accepts (subst (λ (t : List PlacedInst). NoneFails v t (contexts v t c)) (sym step) (p, none));
+        refuses = λ y rule q. l.refuses y rule (subst (λ (t : List PlacedInst). RefusedIn v t c y rule) (sym step) (refused_later v x xs c y rule ordered p q));
         kept =
             append_assoc rows (record { pc = pc; row = row_in (start v pc c) } ∷ []) (frame_rows xs (contexts v xs (falls_from v (start v pc c) x)))
-            ∙ ap (λ (t : List Placed). rows ++ frame_rows t (contexts v t c)) (sym step) ∙ l.kept;
+            ∙ ap (λ (t : List PlacedInst). rows ++ frame_rows t (contexts v t c)) (sym step) ∙ l.kept;
       }))

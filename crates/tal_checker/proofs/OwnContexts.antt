@@ -6,10 +6,10 @@ use Rattle.std.proofs.lemmas.Option.{none-some}
 use Rattle.tal_types.specs.Contexts.{ContextView, entry}
 use Rattle.tal_types.specs.Shown.{ShownImage}
 use Rattle.tal_types.specs.declared.signatures.Sig.{Sig}
-use Rattle.tal_flow.specs.Strongest.{Placed, falls_from, known_at, carried, start, at_in, placed_at}
+use Rattle.tal_flow.specs.Strongest.{PlacedInst, falls_from, known_at, carried, start, at_in, placed_at}
 
 -- where an address has a context by itself, that is the strongest one there
-pub at-known : (v : ShownImage) (xs : List Placed) (c : ContextView) (pc : ℕ) (x : Placed) (d : ContextView) → placed_at xs pc ≡ Some x → known_at v pc ≡ Some d
+pub at-known : (v : ShownImage) (xs : List PlacedInst) (c : ContextView) (pc : ℕ) (x : PlacedInst) (d : ContextView) → placed_at xs pc ≡ Some x → known_at v pc ≡ Some d
     → at_in v xs c pc ≡ d
 unfolding placed_at at_in start
 at-known v [] c pc x d e k = absurd (none-some x e)

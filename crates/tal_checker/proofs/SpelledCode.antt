@@ -10,7 +10,7 @@ use Rattle.ia32_code.specs.declared.decoding.Decoded.TheVariants.{One}
 use Rattle.ia32_code.specs.Decoding.{decoded, FrontLaw}
 use Rattle.ia32_code.specs.Spells.{Spells}
 use Rattle.tal_flow.specs.Rules.{next_address}
-use Rattle.tal_flow.specs.Strongest.{Placed, placed_at, Chained}
+use Rattle.tal_flow.specs.Strongest.{PlacedInst, placed_at, Chained}
 use Rattle.tal_image.specs.Conditions.{Spelled, begins_at}
 use Rattle.tal_image.specs.Fields.{code_bytes}
 use Rattle.tal_checker.specs.Instructions.{placed_from}
@@ -36,7 +36,7 @@ pub spelled-text : FrontLaw → SpellingLength → (s : Spelled) → Spells s.te
 spelled-text front long s h = record { some = (long s.text s.means h).0; front = λ rest. front s.text rest s.means h }
 
 -- the instructions by their addresses, from an address on
-abbrev pub placed_spelled : ℕ → List Spelled → List Placed
+abbrev pub placed_spelled : ℕ → List Spelled → List PlacedInst
 placed_spelled pc [] = []
 placed_spelled pc (s ∷ more) = record { pc = pc; inst = s.means; len = length s.text } ∷ placed_spelled (pc + length s.text) more
 
@@ -45,14 +45,14 @@ pub placed-code : (code : List Spelled) (pc : ℕ) → AreTexts code → placed_
 unfolding placed_from
 placed-code [] pc h = refl
 placed-code (s ∷ more) pc h =
-    let x : Placed = record { pc = pc; inst = s.means; len = length s.text } in
+    let x : PlacedInst = record { pc = pc; inst = s.means; len = length s.text } in
     let k = h.0 in
     placed-step pc (s.text ++ code_bytes more) s.means (length s.text) (k.front (code_bytes more)) k.some (omega (arith, length-append s.text (code_bytes more)))
     ∙ ap (λ (t : List ℕ). x ∷ placed_from 0 (pc + length s.text) t) (drop_at s.text (code_bytes more) (length s.text) refl)
-    ∙ ap (λ (t : List Placed). x ∷ t) (placed-code more (pc + length s.text) h.1)
+    ∙ ap (λ (t : List PlacedInst). x ∷ t) (placed-code more (pc + length s.text) h.1)
 
 -- none stands before where they begin
-pub spelled-above : (code : List Spelled) (pc at : ℕ) (x : Placed) → placed_at (placed_spelled pc code) at ≡ Some x → pc ≤ at
+pub spelled-above : (code : List Spelled) (pc at : ℕ) (x : PlacedInst) → placed_at (placed_spelled pc code) at ≡ Some x → pc ≤ at
 unfolding placed_at
 spelled-above [] pc at x e = absurd (none-some x e)
 spelled-above (s ∷ more) pc at x e =
@@ -62,7 +62,7 @@ spelled-above (s ∷ more) pc at x e =
     ]
 
 -- an instruction at an address, in bytes that begin at another
-pub record Spot (pc : ℕ) (bytes : List ℕ) (at : ℕ) (x : Placed) : Type 0 where
+pub record Spot (pc : ℕ) (bytes : List ℕ) (at : ℕ) (x : PlacedInst) : Type 0 where
   pub address : x.pc ≡ at
   pub front : decoded (drop (at - pc) bytes) ≡ One x.inst x.len
   pub some : 0 < x.len
@@ -74,11 +74,11 @@ dropped_on : (pc n at : ℕ) (bytes : List ℕ) → pc + n ≤ at → drop (at -
 dropped_on pc n at bytes l = let e : n + (at - (pc + n)) ≡ at - pc = omega arith in drop-drop (at - (pc + n)) n bytes ∙ ap (λ (m : ℕ). drop m bytes) e
 
 -- each instruction stands at its place
-pub spot : (code : List Spelled) (pc at : ℕ) (x : Placed) → AreTexts code → placed_at (placed_spelled pc code) at ≡ Some x → Spot pc (code_bytes code) at x
+pub spot : (code : List Spelled) (pc at : ℕ) (x : PlacedInst) → AreTexts code → placed_at (placed_spelled pc code) at ≡ Some x → Spot pc (code_bytes code) at x
 unfolding placed_at
 spot [] pc at x h e = absurd (none-some x e)
 spot (s ∷ more) pc at x h e =
-    let y : Placed = record { pc = pc; inst = s.means; len = length s.text } in
+    let y : PlacedInst = record { pc = pc; inst = s.means; len = length s.text } in
     let rest = code_bytes more in
     let k = h.0 in
     let long = length-append s.text rest in
@@ -93,7 +93,7 @@ spot (s ∷ more) pc at x h e =
             after_start = omega arith;
             before_end = omega arith;
           } in
-          subst (λ (n : ℕ). Spot pc (s.text ++ rest) n x) q.0 (subst (λ (z : Placed). Spot pc (s.text ++ rest) pc z) q.1 first)
+          subst (λ (n : ℕ). Spot pc (s.text ++ rest) n x) q.0 (subst (λ (z : PlacedInst). Spot pc (s.text ++ rest) pc z) q.1 first)
           )
       | inr q ↦ (
           let t = spot more (pc + length s.text) at x h.1 q in
@@ -111,24 +111,24 @@ spot (s ∷ more) pc at x h e =
     ]
 
 -- some bytes have a first instruction
-pub first_there : (code : List Spelled) (pc : ℕ) → 0 < length (code_bytes code) → (x : Placed) × (placed_at (placed_spelled pc code) pc ≡ Some x)
+pub first_there : (code : List Spelled) (pc : ℕ) → 0 < length (code_bytes code) → (x : PlacedInst) × (placed_at (placed_spelled pc code) pc ≡ Some x)
 first_there [] pc some = absurd (omega arith)
 first_there (s ∷ more) pc some = (record { pc = pc; inst = s.means; len = length s.text }, there-first (record { pc = pc; inst = s.means; len = length s.text }) (placed_spelled (pc + length s.text) more) pc refl)
 
 -- the instruction after one that does not end the code
-pub next_there : (code : List Spelled) (pc at : ℕ) (x : Placed) → AreTexts code → placed_at (placed_spelled pc code) at ≡ Some x
-    → at + x.len < pc + length (code_bytes code) → (y : Placed) × (placed_at (placed_spelled pc code) (at + x.len) ≡ Some y)
+pub next_there : (code : List Spelled) (pc at : ℕ) (x : PlacedInst) → AreTexts code → placed_at (placed_spelled pc code) at ≡ Some x
+    → at + x.len < pc + length (code_bytes code) → (y : PlacedInst) × (placed_at (placed_spelled pc code) (at + x.len) ≡ Some y)
 unfolding placed_at
 next_there [] pc at x h e l = absurd (none-some x e)
 next_there (s ∷ more) pc at x h e l =
-    let y : Placed = record { pc = pc; inst = s.means; len = length s.text } in
+    let y : PlacedInst = record { pc = pc; inst = s.means; len = length s.text } in
     let k = h.0 in
     let some = k.some in
     let long = length-append s.text (code_bytes more) in
     elim (there-cases y (placed_spelled (pc + length s.text) more) at x e) [
       | inl q ↦ (
           let at-is : pc ≡ at = q.0 in
-          let len-is : length s.text ≡ x.len = ap (λ (z : Placed). z.len) q.1 in
+          let len-is : length s.text ≡ x.len = ap (λ (z : PlacedInst). z.len) q.1 in
           let next : pc + length s.text ≡ at + x.len = omega arith in
           let f = first_there more (pc + length s.text) (omega arith) in
           (f.0, there-later y (placed_spelled (pc + length s.text) more) (at + x.len) (omega arith) ∙ ap (λ (n : ℕ). placed_at (placed_spelled (pc + length s.text) more) n) (sym next) ∙ f.1)
@@ -157,15 +157,15 @@ chained (s ∷ more) pc h room =
 
 -- an instruction that begins at an offset stands at its address
 pub begun_there : (code : List Spelled) (pc offset : ℕ) → AreTexts code → is_some (begins_at offset code) ≡ true
-    → (x : Placed) × (placed_at (placed_spelled pc code) (pc + offset) ≡ Some x)
+    → (x : PlacedInst) × (placed_at (placed_spelled pc code) (pc + offset) ≡ Some x)
 unfolding begins_at
 begun_there [] pc offset h e = absurd cc
 begun_there (s ∷ more) pc offset h e = go (offset == 0) (nat_lt offset (length s.text)) refl refl e (λ k. begun_there more (pc + length s.text) (offset - length s.text) h.1 k)
   where
     go : (a b : Bool) → offset == 0 ≡ a → nat_lt offset (length s.text) ≡ b
         → is_some (if a then Some s.means else if b then None else begins_at (offset - length s.text) more) ≡ true
-        → (is_some (begins_at (offset - length s.text) more) ≡ true → (x : Placed) × (placed_at (placed_spelled (pc + length s.text) more) (pc + length s.text + (offset - length s.text)) ≡ Some x))
-        → (x : Placed) × (placed_at (record { pc = pc; inst = s.means; len = length s.text } ∷ placed_spelled (pc + length s.text) more) (pc + offset) ≡ Some x)
+        → (is_some (begins_at (offset - length s.text) more) ≡ true → (x : PlacedInst) × (placed_at (placed_spelled (pc + length s.text) more) (pc + length s.text + (offset - length s.text)) ≡ Some x))
+        → (x : PlacedInst) × (placed_at (record { pc = pc; inst = s.means; len = length s.text } ∷ placed_spelled (pc + length s.text) more) (pc + offset) ≡ Some x)
     go true b p q e later = let z = eqb-true offset 0 p in (record { pc = pc; inst = s.means; len = length s.text }, there-first (record { pc = pc; inst = s.means; len = length s.text }) (placed_spelled (pc + length s.text) more) (pc + offset) (omega arith))
     go false true p q e later = absurd cc
     go false false p q e later =
@@ -176,8 +176,29 @@ begun_there (s ∷ more) pc offset h e = go (offset == 0) (nat_lt offset (length
         let on : pc + length s.text + (offset - length s.text) ≡ pc + offset = omega arith in
         (t.0, there-later (record { pc = pc; inst = s.means; len = length s.text }) (placed_spelled (pc + length s.text) more) (pc + offset) (omega arith) ∙ ap (λ (n : ℕ). placed_at (placed_spelled (pc + length s.text) more) n) (sym on) ∙ t.1)
 
+-- the instruction that begins at an offset of the code is the one at its address
+pub begun-inst : (code : List Spelled) (pc offset : ℕ) (x : PlacedInst) (i : Inst) → AreTexts code → begins_at offset code ≡ Some i → placed_at (placed_spelled pc code) (pc + offset) ≡ Some x → x.inst ≡ i
+unfolding begins_at placed_at
+begun-inst [] pc offset x i h e f = absurd (cc)
+begun-inst (t ∷ more) pc offset x i h e f =
+    go (offset == 0) refl (nat_lt offset (length t.text)) refl e (pc == (pc + offset)) refl f
+    (λ k m. begun-inst more (pc + length t.text) (offset - length t.text) x i h.1 k m)
+  where
+    go : (a : Bool) → (offset == 0) ≡ a → (b : Bool) → nat_lt offset (length t.text) ≡ b → (if a then Some t.means else if b then None else begins_at (offset - length t.text) more) ≡ Some i
+        → (d : Bool) → (pc == (pc + offset)) ≡ d
+        → (if d then Some (record { pc = pc; inst = t.means; len = length t.text }) else placed_at (placed_spelled (pc + length t.text) more) (pc + offset)) ≡ Some x
+        → (begins_at (offset - length t.text) more ≡ Some i → placed_at (placed_spelled (pc + length t.text) more) (pc + length t.text + (offset - length t.text)) ≡ Some x → x.inst ≡ i)
+        → x.inst ≡ i
+    go true p b q k true r m later = let same : record { pc = pc; inst = t.means; len = length t.text } ≡ x = cc in let means : t.means ≡ i = cc in ap (λ (y : PlacedInst). y.inst) (sym same) ∙ means
+    go true p b q k false r m later = absurd (grind (arith, nat_tests))
+    go false p true q k d r m later = absurd (cc)
+    go false p false q k true r m later = absurd (grind (arith, nat_tests))
+    go false p false q k false r m later =
+        let on : pc + length t.text + (offset - length t.text) ≡ pc + offset = let far : length t.text ≤ offset = grind (arith, nat_tests) in omega arith in
+        later k (rw on m)
+
 -- instructions after others stand where they stand by themselves
-pub there-after : (before code : List Spelled) (pc at : ℕ) (x : Placed) → AreTexts before → placed_at (placed_spelled (pc + length (code_bytes before)) code) at ≡ Some x
+pub there-after : (before code : List Spelled) (pc at : ℕ) (x : PlacedInst) → AreTexts before → placed_at (placed_spelled (pc + length (code_bytes before)) code) at ≡ Some x
     → placed_at (placed_spelled pc (before ++ code)) at ≡ Some x
 there-after [] code pc at x h e = let z : pc + 0 ≡ pc = omega arith in subst (λ (n : ℕ). placed_at (placed_spelled n code) at ≡ Some x) z e
 there-after (s ∷ before) code pc at x h e =

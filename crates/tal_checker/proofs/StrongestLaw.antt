@@ -7,7 +7,7 @@ use Rattle.ia32_code.specs.declared.instruction.Reg.TheVariants.{Esp}
 use Rattle.tal_types.specs.declared.types.Ty.TheVariants.{Junk}
 use Rattle.tal_types.specs.Contexts.{LiveContext, ContextView, Dead, Live, plain, register_type}
 use Rattle.tal_types.specs.Shown.{ShownImage}
-use Rattle.tal_flow.specs.Strongest.{Placed, NoRuleAt, contexts, At, NoneFails, Joined, placed_at, HasOneHead, BlocksHaveOneHead, HasJunkEsp, BlocksHaveJunkEsp}
+use Rattle.tal_flow.specs.Strongest.{PlacedInst, NoRuleAt, contexts, At, NoneFails, JoinedContexts, placed_at, HasOneHead, BlocksHaveOneHead, HasJunkEsp, BlocksHaveJunkEsp}
 use Rattle.object_layout.specs.Areas.{code_start}
 use Rattle.tal_image.specs.declared.parts.BlockPart.{BlockPart}
 use Rattle.tal_image.specs.Image.{ImageParts}
@@ -52,7 +52,7 @@ image-esp image pc c e = block-esp pc image.blocks c e
 
 -- the law of the flow on ESP, for each list of instructions
 abbrev pub EspIsJunk : Type 0
-EspIsJunk = (v : ShownImage) → BlocksHaveJunkEsp v → (xs : List Placed) (pc : ℕ) → NoneFails v xs (contexts v xs Dead) → HasJunkEsp (At v xs pc)
+EspIsJunk = (v : ShownImage) → BlocksHaveJunkEsp v → (xs : List PlacedInst) (pc : ℕ) → NoneFails v xs (contexts v xs Dead) → HasJunkEsp (At v xs pc)
 
 -- nothing is known of what ESP holds in an image that is well typed
 pub esp_is_junk : StrongestDecides → EspIsJunk → (image : ImageParts) (pc : ℕ) (c : LiveContext) → WellTyped image → strongest_at image pc ≡ Live c → c.regs Esp ≡ Junk
@@ -62,7 +62,7 @@ esp_is_junk decides junk image pc c w e =
 
 -- the contexts of the flow's law, for each list of instructions
 abbrev pub ServeExactly : Type 0
-ServeExactly = (v : ShownImage) → ClassLaws v.shapes → BlocksHaveOneHead v → (xs : List Placed) → ((cs : List ContextView) × NoneFails v xs cs × Joined v xs cs Dead) ↔ NoneFails v xs (contexts v xs Dead)
+ServeExactly = (v : ShownImage) → ClassLaws v.shapes → BlocksHaveOneHead v → (xs : List PlacedInst) → ((cs : List ContextView) × NoneFails v xs cs × JoinedContexts v xs cs Dead) ↔ NoneFails v xs (contexts v xs Dead)
 
 -- the law of the strongest context, from those of shapes and of the flow
 pub strongest_law : FormedShapes → ServeExactly → StrongestDecides
@@ -89,10 +89,10 @@ code-ordered code = placed-ordered code 0 code_start
 
 -- no rule fails at an instruction, in its strongest context
 abbrev pub RowsPass : Type 0
-RowsPass = (v : ShownImage) (xs : List Placed) (pc : ℕ) (x : Placed) → NoneFails v xs (contexts v xs Dead) → placed_at xs pc ≡ Some x → NoRuleAt v (At v xs pc) x
+RowsPass = (v : ShownImage) (xs : List PlacedInst) (pc : ℕ) (x : PlacedInst) → NoneFails v xs (contexts v xs Dead) → placed_at xs pc ≡ Some x → NoRuleAt v (At v xs pc) x
 
 -- no rule fails at an instruction of an image that is well typed
-pub none_fails : StrongestDecides → RowsPass → (image : ImageParts) → WellTyped image → (pc : ℕ) (x : Placed) → placed_at (instructions image.code) pc ≡ Some x
+pub none_fails : StrongestDecides → RowsPass → (image : ImageParts) → WellTyped image → (pc : ℕ) (x : PlacedInst) → placed_at (instructions image.code) pc ≡ Some x
     → NoRuleAt (shown image) (strongest_at image pc) x
 unfolding strongest strongest_at
 none_fails decides pass image w pc x e = pass (shown image) (instructions image.code) pc x ((decides image w.formed).0 w) e

@@ -7,7 +7,7 @@ use Rattle.tal_types.specs.declared.types.Ty.TheVariants.{Num, Ref, Obj, ArrRef,
 use Rattle.tal_types.specs.declared.signatures.FrameRow.{FrameRow}
 use Rattle.tal_types.specs.Contexts.{LiveContext, ContextView, Dead, Live}
 use Rattle.frame_tables.specs.FrameRows.{RowAt, row_at}
-use Rattle.tal_flow.specs.Strongest.{Placed, placed_at}
+use Rattle.tal_flow.specs.Strongest.{PlacedInst, placed_at}
 use Rattle.tal_image.specs.Image.{ImageParts}
 use Rattle.tal_checker.specs.Instructions.{instructions}
 use Rattle.tal_checker.specs.WellTyped.{strongest, strongest_at}
@@ -40,7 +40,7 @@ row_in Dead = record { regs = 0; slots = 0; refs = 0 }
 row_in (Live c) = record { regs = reference_bits (register_types c); slots = length c.slots; refs = reference_bits c.slots }
 
 -- a row for each instruction, by the context that stands for it in the list
-abbrev pub frame_rows : List Placed → List ContextView → List RowAt
+abbrev pub frame_rows : List PlacedInst → List ContextView → List RowAt
 frame_rows [] cs = []
 frame_rows (x ∷ xs) [] = []
 frame_rows (x ∷ xs) (c ∷ cs) = record { pc = x.pc; row = row_in c } ∷ frame_rows xs cs
@@ -51,4 +51,4 @@ frames_of image = frame_rows (instructions image.code) (strongest image)
 
 -- an image has a row at an address exactly where an instruction begins, and it is that of the strongest context there
 abbrev pub RowsByAddress : Type 0
-RowsByAddress = (image : ImageParts) (pc : ℕ) → row_at (frames_of image) pc ≡ option_map (λ (x : Placed). row_in (strongest_at image pc)) (placed_at (instructions image.code) pc)
+RowsByAddress = (image : ImageParts) (pc : ℕ) → row_at (frames_of image) pc ≡ option_map (λ (x : PlacedInst). row_in (strongest_at image pc)) (placed_at (instructions image.code) pc)

@@ -4,3 +4,4 @@ pub mod Frames
 pub mod Accepted
 pub mod Passing
 pub mod Running
+pub mod Laws

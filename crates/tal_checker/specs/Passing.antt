@@ -2,7 +2,7 @@
 use Rattle.std.specs.Prelude.{◌≡◌, ℕ, ◌<◌, List, Some}
 use Rattle.tal_types.specs.Contexts.{ContextView, Dead}
 use Rattle.tal_types.specs.Shown.{ShownImage}
-use Rattle.tal_flow.specs.Strongest.{Placed, NoRuleAt, LeastRuleAt, contexts, at_in, NoneFails, placed_at}
+use Rattle.tal_flow.specs.Strongest.{PlacedInst, NoRuleAt, LeastRuleAt, contexts, at_in, NoneFails, placed_at}
 use Rattle.frame_tables.specs.FrameRows.{RowAt}
 use Rattle.tal_checker.specs.declared.answer.CheckAnswer.{CheckAnswer}
 use Rattle.tal_checker.specs.declared.answer.CheckAnswer.TheVariants.{Refused, NoMemory}
@@ -10,11 +10,11 @@ use Rattle.tal_checker.specs.Instructions.{instructions}
 use Rattle.tal_checker.specs.Frames.{frame_rows}
 
 -- the least address among these instructions where a rule fails, and the least rule there, where c falls to the first
-pub record RefusedIn (v : ShownImage) (xs : List Placed) (c : ContextView) (address rule : ℕ) : Type 0 where
-  pub placed : Placed
+pub record RefusedIn (v : ShownImage) (xs : List PlacedInst) (c : ContextView) (address rule : ℕ) : Type 0 where
+  pub placed : PlacedInst
   pub here : placed_at xs address ≡ Some placed
   pub fails : LeastRuleAt v (at_in v xs c address) placed rule
-  pub earlier : (before : ℕ) (other : Placed) → before < address → placed_at xs before ≡ Some other → NoRuleAt v (at_in v xs c before) other
+  pub earlier : (before : ℕ) (other : PlacedInst) → before < address → placed_at xs before ≡ Some other → NoRuleAt v (at_in v xs c before) other
 
 -- no rule fails in the code, and these are the rows of its frames
 pub record Passed (v : ShownImage) (code : List ℕ) (frames : List RowAt) : Type 0 where

@@ -7,7 +7,7 @@ use Rattle.tal_types.specs.declared.signatures.Sig.{Sig}
 use Rattle.tal_types.specs.declared.views.Span.{Span}
 use Rattle.tal_types.specs.Contexts.{LiveContext, ContextView, Live, ContextBelow, entry}
 use Rattle.tal_flow.specs.Rules.{next_address, Branches, Target}
-use Rattle.tal_flow.specs.Strongest.{Placed, rule_at, falls_from, placed_at}
+use Rattle.tal_flow.specs.Strongest.{PlacedInst, rule_at, falls_from, placed_at}
 use Rattle.tal_image.specs.Image.{ImageParts}
 use Rattle.object_layout.specs.Areas.{code_start}
 use Rattle.tal_image.specs.Conditions.{starts_stack}
@@ -16,7 +16,7 @@ use Rattle.tal_checker.specs.Instructions.{instructions}
 use Rattle.tal_checker.specs.WellTyped.{WellTyped, strongest_at}
 
 -- the instruction at an address
-abbrev pub instruction_in : ImageParts → ℕ → Option Placed
+abbrev pub instruction_in : ImageParts → ℕ → Option PlacedInst
 instruction_in image pc = placed_at (instructions image.code) pc
 
 -- the signature of the function that has the byte at an address
@@ -24,7 +24,7 @@ unfoldable pub signature_at : ImageParts → ℕ → Option Sig
 signature_at image pc = option_and_then (λ (span : Span). (shown image).sig span.sig) ((shown image).function_of pc)
 
 -- an instruction at an address is what the code spells there, and lies within the code and within a function
-pub record IsSpelledAt (image : ImageParts) (pc : ℕ) (x : Placed) : Type 0 where
+pub record IsSpelledAt (image : ImageParts) (pc : ℕ) (x : PlacedInst) : Type 0 where
   pub address : x.pc ≡ pc
   pub front : decoded (drop (pc - code_start) image.code) ≡ One x.inst x.len
   pub some_bytes : 0 < x.len
@@ -35,14 +35,14 @@ pub record IsSpelledAt (image : ImageParts) (pc : ℕ) (x : Placed) : Type 0 whe
 -- a run that comes from one address to another with this known finds an instruction of the same function there, whose
 -- strongest context is above what it knows
 pub record Arrives (image : ImageParts) (from to : ℕ) (c : ContextView) : Type 0 where
-  pub placed : Placed
+  pub placed : PlacedInst
   pub here : instruction_in image to ≡ Some placed
   pub known : ContextBelow (shown image).shapes c (strongest_at image to)
   pub stays : (shown image).function_of to ≡ (shown image).function_of from
 
 -- a function of the signature begins at an address, and its instructions there know what the signature says
 pub record BeginsFunction (image : ImageParts) (address : ℕ) (sig : Sig) : Type 0 where
-  pub placed : Placed
+  pub placed : PlacedInst
   pub here : instruction_in image address ≡ Some placed
   pub known : strongest_at image address ≡ entry sig
   pub signature : signature_at image address ≡ Some sig
@@ -50,12 +50,12 @@ pub record BeginsFunction (image : ImageParts) (address : ℕ) (sig : Sig) : Typ
 -- what a run of an accepted image rests on
 pub record RunsOn (image : ImageParts) : Type 0 where
   -- each instruction is spelled by the code, and no rule fails at it
-  pub spelled : (pc : ℕ) (x : Placed) → instruction_in image pc ≡ Some x → IsSpelledAt image pc x
-  pub none_fails : (pc : ℕ) (x : Placed) → instruction_in image pc ≡ Some x → rule_at (shown image) (strongest_at image pc) x ≡ None
+  pub spelled : (pc : ℕ) (x : PlacedInst) → instruction_in image pc ≡ Some x → IsSpelledAt image pc x
+  pub none_fails : (pc : ℕ) (x : PlacedInst) → instruction_in image pc ≡ Some x → rule_at (shown image) (strongest_at image pc) x ≡ None
   -- where a run falls through, and where it branches, it arrives
-  pub falls : (pc : ℕ) (x : Placed) (c d : LiveContext) → instruction_in image pc ≡ Some x → strongest_at image pc ≡ Live c
+  pub falls : (pc : ℕ) (x : PlacedInst) (c d : LiveContext) → instruction_in image pc ≡ Some x → strongest_at image pc ≡ Live c
       → falls_from (shown image) (Live c) x ≡ Live d → Arrives image pc (next_address x.pc x.len) (Live d)
-  pub branches : (pc : ℕ) (x : Placed) (c d : LiveContext) (to : ℕ) → instruction_in image pc ≡ Some x → strongest_at image pc ≡ Live c
+  pub branches : (pc : ℕ) (x : PlacedInst) (c d : LiveContext) (to : ℕ) → instruction_in image pc ≡ Some x → strongest_at image pc ≡ Live c
       → Branches (shown image) (Live c) x.pc x.inst x.len ≡ Live d → Target x.pc x.inst x.len ≡ Some to → Arrives image pc to (Live d)
   -- a call comes to a function's beginning, and each stack begins at one
   pub calls : (address g : ℕ) (sig : Sig) → (shown image).function_at address ≡ Some g → (shown image).sig g ≡ Some sig → BeginsFunction image address sig

@@ -1,7 +1,7 @@
 -- Well typed images, and the first place where a rule fails.
 use Rattle.std.specs.Prelude.{◌≡◌, ℕ, ◌<◌, ◌⊎◌, List, Some, ◌↔◌}
 use Rattle.tal_types.specs.Contexts.{ContextView, Dead}
-use Rattle.tal_flow.specs.Strongest.{Placed, At, contexts, NoRuleAt, LeastRuleAt, placed_at, NoneFails, Joined}
+use Rattle.tal_flow.specs.Strongest.{PlacedInst, At, contexts, NoRuleAt, LeastRuleAt, placed_at, NoneFails, JoinedContexts}
 use Rattle.tal_image.specs.Image.{ImageParts}
 use Rattle.tal_image.specs.Formed.{Formed}
 use Rattle.tal_image.specs.Shown.{shown}
@@ -14,7 +14,7 @@ pub record WellTyped (image : ImageParts) : Type 0 where
   pub formed : Formed image
   pub contexts_are : List ContextView
   pub none_fails : NoneFails (shown image) (instructions image.code) contexts_are
-  pub joined : Joined (shown image) (instructions image.code) contexts_are Dead
+  pub joined : JoinedContexts (shown image) (instructions image.code) contexts_are Dead
 
 -- the strongest context at an address
 unfoldable pub strongest_at : ImageParts → ℕ → ContextView
@@ -30,10 +30,10 @@ StrongestDecides = (image : ImageParts) → Formed image → (WellTyped image �
 
 -- A rule fails at this address, the least one where any does, and this is the least that fails there.
 pub record FirstRefusal (image : ImageParts) (address rule : ℕ) : Type 0 where
-  pub placed : Placed
+  pub placed : PlacedInst
   pub here : placed_at (instructions image.code) address ≡ Some placed
   pub fails : LeastRuleAt (shown image) (strongest_at image address) placed rule
-  pub earlier : (before : ℕ) (other : Placed) → before < address → placed_at (instructions image.code) before ≡ Some other
+  pub earlier : (before : ℕ) (other : PlacedInst) → before < address → placed_at (instructions image.code) before ≡ Some other
       → NoRuleAt (shown image) (strongest_at image before) other
 
 -- an image has one first refusal at most, and none where it is well typed; a formed image is well typed or has one

@@ -3,7 +3,9 @@ ghost use Rattle.tal_checker.specs.Frames.{RowsByAddress};
 ghost use Rattle.std.specs.Prelude.{◌≡◌, ℕ};
 ghost use Rattle.tal_types.specs.Contexts.{LiveContext, Live};
 ghost use Rattle.tal_flow.specs.Strongest.{HasOneHead};
+ghost use Rattle.tal_image.specs.Formed.{Formed};
 ghost use Rattle.tal_image.specs.Image.{ImageParts};
+ghost use Rattle.tal_checker.specs.Laws.{CodeLaws};
 ghost use Rattle.tal_checker.specs.WellTyped.{WellTyped, StrongestDecides, OneRefusal, strongest_at};
 ghost use Rattle.tal_checker.specs.Running.{AcceptedRuns};
 
@@ -47,6 +49,15 @@ pub fn rows_by_address()
     ensures { RowsByAddress }
 {}
 
+/// What a formed image tells of its code: its functions begin where their bytes do, instructions begin at its blocks, and what
+/// begins at an offset is the instruction at its address.
+pub fn code_laws()
+    ensures { (image : ImageParts) (formed : Formed image) → CodeLaws image formed }
+{
+    ia32_code::laws::front_law();
+    ia32_code::laws::spelling_length();
+}
+
 /// What a run of an accepted image rests on: its instructions are spelled by the code, no rule fails at one, and wherever a
 /// run falls, branches or calls, it arrives at an instruction whose strongest context is above what it knows.
 pub fn accepted_runs()
@@ -55,8 +66,7 @@ pub fn accepted_runs()
     strongest_decides();
     tal_flow::laws::strongest_contexts();
     tal_flow::laws::least_rule();
-    tal_types::laws::context_below_tests_the_order();
-    tal_types::laws::contexts_are_ordered();
+    tal_types::laws::type_laws();
     ia32_code::laws::front_law();
     ia32_code::laws::spelling_length();
 }

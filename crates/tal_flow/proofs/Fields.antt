@@ -8,20 +8,24 @@ use Rattle.ia32_code.specs.declared.instruction.Reg.{Reg}
 use Rattle.ia32_code.specs.declared.instruction.Reg.TheVariants.{Eax, Ecx, Edx, Ebx, Esp, Ebp, Esi, Edi}
 use Rattle.tal_types.specs.declared.types.Ty.{Ty}
 use Rattle.tal_types.specs.declared.types.Ty.TheVariants.{Junk}
-use Rattle.tal_types.specs.Contexts.{same, every}
+use Rattle.tal_types.specs.Contexts.{LiveContext, same, every}
 use Rattle.tal_types.specs.declared.contexts.Context.{Context}
-use Rattle.tal_types.specs.Kept.{type_at, pair_in, live_of}
-use Rattle.tal_types.proofs.Orders.{every-all}
-use Rattle.tal_types.proofs.Registers.{number-below}
+use Rattle.tal_types.specs.Kept.{kept_type, pair_in, live_of}
+use Rattle.tal_types.specs.Laws.{TypeLaws}
 use Rattle.tal_flow.specs.declared.known.TheConstants.{KEPT}
 use Rattle.tal_flow.specs.Afterwards.{without}
 
 -- What the fields of a context mean when some of them are written.
 
+-- two live contexts that read alike are equal
+pub same_live : (a b : LiveContext) → ((r : Reg) → a.regs r ≡ b.regs r) → a.slots ≡ b.slots → a.kind ≡ b.kind → ((i r : Reg) → a.pairs i r ≡ b.pairs i r)
+    → ((t r : Reg) → a.heads t r ≡ b.heads t r) → a ≡ b
+same_live a b f g h k l = λ i. record { regs = λ r. f r i; slots = g i; kind = h i; pairs = λ x y. k x y i; heads = λ x y. l x y i }
+
 -- the type of each register when one is written
-pub type_at-set : (xs : List Ty) (r q : Reg) (t : Ty) → length xs ≡ 8 → type_at (set xs (number r) t) q ≡ (if same q r then t else type_at xs q)
+pub kept_type-set : (xs : List Ty) (r q : Reg) (t : Ty) → length xs ≡ 8 → kept_type (set xs (number r) t) q ≡ (if same q r then t else kept_type xs q)
 unfolding same
-type_at-set xs r q t h = grind (arith, common_steps)
+kept_type-set xs r q t h = grind (arith, common_steps)
 
 -- ESP's type, when another register is written
 pub esp-kept : (xs : List Ty) (r : Reg) (t : Ty) → length xs ≡ 8 → (r ≡ Esp → t ≡ Junk) → get_or xs 4 Junk ≡ Junk → get_or (set xs (number r) t) 4 Junk ≡ Junk
@@ -44,11 +48,11 @@ unfolding pair_in same
 masks = refl
 
 -- the mask of a register has the bits of the pairs that do not name it
-kept-mask : (r i a : Reg) → pair_in (get_or KEPT (number r) 0) i a ≡ (not (same i r) && not (same a r))
-kept-mask r i a =
-    agree-equal _ _ (every-all (λ a. agrees (pair_in (get_or KEPT (number r) 0) i a) (not (same i r) && not (same a r))) a
-    (every-all (λ i. every (λ a. agrees (pair_in (get_or KEPT (number r) 0) i a) (not (same i r) && not (same a r)))) i
-    (every-all (λ r. every (λ i. every (λ a. agrees (pair_in (get_or KEPT (number r) 0) i a) (not (same i r) && not (same a r))))) r masks)))
+kept-mask : (types : TypeLaws) (r i a : Reg) → pair_in (get_or KEPT (number r) 0) i a ≡ (not (same i r) && not (same a r))
+kept-mask types r i a =
+    agree-equal _ _ (types.every_told (λ a. agrees (pair_in (get_or KEPT (number r) 0) i a) (not (same i r) && not (same a r))) a
+    (types.every_told (λ i. every (λ a. agrees (pair_in (get_or KEPT (number r) 0) i a) (not (same i r) && not (same a r)))) i
+    (types.every_told (λ r. every (λ i. every (λ a. agrees (pair_in (get_or KEPT (number r) 0) i a) (not (same i r) && not (same a r))))) r masks)))
 
 -- a pair is in what two sets share where it is in both
 pair_in-and : (m n : ℕ) (i a : Reg) → pair_in (bit_and m n) i a ≡ (pair_in m i a && pair_in n i a)
@@ -65,10 +69,10 @@ both-in-order : (p x y : Bool) → (p && (x && y)) ≡ (x && (y && p))
 both-in-order p x y = grind arith
 
 -- the pairs that do not name a register
-pub pairs-without : (bits : ℕ) (r i a : Reg) → pair_in (bit_and bits (get_or KEPT (number r) 0)) i a ≡ without r (pair_in bits) i a
-pairs-without bits r i a =
+pub pairs-without : (types : TypeLaws) (bits : ℕ) (r i a : Reg) → pair_in (bit_and bits (get_or KEPT (number r) 0)) i a ≡ without r (pair_in bits) i a
+pairs-without types bits r i a =
     pair_in-and bits (get_or KEPT (number r) 0) i a
-    ∙ ap (λ b. pair_in bits i a && b) (kept-mask r i a)
+    ∙ ap (λ b. pair_in bits i a && b) (kept-mask types r i a)
     ∙ both-in-order (pair_in bits i a) (not (same i r)) (not (same a r))
 
 -- a number below 64 is one pair of numbers below 8
@@ -76,19 +80,19 @@ same_place : (x y z w : ℕ) → y < 8 → w < 8 → 8 * x + y ≡ 8 * z + w →
 same_place x y z w h k e = (omega arith, omega arith)
 
 -- one more pair
-pub pairs-with : (bits : ℕ) (r q i a : Reg) → pair_in (bit_or bits (1 * 2 ^ (8 * number r + number q) % 2 ^ 64)) i a ≡ (same i r && same a q || pair_in bits i a)
+pub pairs-with : (types : TypeLaws) (bits : ℕ) (r q i a : Reg) → pair_in (bit_or bits (1 * 2 ^ (8 * number r + number q) % 2 ^ 64)) i a ≡ (same i r && same a q || pair_in bits i a)
 unfolding pair_in same
-pairs-with bits r q i a = go (nat_eq (8 * number i + number a) (8 * number r + number q)) refl
+pairs-with types bits r q i a = go (nat_eq (8 * number i + number a) (8 * number r + number q)) refl
   where
     within : 8 * number r + number q < 64
-    within = let x = number-below r in let y = number-below q in omega arith
+    within = let x = types.register_below_8 r in let y = types.register_below_8 q in omega arith
 
     go : (t : Bool) → nat_eq (8 * number i + number a) (8 * number r + number q) ≡ t
         → nat_eq (bit_at (bit_or bits (1 * 2 ^ (8 * number r + number q) % 2 ^ 64)) (8 * number i + number a)) 1 ≡ (nat_eq (number i) (number r) && nat_eq (number a) (number q) || nat_eq (bit_at bits (8 * number i + number a)) 1)
     go true e =
         let f : 8 * number i + number a ≡ 8 * number r + number q = grind (arith, nat_tests) in
         let one = bit_at_set_same w64 bits (8 * number r + number q) within in
-        let parts = same_place (number i) (number a) (number r) (number q) (number-below a) (number-below q) f in
+        let parts = same_place (number i) (number a) (number r) (number q) (types.register_below_8 a) (types.register_below_8 q) f in
         let x = parts.0 in
         let y = parts.1 in
         rw (f, one) (grind (arith, nat_tests))
@@ -187,16 +191,16 @@ take-dropped ys xs d n l m h e f =
     ∙ sym (drop-within n d xs)
 
 -- a call leaves EAX alone
-pub type_at-first : (t : Ty) (r : Reg) → type_at (t ∷ Junk ∷ Junk ∷ Junk ∷ Junk ∷ Junk ∷ Junk ∷ Junk ∷ []) r ≡ (if same r Eax then t else Junk)
+pub kept_type-first : (t : Ty) (r : Reg) → kept_type (t ∷ Junk ∷ Junk ∷ Junk ∷ Junk ∷ Junk ∷ Junk ∷ Junk ∷ []) r ≡ (if same r Eax then t else Junk)
 unfolding same
-type_at-first t Eax = refl
-type_at-first t Ecx = refl
-type_at-first t Edx = refl
-type_at-first t Ebx = refl
-type_at-first t Esp = refl
-type_at-first t Ebp = refl
-type_at-first t Esi = refl
-type_at-first t Edi = refl
+kept_type-first t Eax = refl
+kept_type-first t Ecx = refl
+kept_type-first t Edx = refl
+kept_type-first t Ebx = refl
+kept_type-first t Esp = refl
+kept_type-first t Ebp = refl
+kept_type-first t Esi = refl
+kept_type-first t Edi = refl
 
 -- ESP's type, when a register other than ESP is written
 pub esp-other : (xs : List Ty) (r : Reg) (t : Ty) → length xs ≡ 8 → same r Esp ≡ false → get_or xs 4 Junk ≡ Junk → get_or (set xs (number r) t) 4 Junk ≡ Junk

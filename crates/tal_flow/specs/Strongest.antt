@@ -10,25 +10,25 @@ use Rattle.tal_types.specs.Shown.{ShownImage}
 use Rattle.tal_flow.specs.Rules.{NoRuleFails, LeastRule, rule_of, next_address, Falls}
 
 -- an instruction of the code, with its address and the length of its spelling
-pub record Placed : Type 0 where
+pub record PlacedInst : Type 0 where
   pub pc : ℕ
   pub inst : Inst
   pub len : ℕ
 
 -- no rule fails at it
-abbrev pub NoRuleAt : ShownImage → ContextView → Placed → Type 0
+abbrev pub NoRuleAt : ShownImage → ContextView → PlacedInst → Type 0
 NoRuleAt v c x = NoRuleFails v c x.pc x.inst x.len
 
 -- rule n is the least that fails at it
-abbrev pub LeastRuleAt : ShownImage → ContextView → Placed → ℕ → Type 0
+abbrev pub LeastRuleAt : ShownImage → ContextView → PlacedInst → ℕ → Type 0
 LeastRuleAt v c x n = LeastRule v c x.pc x.inst x.len n
 
 -- the first rule that fails at it, or none
-abbrev pub rule_at : ShownImage → ContextView → Placed → Option ℕ
+abbrev pub rule_at : ShownImage → ContextView → PlacedInst → Option ℕ
 rule_at v c x = rule_of v c x.pc x.inst x.len
 
 -- what falls through it
-abbrev pub falls_from : ShownImage → ContextView → Placed → ContextView
+abbrev pub falls_from : ShownImage → ContextView → PlacedInst → ContextView
 falls_from v c x = Falls v c x.pc x.inst x.len
 
 -- what an address has by itself: at a function's first instruction the context of its signature, and at a
@@ -46,40 +46,40 @@ unfoldable pub start : ShownImage → ℕ → ContextView → ContextView
 start v pc c = carried c (known_at v pc)
 
 -- the contexts of instructions that lie one after another, where c falls to the first
-abbrev pub contexts : ShownImage → List Placed → ContextView → List ContextView
+abbrev pub contexts : ShownImage → List PlacedInst → ContextView → List ContextView
 contexts v [] c = []
 contexts v (x ∷ xs) c = start v x.pc c ∷ contexts v xs (falls_from v (start v x.pc c) x)
 
 -- the context at the instruction at pc among these, where c falls to the first
-unfoldable pub at_in : ShownImage → List Placed → ContextView → ℕ → ContextView
+unfoldable pub at_in : ShownImage → List PlacedInst → ContextView → ℕ → ContextView
 at_in v [] c pc = Dead
 at_in v (x ∷ xs) c pc = if x.pc == pc then start v x.pc c else at_in v xs (falls_from v (start v x.pc c) x) pc
 
 -- the strongest context at the instruction at pc, dead where nothing falls to it
-unfoldable pub At : ShownImage → List Placed → ℕ → ContextView
+unfoldable pub At : ShownImage → List PlacedInst → ℕ → ContextView
 At v xs pc = at_in v xs Dead pc
 
 -- there is a context for each instruction, and no rule fails at any in its context
-abbrev pub NoneFails : ShownImage → List Placed → List ContextView → Type 0
+abbrev pub NoneFails : ShownImage → List PlacedInst → List ContextView → Type 0
 NoneFails v [] [] = Unit {0}
 NoneFails v [] (c ∷ cs) = ⊥
 NoneFails v (x ∷ xs) [] = ⊥
 NoneFails v (x ∷ xs) (c ∷ cs) = NoRuleAt v c x × NoneFails v xs cs
 
 -- each context is above what its address has by itself, or else above what falls to it
-abbrev pub Joined : ShownImage → List Placed → List ContextView → ContextView → Type 0
-Joined v [] [] falls = Unit {0}
-Joined v [] (c ∷ cs) falls = ⊥
-Joined v (x ∷ xs) [] falls = ⊥
-Joined v (x ∷ xs) (c ∷ cs) falls = ContextBelow v.shapes (start v x.pc falls) c × Joined v xs cs (falls_from v c x)
+abbrev pub JoinedContexts : ShownImage → List PlacedInst → List ContextView → ContextView → Type 0
+JoinedContexts v [] [] falls = Unit {0}
+JoinedContexts v [] (c ∷ cs) falls = ⊥
+JoinedContexts v (x ∷ xs) [] falls = ⊥
+JoinedContexts v (x ∷ xs) (c ∷ cs) falls = ContextBelow v.shapes (start v x.pc falls) c × JoinedContexts v xs cs (falls_from v c x)
 
 -- the instruction at an address
-unfoldable pub placed_at : List Placed → ℕ → Option Placed
+unfoldable pub placed_at : List PlacedInst → ℕ → Option PlacedInst
 placed_at [] pc = None
 placed_at (x ∷ xs) pc = if x.pc == pc then Some x else placed_at xs pc
 
 -- each instruction begins where the one before ends, from n on, and addresses rise
-abbrev pub Chained : ℕ → List Placed → Type 0
+abbrev pub Chained : ℕ → List PlacedInst → Type 0
 Chained n [] = Unit {0}
 Chained n (x ∷ xs) = (x.pc ≡ n) × (n < next_address x.pc x.len) × Chained (next_address x.pc x.len) xs
 

@@ -1,6 +1,6 @@
 #![tactic(auto, unfolding(crate::specs::Calls::arguments_fit, crate::specs::Calls::call_of_signature, crate::specs::Calls::call_to, crate::specs::Calls::call_by, crate::specs::Calls::is_callable, crate::specs::Calls::is_fit, crate::specs::Calls::result_of, crate::specs::Calls::nucleus_arguments, crate::specs::Calls::entry_number, crate::specs::Calls::is_entry))]
 
-ghost use Rattle.std.specs.Prelude.{◌≡◌, slice_get};
+ghost use Rattle.std.specs.Prelude.{◌≡◌, true, Some, slice_get};
 ghost use Rattle.std.specs.Option.{option_and_then};
 ghost use Rattle.tal_types.specs.Kept.{live_of};
 ghost use Rattle.tal_flow.specs.Calls.{call_of_signature, nucleus_arguments, entry_number, is_entry, entry_gives, call_to, call_by, is_callable, is_fit, result_of};
@@ -8,6 +8,11 @@ ghost use Rattle.tal_flow.specs.Calls.{call_of_signature, nucleus_arguments, ent
 use crate::known::register;
 use ia32_code::Reg;
 use tal_types::{Context, ImageView, Ty, types_fit};
+
+/// The address of the Nucleus's entry 0, and from each entry to the next.
+const ENTRIES_START: u32 = 0x1000;
+
+const ENTRY_BYTES: u32 = 16;
 
 /// What a Nucleus entry asks of EAX and ECX.
 #[derive(Clone, Copy, Debug, PartialEq, Eq)]
@@ -57,10 +62,10 @@ fn call_of_signature<V: ImageView>(image: &V, context: &Context, g: Option<u32>)
 fn entry_arguments(address: u32) -> Option<Arguments>
     ensures { result ≡ option_and_then (slice_get nucleus_arguments) (entry_number address) }
 {
-    if address < 0x1000 || (address - 0x1000) % 16 != 0 {
+    if address < ENTRIES_START || (address - ENTRIES_START) % ENTRY_BYTES != 0 {
         return None;
     }
-    match (address - 0x1000) / 16 {
+    match (address - ENTRIES_START) / ENTRY_BYTES {
         0 => Some(Arguments::Table),
         1 => Some(Arguments::DescriptorAndNumber),
         2 => Some(Arguments::Nothing),
@@ -81,6 +86,14 @@ pub fn is_entry(address: u32) -> bool
     ensures { result ≡ is_entry address }
 {
     entry_arguments(address).is_some()
+}
+
+/// The number of the Nucleus entry at an address where one stands.
+pub fn entry_number(address: u32) -> u32
+    requires { is_entry address ≡ true }
+    ensures { entry_number address ≡ Some result }
+{
+    (address - ENTRIES_START) / ENTRY_BYTES
 }
 
 /// What an entry gives, where EAX and ECX have these types.

@@ -1,7 +1,7 @@
 #![tactic(auto, unfolding(crate::specs::Forms::address_at, crate::specs::Forms::form_of))]
 
 ghost use Rattle.std.specs.Prelude.{◌≡◌, Some, true, false};
-ghost use Rattle.tal_flow.specs.Forms.{address_at, one, two, three, form_of};
+ghost use Rattle.tal_flow.specs.Forms.{address_at, one_operand, two_operands, three_operands, form_of};
 
 use ia32_code::{Alu, Cond, Count, Inst, Mem, Operand, Reg, Shift};
 use std::marker::Model;
@@ -80,7 +80,7 @@ fn address_at(next: u32, distance: i32) -> u32
 
 /// An operation on one operand, with its destination.
 fn from_one(x: &Operand, d: &Operand, kind: Option<FlagKind>) -> Form
-    ensures { result ≡ Form.Compute (one x.now) d.now false kind }
+    ensures { result ≡ Form.Compute (one_operand x.now) d.now false kind }
 {
     Form::Compute {
         sources: Operands {
@@ -95,7 +95,7 @@ fn from_one(x: &Operand, d: &Operand, kind: Option<FlagKind>) -> Form
 
 /// An operation on two operands, with its destination.
 fn from_two(x: &Operand, y: &Operand, d: &Operand, kind: Option<FlagKind>) -> Form
-    ensures { result ≡ Form.Compute (two x.now y.now) d.now false kind }
+    ensures { result ≡ Form.Compute (two_operands x.now y.now) d.now false kind }
 {
     Form::Compute {
         sources: Operands {
@@ -110,7 +110,7 @@ fn from_two(x: &Operand, y: &Operand, d: &Operand, kind: Option<FlagKind>) -> Fo
 
 /// A product of EAX and an operand, which goes to EAX and EDX.
 fn product(x: &Operand) -> Form
-    ensures { result ≡ Form.Compute (two (Operand.R Reg.Eax) x.now) (Operand.R Reg.Eax) true (Some FlagKind.Lost) }
+    ensures { result ≡ Form.Compute (two_operands (Operand.R Reg.Eax) x.now) (Operand.R Reg.Eax) true (Some FlagKind.Lost) }
 {
     Form::Compute {
         sources: Operands {
@@ -125,7 +125,7 @@ fn product(x: &Operand) -> Form
 
 /// A quotient of EDX and EAX by an operand, which goes to EAX and EDX.
 fn quotient(x: &Operand) -> Form
-    ensures { result ≡ Form.Compute (three (Operand.R Reg.Eax) (Operand.R Reg.Edx) x.now) (Operand.R Reg.Eax) true (Some FlagKind.Lost) }
+    ensures { result ≡ Form.Compute (three_operands (Operand.R Reg.Eax) (Operand.R Reg.Edx) x.now) (Operand.R Reg.Eax) true (Some FlagKind.Lost) }
 {
     Form::Compute {
         sources: Operands {

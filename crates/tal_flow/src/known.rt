@@ -3,11 +3,12 @@
 ghost use Rattle.std.specs.Prelude.{◌≡◌, ◌<◌, ◌≤◌, ℕ, ◌+◌, ◌∷◌, ◌&&◌, ◌||◌, false, true, length, drop, slice_set, slice_index_or, slice_get, unwrap_or};
 ghost use Rattle.ia32_code.specs.OperandForms.{number};
 ghost use Rattle.tal_types.specs.Contexts.{same};
-ghost use Rattle.tal_types.specs.Kept.{type_at, pair_in, live_of};
+ghost use Rattle.tal_types.specs.Kept.{kept_type, pair_in, live_of};
 ghost use Rattle.tal_flow.specs.Afterwards.{kind_without, without, write, with_kind, with_slots, add_head, after_call, pop_to};
 ghost use Rattle.tal_flow.specs.Edges.{refine_reg, add_pair};
 
 use ia32_code::Reg;
+use tal_types::laws::type_laws;
 use tal_types::{Context, FlagKind, Ty, same};
 
 /// For each register the pairs that do not name it: the bits of all others.
@@ -49,6 +50,7 @@ pub(crate) fn has_pair(bits: u64, r: Reg, q: Reg) -> bool
 fn with_pair(bits: u64, r: Reg, q: Reg) -> u64
     ensures { (i a : Reg) → pair_in result i a ≡ (same i r && same a q || pair_in bits i a) }
 {
+    type_laws();
     bits | 1 << (8 * number(r) + number(q))
 }
 
@@ -56,6 +58,7 @@ fn with_pair(bits: u64, r: Reg, q: Reg) -> u64
 fn without(bits: u64, r: Reg) -> u64
     ensures { (i a : Reg) → pair_in result i a ≡ without r (pair_in bits) i a }
 {
+    type_laws();
     bits & KEPT[number(r)]
 }
 
@@ -206,6 +209,7 @@ pub(crate) fn after_call(context: &mut Context, t: Ty)
     ensures known { live_of context.new ≡ after_call t (live_of context.old) }
     ensures dead { context.new.dead ≡ context.old.dead }
 {
+    type_laws();
     context.regs = [
         t,
         Ty::Junk,

@@ -25,7 +25,7 @@ mod rules;
 mod seen;
 mod trials;
 
-pub use calls::is_entry;
+pub use calls::{entry_number, is_entry};
 pub use edges::{Edges, Rule};
 pub use flowing::{flow, pass};
 pub use places::{Place, place_of};

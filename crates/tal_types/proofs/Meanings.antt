@@ -9,7 +9,7 @@ use Rattle.tal_types.specs.declared.types.Ty.TheVariants.{Num, Junk}
 use Rattle.tal_types.specs.declared.types.FlagKind.TheVariants.{Lost}
 use Rattle.tal_types.specs.declared.contexts.Context.{Context}
 use Rattle.tal_types.specs.Contexts.{LiveContext, Dead, Live, register_type, plain}
-use Rattle.tal_types.specs.Kept.{type_at, pair_in, live_of, context_of}
+use Rattle.tal_types.specs.Kept.{kept_type, pair_in, live_of, context_of}
 
 -- What a context that is kept means.
 
@@ -19,26 +19,21 @@ get_or-replicate_same zero k x = refl
 get_or-replicate_same (suc n) zero x = refl
 get_or-replicate_same (suc n) (suc k) x = get_or-replicate_same n k x
 
--- two live contexts that read alike are equal
-pub same_live : (a b : LiveContext) → ((r : Reg) → a.regs r ≡ b.regs r) → a.slots ≡ b.slots → a.kind ≡ b.kind → ((i r : Reg) → a.pairs i r ≡ b.pairs i r)
-    → ((t r : Reg) → a.heads t r ≡ b.heads t r) → a ≡ b
-same_live a b f g h k l = λ i. record { regs = λ r. f r i; slots = g i; kind = h i; pairs = λ x y. k x y i; heads = λ x y. l x y i }
-
 -- the eight types of seven registers, with Junk for ESP
 abbrev pub eight : List Ty → List Ty
 eight types = get_or types 0 Num ∷ get_or types 1 Num ∷ get_or types 2 Num ∷ get_or types 3 Num ∷ Junk ∷ get_or types 4 Num ∷ get_or types 5 Num ∷ get_or types 6 Num ∷ []
 
 -- the type of a register among the eight is that among the seven
-type_at-eight : (types : List Ty) → length types ≡ 7 → (r : Reg) → type_at (eight types) r ≡ register_type types r
-unfolding type_at register_type
-type_at-eight types l Eax = get_or_default types 0 Num Junk (omega arith)
-type_at-eight types l Ecx = get_or_default types 1 Num Junk (omega arith)
-type_at-eight types l Edx = get_or_default types 2 Num Junk (omega arith)
-type_at-eight types l Ebx = get_or_default types 3 Num Junk (omega arith)
-type_at-eight types l Esp = refl
-type_at-eight types l Ebp = get_or_default types 4 Num Junk (omega arith)
-type_at-eight types l Esi = get_or_default types 5 Num Junk (omega arith)
-type_at-eight types l Edi = get_or_default types 6 Num Junk (omega arith)
+kept_type-eight : (types : List Ty) → length types ≡ 7 → (r : Reg) → kept_type (eight types) r ≡ register_type types r
+unfolding kept_type register_type
+kept_type-eight types l Eax = get_or_default types 0 Num Junk (omega arith)
+kept_type-eight types l Ecx = get_or_default types 1 Num Junk (omega arith)
+kept_type-eight types l Edx = get_or_default types 2 Num Junk (omega arith)
+kept_type-eight types l Ebx = get_or_default types 3 Num Junk (omega arith)
+kept_type-eight types l Esp = refl
+kept_type-eight types l Ebp = get_or_default types 4 Num Junk (omega arith)
+kept_type-eight types l Esi = get_or_default types 5 Num Junk (omega arith)
+kept_type-eight types l Edi = get_or_default types 6 Num Junk (omega arith)
 
 -- the number 0 has no pair
 pub pair_in-zero : (r q : Reg) → pair_in 0 r q ≡ false
@@ -51,12 +46,13 @@ pub context_of-plain : (c : Context) (types slots : List Ty) → c.dead ≡ fals
 unfolding context_of live_of plain
 context_of-plain c types slots alive seven regs slots_are kind pairs heads =
     ap (λ b. if b then Dead else Live (live_of c)) alive
-    ∙ ap Live (same_live _ _
-    (λ r. ap (λ xs. type_at xs r) regs ∙ type_at-eight types seven r)
-    slots_are
-    kind
-    (λ i r. ap (λ n. pair_in n i r) pairs ∙ pair_in-zero i r)
-    (λ t r. ap (λ n. pair_in n t r) heads ∙ pair_in-zero t r))
+    ∙ ap Live (λ i. record {
+      regs = λ r. (ap (λ xs. kept_type xs r) regs ∙ kept_type-eight types seven r) i;
+      slots = slots_are i;
+      kind = kind i;
+      pairs = λ r q. (ap (λ n. pair_in n r q) pairs ∙ pair_in-zero r q) i;
+      heads = λ t r. (ap (λ n. pair_in n t r) heads ∙ pair_in-zero t r) i;
+    })
 
 -- one more slot is filled in
 pub filled-more : (all slots : List Ty) (i : ℕ) → length all ≡ 64 → i < 64 → i < length slots → take i all ≡ take i slots

@@ -11,7 +11,7 @@ use Rattle.tal_types.specs.declared.types.Ty.{Ty}
 use Rattle.tal_types.specs.declared.types.Ty.TheVariants.{Junk}
 use Rattle.tal_types.specs.Types.{sub}
 use Rattle.tal_types.specs.Contexts.{every, has_all, all_sub}
-use Rattle.tal_types.specs.Kept.{type_at, pair_in}
+use Rattle.tal_types.specs.Kept.{kept_type, pair_in}
 use Rattle.tal_types.proofs.Orders.{every-all, every-from, has_all-told, has_all-from, all_sub-told, all_sub-from}
 
 -- Registers by their numbers, and sets of pairs of them by bits.
@@ -46,8 +46,8 @@ at_place s a b l m h k d e i =
     (subst (λ j. sub s (get_or a j Junk) (get_or b j Junk) ≡ true) n here)
 
 -- two lists of eight types are below each other where each register's is
-pub all_sub-registers : (s : ShapesView) (a b : List Ty) → length a ≡ 8 → length b ≡ 8 → all_sub s a b ≡ every (λ r. sub s (type_at a r) (type_at b r))
-unfolding type_at
+pub all_sub-registers : (s : ShapesView) (a b : List Ty) → length a ≡ 8 → length b ≡ 8 → all_sub s a b ≡ every (λ r. sub s (kept_type a r) (kept_type b r))
+unfolding kept_type
 all_sub-registers s a b l m = same_tests _ _
     (λ e. every-from (λ r. sub s (get_or a (number r) Junk) (get_or b (number r) Junk))
     (λ r. all_sub-told s a b e (number r) Junk Junk (omega (arith, number-below r))))

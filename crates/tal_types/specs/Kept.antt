@@ -10,8 +10,8 @@ use Rattle.tal_types.specs.Contexts.{LiveContext, ContextView, Dead, Live}
 -- What a `Context` means.
 
 -- the type of a register among those of all eight
-abbrev pub type_at : List Ty → Reg → Ty
-type_at types r = slice_index_or types (number r) Junk
+abbrev pub kept_type : List Ty → Reg → Ty
+kept_type types r = slice_index_or types (number r) Junk
 
 -- whether (r, q) is in a set of pairs of registers: it is bit 8r + q
 unfoldable pub pair_in : ℕ → Reg → Reg → Bool
@@ -20,7 +20,7 @@ pair_in bits r q = bit_at bits (8 * number r + number q) == 1
 -- what is known in a context that is not dead
 abbrev pub live_of : Context → LiveContext
 live_of c = record {
-  regs = type_at c.regs;
+  regs = kept_type c.regs;
   slots = take c.depth c.slots;
   kind = c.kind;
   pairs = pair_in c.pairs;

@@ -1,6 +1,6 @@
 ghost use Rattle.std.specs.Prelude.{◌≡◌};
 ghost use Rattle.tal_types.specs.Contexts.{same, kind_below, all_sub, every, has_all, context_below, register_type, plain};
-ghost use Rattle.tal_types.specs.Kept.{type_at, pair_in, live_of, context_of};
+ghost use Rattle.tal_types.specs.Kept.{kept_type, pair_in, live_of, context_of};
 ghost use Rattle.tal_types.specs.Types.{sub, within};
 
 use crate::contexts::{Annotation, Context};
@@ -82,7 +82,7 @@ fn kind_below(kind: FlagKind, other: FlagKind) -> bool
 
 /// Whether the types of the first registers are below those of the second.
 fn registers_below(shapes: &Shapes, a: &[Ty; 8], b: &[Ty; 8]) -> bool
-    ensures { result ≡ every (λ r. sub shapes.now (type_at a.now r) (type_at b.now r)) }
+    ensures { result ≡ every (λ r. sub shapes.now (kept_type a.now r) (kept_type b.now r)) }
 {
     all_sub(shapes, a, b)
 }

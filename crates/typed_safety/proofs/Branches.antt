@@ -14,7 +14,7 @@ use Rattle.tal_types.specs.declared.types.FlagKind.{FlagKind}
 use Rattle.tal_types.specs.declared.types.FlagKind.TheVariants as kind
 use Rattle.tal_types.specs.Types.{within}
 use Rattle.tal_types.specs.Contexts.{LiveContext, ContextView, Dead, Live, same}
-use Rattle.tal_types.proofs.Orders.{same-true}
+use Rattle.tal_types.specs.Laws.{TypeLaws}
 use Rattle.tal_flow.specs.declared.forms.Form.TheVariants.{Jump, Branch}
 use Rattle.tal_flow.specs.declared.edges.Told.{Told}
 use Rattle.tal_flow.specs.declared.edges.Told.TheVariants as told
@@ -56,7 +56,7 @@ branch-agrees a f e = grind arith
 fall-agrees : (a : Cond) (f : FlagBits) → holds a f ≡ false → FlagsAgree (told_by_fall a) f
 fall-agrees a f e = grind arith
 
-module _ (l : Scope) (result : Ty) (c : LiveContext) (s : State) (h : StateFits l result c s) where
+module _ (types : TypeLaws) (l : Scope) (result : Ty) (c : LiveContext) (s : State) (h : StateFits l result c s) where
   -- a register has another type, too
   refine_reg-fits : (r : Reg) (t : Ty) → fits_in l (s.thread.regs r) t ≡ true → StateFits l result (refine_reg r t c) s
   unfolding refine_reg
@@ -71,7 +71,7 @@ module _ (l : Scope) (result : Ty) (c : LiveContext) (s : State) (h : StateFits 
   })
     where
       typed : (q : Reg) (b : Bool) → same q r ≡ b → fits_in l (s.thread.regs q) (if same q r then t else c.regs q) ≡ true
-      typed q true f = rw (f, same-true q r f) e
+      typed q true f = rw (f, types.same_told q r f) e
       typed q false f = rw f (h.thread.regs q)
 
   -- a register is below the length of an array, too
@@ -79,7 +79,7 @@ module _ (l : Scope) (result : Ty) (c : LiveContext) (s : State) (h : StateFits 
   unfolding add_pair
   add_pair-fits i a is = thread-fits l result c _ s h (record {
     regs = h.thread.regs;
-    pairs = also-related (λ j b. IsPair l.shapes (s.thread.regs j) (s.thread.regs b)) c.pairs i a is h.thread.pairs;
+    pairs = also-related types (λ j b. IsPair l.shapes (s.thread.regs j) (s.thread.regs b)) c.pairs i a is h.thread.pairs;
     heads = h.thread.heads;
     conditions = h.thread.conditions;
     told = h.thread.told;
@@ -154,13 +154,13 @@ module _ (image : ImageParts) (live : ℕ → Bool) (laws : ImageLaws image) (s 
       → TypedAmong image live (at_place to s)
   way-typed Dead to h f = absurd h
   way-typed (Live d) to h f =
-      arrives-typed image live _ laws.classes s.thread.place d t.thread.sig (at_place to s) (f d refl) t.thread.function (place-fits (scope_of image live s) t.thread.sig.result d s to h)
+      arrives-typed image live _ laws s.thread.place d t.thread.sig (at_place to s) (f d refl) t.thread.function (place-fits (scope_of image live s) t.thread.sig.result d s to h)
 
   -- what an edge tells is known where it goes
   told-typed : (k : Told) (to : ℕ) → FlagsAgree k s.thread.flags
       → ((d : LiveContext) → refine (shown image).shapes t.thread.context t.thread.context.kind k ≡ Live d → Arrives image s.thread.place to (Live d)) → TypedAmong image live (at_place to s)
   told-typed k to agrees f =
-      way-typed _ to (refine-fits (scope_of image live s) t.thread.sig.result t.thread.context s (typed-fits image live s t) laws.classes t.thread.context.kind k t.thread.told agrees) f
+      way-typed _ to (refine-fits laws.types (scope_of image live s) t.thread.sig.result t.thread.context s (typed-fits image live s t) laws.classes t.thread.context.kind k t.thread.told agrees) f
 
   -- JMP
   pub jump-typed : (to : ℕ) → FormTyped image live s t i len next (Jump to)

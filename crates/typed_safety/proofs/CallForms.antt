@@ -15,7 +15,7 @@ use Rattle.tal_types.specs.declared.types.FlagKind.TheVariants as kind
 use Rattle.tal_types.specs.declared.signatures.Sig.{Sig}
 use Rattle.tal_types.specs.Types.{sub}
 use Rattle.tal_types.specs.Contexts.{LiveContext, Live, LiveBelow, ContextBelow, same, register_type, kind_below, plain, entry}
-use Rattle.tal_types.proofs.Orders.{every-all, every-from, all_sub-refl}
+use Rattle.tal_types.specs.Laws.{TypeLaws}
 use Rattle.tal_flow.specs.declared.calls.Arguments.{Arguments}
 use Rattle.tal_flow.specs.declared.calls.Called.{Called}
 use Rattle.tal_flow.specs.declared.calls.Called.TheVariants.{Misfit, Gives}
@@ -40,7 +40,7 @@ use Rattle.typed_machine.specs.Typing.{TypedAmong, scope_of}
 use Rattle.typed_safety.specs.Laws.{ImageLaws, EffectTyped}
 use Rattle.typed_safety.proofs.Values.{fits-sub, fits-junk, fits-all, num-number}
 use Rattle.typed_safety.proofs.Frames.{ValueFits, frames-sub}
-use Rattle.typed_safety.proofs.Fitted.{StateFits, typed-fits, fits-typed, kind_below-told}
+use Rattle.typed_safety.proofs.Fitted.{StateFits, typed-fits, fits-typed, lost-told}
 use Rattle.typed_safety.proofs.Reading.{operand-read}
 use Rattle.typed_safety.proofs.StackForms.{room-more}
 use Rattle.typed_safety.proofs.Standing.{FormTyped, above-live, arrives-signature}
@@ -84,7 +84,7 @@ module _ (image : ImageParts) (live : ℕ → Bool) (laws : ImageLaws image) (s 
           pairs = λ i a known. absurd (let x = below.pairs i a known in cc);
           heads = λ i a known. absurd (let x = below.heads i a known in cc);
           conditions = λ a allowed. absurd (lost-allows c.kind a below.kind allowed);
-          told = kind_below-told (scope_of image live s) (at_place place (with_values vs s)).thread kind.Lost c.kind below.kind tt;
+          told = lost-told (scope_of image live s) (at_place place (with_values vs s)).thread c.kind below.kind;
           frames = frames;
           room = room;
         };
@@ -182,11 +182,11 @@ back-regs s t c d h Eax = h Eax
 back-regs s t c d h r = h r
 
 -- what is known where a call returns to is what the callee promises
-back-below : (s : ShapesView) (t : Ty) (c d : LiveContext) → LiveBelow s (after_call t c) d → ContextBelow s (Back t d.slots) (Live d)
+back-below : TypeLaws → (s : ShapesView) (t : Ty) (c d : LiveContext) → LiveBelow s (after_call t c) d → ContextBelow s (Back t d.slots) (Live d)
 unfolding Back plain after_call
-back-below s t c d h = record {
+back-below types s t c d h = record {
   regs = back-regs s t c d h.regs;
-  slots = all_sub-refl s d.slots;
+  slots = types.lists_reflexive s d.slots;
   kind = h.kind;
   pairs = h.pairs;
   heads = h.heads;
@@ -208,7 +208,7 @@ module _ (image : ImageParts) (live : ℕ → Bool) (runs : RunsOn image) (laws 
         sig = t.thread.sig;
         here = above.1;
         function = arrives-signature image s.thread.place next (Live (after_call u t.thread.context)) t.thread.sig a t.thread.function;
-        below = back-below (shown image).shapes u t.thread.context above.0 above.2;
+        below = back-below laws.types (shown image).shapes u t.thread.context above.0 above.2;
         frames = frames-sub (scope_of image live s) t.thread.sig.result laws.classes t.thread.context.slots above.0.slots s.values above.2.slots t.thread.frames;
         room = t.thread.room;
       }
@@ -226,12 +226,12 @@ module _ (image : ImageParts) (live : ℕ → Bool) (runs : RunsOn image) (laws 
   unfolding arguments_fit
   parameters-fit sig e r =
       fits-sub (shown image) live _ laws.classes (s.thread.regs r) (t.thread.context.regs r) (register_type sig.params r) (t.thread.regs r)
-      (every-all (λ q. sub (shown image).shapes (t.thread.context.regs q) (register_type sig.params q)) r e)
+      (laws.types.every_told (λ q. sub (shown image).shapes (t.thread.context.regs q) (register_type sig.params q)) r e)
 
   -- and the machine's own test holds
   parameters-tested : (sig : Sig) → ((r : Reg) → fits_in (scope_of image live s) (s.thread.regs r) (register_type sig.params r) ≡ true) → effect.arguments_fit (shown image) s sig ≡ true
   unfolding effect.arguments_fit
-  parameters-tested sig h = every-from _ (λ r. fits-all (shown image) live _ (s.thread.regs r) (register_type sig.params r) (h r))
+  parameters-tested sig h = laws.types.every_tells _ (λ r. fits-all (shown image) live _ (s.thread.regs r) (register_type sig.params r) (h r))
 
   -- a function that is entered is typed at its first instruction
   enters-typed : (to : ℕ) (sig : Sig) → BeginsFunction image to sig → ((r : Reg) → fits_in (scope_of image live s) (s.thread.regs r) (register_type sig.params r) ≡ true)

@@ -13,7 +13,7 @@ use Rattle.tal_flow.specs.declared.places.Place.TheVariants.{Display}
 use Rattle.tal_flow.specs.Forms.{form_of}
 use Rattle.tal_flow.specs.Places.{found, operand_place}
 use Rattle.tal_flow.specs.Rules.{operand_rule}
-use Rattle.tal_flow.specs.Strongest.{Placed}
+use Rattle.tal_flow.specs.Strongest.{PlacedInst}
 use Rattle.tal_image.specs.Image.{ImageParts}
 use Rattle.tal_image.specs.Shown.{shown}
 use Rattle.tal_checker.specs.Running.{RunsOn, instruction_in}
@@ -48,7 +48,7 @@ module _ (image : ImageParts) (live : ℕ → Bool) (runs : RunsOn image) (laws 
       (and_parts (is_some (place_of (scope_of image live s) t.thread.context a)) (found (resolved (scope_of image live s) t.thread.context s y)) parts.1).0
 
   -- the word of a display that CMP names
-  pub display-words : (x : Placed) → instruction_in image s.thread.place ≡ Some x → (a : Mem) (y : Operand) → x.inst ≡ inst.Alu alu.Cmp (M a) y
+  pub display-words : (x : PlacedInst) → instruction_in image s.thread.place ≡ Some x → (a : Mem) (y : Operand) → x.inst ≡ inst.Alu alu.Cmp (M a) y
       → (c d : ℕ) → spot_of (shown image).shapes s a ≡ Some (AtDisplay c d) → (w : ℕ) × (spot_word (shown image).shapes s (AtDisplay c d) ≡ Some w)
   unfolding form_of
   display-words x here a y is c d spot =

@@ -9,7 +9,7 @@ use Rattle.ia32_code.specs.declared.instruction.Operand.{Operand}
 use Rattle.ia32_code.specs.declared.instruction.Operand.TheVariants.{R, M, I}
 use Rattle.ia32_code.specs.declared.instruction.Inst.TheVariants as inst
 use Rattle.stack_states.specs.declared.flag_bits.FlagBits.{FlagBits}
-use Rattle.ia32_step.specs.Effects.{done}
+use Rattle.ia32_step.specs.Effects.{executed}
 use Rattle.tal_types.specs.declared.types.Ty.{Ty}
 use Rattle.tal_types.specs.declared.types.Ty.TheVariants as ty
 use Rattle.tal_types.specs.declared.types.FlagKind.{FlagKind}
@@ -93,7 +93,7 @@ FlagsTell l s f (Some known) k = ((a : Cond) → allows k a ≡ true → is_know
 
 -- the flags of CMP
 abbrev pub compared : ShownImage → State → Operand → Operand → FlagBits
-compared v s d x = (done (inst.Alu alu.Cmp d x) (words_of s (word_among v s (d ∷ x ∷ [])))).flags
+compared v s d x = (executed (inst.Alu alu.Cmp d x) (words_of s (word_among v s (d ∷ x ∷ [])))).flags
 
 -- what CMP knows of its operands
 abbrev pub known_by_compare : Scope → State → Operand → Operand → Option Known

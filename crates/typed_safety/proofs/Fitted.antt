@@ -6,9 +6,10 @@ use Rattle.ia32_code.specs.declared.instruction.Cond.{Cond}
 use Rattle.object_layout.specs.Laws.{ClassLaws}
 use Rattle.tal_types.specs.declared.types.Ty.{Ty}
 use Rattle.tal_types.specs.declared.types.FlagKind.{FlagKind}
+use Rattle.tal_types.specs.declared.types.FlagKind.TheVariants.{Lost}
 use Rattle.tal_types.specs.declared.signatures.Sig.{Sig}
 use Rattle.tal_types.specs.Contexts.{LiveContext, Live, LiveBelow, kind_below, same}
-use Rattle.tal_types.proofs.Orders.{same-cases, same-true}
+use Rattle.tal_types.specs.Laws.{TypeLaws}
 use Rattle.tal_flow.specs.Edges.{allows}
 use Rattle.tal_image.specs.Image.{ImageParts}
 use Rattle.tal_image.specs.Shown.{shown}
@@ -109,20 +110,25 @@ unfolding allows kind_below
 kind_below-allows j k a e h = grind arith
 
 -- what a kind tells, a higher one tells
-pub kind_below-told : (l : Scope) (t : Thread) (j k : FlagKind) → kind_below j k ≡ true → KindTold l t j → KindTold l t k
+kind_below-told : TypeLaws → (l : Scope) (t : Thread) (j k : FlagKind) → kind_below j k ≡ true → KindTold l t j → KindTold l t k
 unfolding kind_below
-kind_below-told l t j k e h = grind (arith, nat_tests, same-cases)
+kind_below-told types l t j k e h = grind (arith, nat_tests, types.same_or_not)
+
+-- a kind above the lost one tells nothing
+pub lost-told : (l : Scope) (t : Thread) (k : FlagKind) → kind_below Lost k ≡ true → KindTold l t k
+unfolding kind_below
+lost-told l t k e = grind arith
 
 -- a state that fits a context fits each one above it
-pub context-above : (l : Scope) (result : Ty) → ClassLaws (rows l) → (c d : LiveContext) (s : State) → LiveBelow (rows l) c d
+pub context-above : TypeLaws → (l : Scope) (result : Ty) → ClassLaws (rows l) → (c d : LiveContext) (s : State) → LiveBelow (rows l) c d
     → StateFits l result c s → StateFits l result d s
-context-above l result laws c d s e h = record {
+context-above types l result laws c d s e h = record {
   thread = record {
     regs = λ r. fits-sub (shown l.image) l.live l.shapes laws _ _ _ (h.thread.regs r) (e.regs r);
     pairs = λ i a known. h.thread.pairs i a (e.pairs i a known);
     heads = λ t r known. h.thread.heads t r (e.heads t r known);
     conditions = λ a allowed. h.thread.conditions a (kind_below-allows c.kind d.kind a e.kind allowed);
-    told = kind_below-told l s.thread c.kind d.kind e.kind h.thread.told;
+    told = kind_below-told types l s.thread c.kind d.kind e.kind h.thread.told;
     frames = frames-sub l result laws c.slots d.slots s.values e.slots h.thread.frames;
     room = h.thread.room;
   };
@@ -157,11 +163,11 @@ pub thread-fits : (l : Scope) (result : Ty) (c d : LiveContext) (s : State) → 
 thread-fits l result c d s h known = record { thread = known; table = h.table; statics = h.statics; store = h.store }
 
 -- what holds of two registers and of those that are related holds where the two are related, too
-pub also-related : (P : Reg → Reg → Type 0) (related : Reg → Reg → Bool) (r q : Reg) → P r q → ((i a : Reg) → related i a ≡ true → P i a)
+pub also-related : TypeLaws → (P : Reg → Reg → Type 0) (related : Reg → Reg → Bool) (r q : Reg) → P r q → ((i a : Reg) → related i a ≡ true → P i a)
     → (i a : Reg) → (same i r && same a q) || related i a ≡ true → P i a
-also-related P related r q is known i a = go (same i r) refl (same a q) refl
+also-related types P related r q is known i a = go (same i r) refl (same a q) refl
   where
     go : (x : Bool) → same i r ≡ x → (y : Bool) → same a q ≡ y → (x && y) || related i a ≡ true → P i a
-    go true e true f h = rw (same-true i r e, same-true a q f) is
+    go true e true f h = rw (types.same_told i r e, types.same_told a q f) is
     go true e false f h = known i a h
     go false e y f h = known i a h

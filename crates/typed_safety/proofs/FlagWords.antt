@@ -16,7 +16,6 @@ use Rattle.ia32_step.specs.Sums.{sub_of, and_of}
 use Rattle.object_layout.specs.Areas.{table_address}
 use Rattle.object_layout.specs.Classes.{ShapesView, lineage, Depth, Below, table_word}
 use Rattle.object_layout.specs.Laws.{ClassLaws}
-use Rattle.object_layout.proofs.Tables.{display-word, table_word-at}
 use Rattle.tal_types.specs.declared.types.Ty.{Ty}
 use Rattle.tal_types.specs.declared.signatures.Sig.{Sig}
 use Rattle.tal_types.specs.Contexts.{same}
@@ -193,11 +192,8 @@ pub display-there : (s : ShapesView) → ClassLaws s → (c k : ℕ) → c < len
 unfolding Depth
 display-there s laws c k there h = (get_or (map table_address (lineage s c)) k 0, read, small)
   where
-    few : length (lineage s c) ≤ 8
-    few = let shallow = laws.shallow c there in omega arith
-
     read : table_word s c (3 + k) ≡ Some (get_or (map table_address (lineage s c)) k 0)
-    read = table_word-at s c (3 + k) _ there few (laws.few_methods c there) (omega arith) (display-word s c k few (omega arith))
+    read = laws.display_words c k there (omega arith)
 
     small : get_or (map table_address (lineage s c)) k 0 < 2 ^ 32
     small = ⊎_elim

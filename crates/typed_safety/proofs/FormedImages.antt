@@ -14,8 +14,9 @@ use Rattle.object_layout.specs.Laws.{ClassLaws}
 use Rattle.tal_types.specs.declared.types.Ty.TheVariants as ty
 use Rattle.tal_types.specs.declared.views.Span.{Span}
 use Rattle.tal_types.specs.declared.views.Mark.{Mark}
+use Rattle.tal_types.specs.Laws.{TypeLaws}
 use Rattle.tal_flow.specs.Places.{mark_type}
-use Rattle.tal_flow.specs.Strongest.{Placed, placed_at}
+use Rattle.tal_flow.specs.Strongest.{PlacedInst, placed_at}
 use Rattle.tal_image.specs.declared.parts.FunctionPart.{FunctionPart}
 use Rattle.tal_image.specs.declared.parts.MarkPart.{MarkPart}
 use Rattle.tal_image.specs.declared.parts.ArrayPart.{ArrayPart}
@@ -27,9 +28,7 @@ use Rattle.tal_image.specs.Laws.{FormedShapes}
 use Rattle.tal_image.specs.Shown.{shown, shapes_of, spans, begun_by, mark_in, data_row_in}
 use Rattle.tal_checker.specs.Instructions.{instructions}
 use Rattle.tal_checker.specs.Running.{instruction_in}
-use Rattle.tal_checker.proofs.SpelledCode.{AreTexts, SpellingLength, spelled-text, placed_spelled, placed-code}
-use Rattle.tal_checker.proofs.FunctionSpans.{numbered}
-use Rattle.tal_checker.proofs.FormedCode.{HasCode, has_code}
+use Rattle.tal_checker.specs.Laws.{CodeLaws}
 use Rattle.typed_machine.specs.Values.{Number, Null, Ref, Code, Tab, Desc, ArrayOf, Word, fits_among}
 use Rattle.typed_machine.specs.Stores.{Object, Store, shapes_in, places_in}
 use Rattle.typed_machine.specs.Operands.{marked_value}
@@ -63,7 +62,7 @@ row-spanned a (f ∷ fs) zero s d e = let same : record { start = a; end = a + f
 row-spanned a (f ∷ fs) (suc n) s d e = row-spanned (a + f.length) fs n s d e
 
 -- the function of a method begins at its address
-methods-begin : (image : ImageParts) → Formed image → HasCode image → (c m f : ℕ) → slice_get (Methods (shown image).shapes c) m ≡ Some f
+methods-begin : (image : ImageParts) (formed : Formed image) → CodeLaws image formed → (c m f : ℕ) → slice_get (Methods (shown image).shapes c) m ≡ Some f
     → (shown image).function_at (fun_row (shown image).shapes f).address ≡ Some (fun_row (shown image).shapes f).sig
 unfolding shown shapes_of Methods fun_row
 methods-begin image formed code c m f e = go (slice_get image.classes c) refl e
@@ -71,7 +70,7 @@ methods-begin image formed code c m f e = go (slice_get image.classes c) refl e
     function : (row : FunctionPart) → slice_get image.functions f ≡ Some row
         → begun_by (fun_row (shown image).shapes f).address (spans code_start image.functions) ≡ Some (fun_row (shown image).shapes f).sig
     function row h =
-        let n = numbered image.functions code_start (length image.sigs) f row code.functions h in
+        let n = code.functions f row h in
         let r = row-spanned code_start image.functions f n.0 (record { sig = 0; address = 0 }) n.1 in
         rw (r.0, r.1) n.3
 
@@ -209,80 +208,33 @@ module _ (image : ImageParts) (laws : ClassLaws (shown image).shapes) (live : �
 
 -- ---- the laws
 
--- the instruction that begins at an offset of the code is the one at its address
-begun-inst : (code : List Spelled) (pc offset : ℕ) (x : Placed) (i : Inst) → AreTexts code → begins_at offset code ≡ Some i → placed_at (placed_spelled pc code) (pc + offset) ≡ Some x → x.inst ≡ i
-unfolding begins_at placed_at
-begun-inst [] pc offset x i h e f = absurd (cc)
-begun-inst (t ∷ more) pc offset x i h e f =
-    go (offset == 0) refl (nat_lt offset (length t.text)) refl e (pc == (pc + offset)) refl f
-    (λ k m. begun-inst more (pc + length t.text) (offset - length t.text) x i h.1 k m)
+-- the number of the instruction at a mark
+number-there : (image : ImageParts) (formed : Formed image) → CodeLaws image formed → (pc n : ℕ) (x : PlacedInst) (mark : Mark) → (m : MarkAt image (all_instructions formed.bodies) pc mark)
+    → instruction_in image pc ≡ Some x → marked_number x.inst ≡ Some n → n ≡ m.number
+unfolding marked_number_at
+number-there image formed laws pc n x mark m here is = go (begins_at m.offset (all_instructions formed.bodies)) refl m.is_number
   where
-    go : (a : Bool) → (offset == 0) ≡ a → (b : Bool) → nat_lt offset (length t.text) ≡ b → (if a then Some t.means else if b then None else begins_at (offset - length t.text) more) ≡ Some i
-        → (d : Bool) → (pc == (pc + offset)) ≡ d
-        → (if d then Some (record { pc = pc; inst = t.means; len = length t.text }) else placed_at (placed_spelled (pc + length t.text) more) (pc + offset)) ≡ Some x
-        → (begins_at (offset - length t.text) more ≡ Some i → placed_at (placed_spelled (pc + length t.text) more) (pc + length t.text + (offset - length t.text)) ≡ Some x → x.inst ≡ i)
-        → x.inst ≡ i
-    go true p b q k true r m later = let same : record { pc = pc; inst = t.means; len = length t.text } ≡ x = cc in let means : t.means ≡ i = cc in ap (λ (y : Placed). y.inst) (sym same) ∙ means
-    go true p b q k false r m later = absurd (grind (arith, nat_tests))
-    go false p true q k d r m later = absurd (cc)
-    go false p false q k true r m later = absurd (grind (arith, nat_tests))
-    go false p false q k false r m later =
-        let on : pc + length t.text + (offset - length t.text) ≡ pc + offset = let far : length t.text ≤ offset = grind (arith, nat_tests) in omega arith in
-        later k (rw on m)
-
--- texts after others
-texts-after : (a b : List Spelled) → AreTexts a → AreTexts b → AreTexts (a ++ b)
-texts-after [] b h k = k
-texts-after (t ∷ a) b h k = (h.0, texts-after a b h.1 k)
-
-module _ (front : FrontLaw) (long : SpellingLength) where
-  -- the instructions of a function
-  body-texts : (body : List Spelled) (room : ℕ) → IsBody room body → AreTexts body
-  body-texts [] room h = tt
-  body-texts (t ∷ more) room h = (spelled-text front long t h.1, body-texts more (room - length t.text) h.3)
-
-  -- those of all functions
-  bodies-texts : (fs : List FunctionPart) (bodies : List (List Spelled)) → AreBodies fs bodies → AreTexts (all_instructions bodies)
-  bodies-texts [] [] h = tt
-  bodies-texts [] (body ∷ bodies) h = absurd h
-  bodies-texts (f ∷ fs) [] h = absurd h
-  bodies-texts (f ∷ fs) (body ∷ bodies) h = texts-after body (all_instructions bodies) (body-texts body f.length h.0) (bodies-texts fs bodies h.1)
-
-  -- the number of the instruction at a mark
-  number-there : (image : ImageParts) (formed : Formed image) (pc n : ℕ) (x : Placed) (mark : Mark) → (m : MarkAt image (all_instructions formed.bodies) pc mark) → instruction_in image pc ≡ Some x
-      → marked_number x.inst ≡ Some n → n ≡ m.number
-  unfolding marked_number_at instructions
-  number-there image formed pc n x mark m here is = go (begins_at m.offset code) refl m.is_number
-    where
-      code : List Spelled
-      code = all_instructions formed.bodies
-
-      texts : AreTexts code
-      texts = bodies-texts image.functions formed.bodies formed.condition_23
-
-      at : placed_at (placed_spelled code_start code) (code_start + m.offset) ≡ Some x
-      at = rw (m.address, ← placed-code code code_start texts, ← formed.code) here
-
-      go : (o : Option Inst) → begins_at m.offset code ≡ o → option_map_or marked_number o None ≡ Some m.number → n ≡ m.number
-      go None e f = absurd (cc)
-      go (Some i) e f =
-          let same = begun-inst code code_start m.offset x i texts e at in
-          let number : Some n ≡ Some m.number = sym is ∙ (ap marked_number same ∙ f) in
-          cc
+    go : (o : Option Inst) → begins_at m.offset (all_instructions formed.bodies) ≡ o → option_map_or marked_number o None ≡ Some m.number → n ≡ m.number
+    go None e f = absurd (cc)
+    go (Some i) e f =
+        let same = laws.begun m.offset i x e (rw m.address here) in
+        let number : Some n ≡ Some m.number = sym is ∙ (ap marked_number same ∙ f) in
+        cc
 
 -- what a formed image tells
-pub image_laws : FrontLaw → SpellingLength → FormedShapes → (image : ImageParts) → Formed image → ImageLaws image
+pub image_laws : TypeLaws → ((image : ImageParts) (formed : Formed image) → CodeLaws image formed) → FormedShapes → (image : ImageParts) → Formed image → ImageLaws image
 unfolding shown
-image_laws front long shapes image formed = record {
+image_laws types codes shapes image formed = record {
+  types = types;
   classes = classes;
   methods = methods-begin image formed code;
-  blocks = λ address c e. let x = (code.blocks address c e).0 in rw (code.instructions_are, x.1) refl;
+  blocks = code.blocks;
   marks = λ pc n mark live store e has. let m = at pc mark e in (marked image classes live store has n m.number mark m.is_word).0;
-  words = λ pc n x mark live store here e is has. let m = at pc mark e in (marked image classes live store has n m.number mark m.is_word).1 (number-there front long image formed pc n x mark m here is);
+  words = λ pc n x mark live store here e is has. let m = at pc mark e in (marked image classes live store has n m.number mark m.is_word).1 (number-there image formed code pc n x mark m here is);
 }
   where
-    code : HasCode image
-    code = has_code front long image formed
+    code : CodeLaws image formed
+    code = codes image formed
 
     classes : ClassLaws (shown image).shapes
     classes = shapes image formed

@@ -22,7 +22,7 @@ use Rattle.ia32_code.specs.Spells.{meaning}
 use Rattle.ia32_code.specs.Decoding.{decoded_as, decoded}
 use Rattle.ia32_code.specs.declared.decoding.Decoded.TheVariants.{One}
 use Rattle.ia32_step.specs.Operands.{WordState}
-use Rattle.ia32_step.specs.Effects.{done}
+use Rattle.ia32_step.specs.Effects.{executed}
 use Rattle.tal_types.specs.declared.types.FlagKind.{FlagKind}
 use Rattle.tal_types.specs.declared.types.FlagKind.TheVariants as kind
 use Rattle.tal_flow.specs.declared.forms.Form.{Form}
@@ -70,7 +70,7 @@ WritesSource sources (I n) = Unit {0}
 -- an operation gives a plain kind, or it leaves the flags; and it writes a register or its first source
 pub record OperationTells (i : Inst) (sources : List Operand) (d : Operand) (k : Option FlagKind) : Type 0 where
   pub plain : option_map_or is_plain k true ≡ true
-  pub leaves : k ≡ None → (m : WordState) → (done i m).flags ≡ m.flags
+  pub leaves : k ≡ None → (m : WordState) → (executed i m).flags ≡ m.flags
   pub writes : WritesSource sources d
 
 -- what each form tells; a comparison is CMP's or TEST's
@@ -91,7 +91,7 @@ gives : (i : Inst) (sources : List Operand) (d : Operand) (k : FlagKind) → is_
 gives i sources d k plain writes = record { plain = plain; leaves = λ none. absurd (cc); writes = writes }
 
 -- one that leaves the flags
-keeps : (i : Inst) (sources : List Operand) (d : Operand) → ((m : WordState) → (done i m).flags ≡ m.flags) → WritesSource sources d → OperationTells i sources d None
+keeps : (i : Inst) (sources : List Operand) (d : Operand) → ((m : WordState) → (executed i m).flags ≡ m.flags) → WritesSource sources d → OperationTells i sources d None
 keeps i sources d leaves writes = record { plain = refl; leaves = λ none. leaves; writes = writes }
 
 -- ADD, of which one form drops slots
@@ -107,13 +107,13 @@ lea-tells next (R r) (M m) = tt
 lea-tells next d x = tt
 
 -- NOT leaves the flags
-not-leaves : (d : Operand) (m : WordState) → (done (inst.Not d) m).flags ≡ m.flags
+not-leaves : (d : Operand) (m : WordState) → (executed (inst.Not d) m).flags ≡ m.flags
 not-leaves (R r) m = refl
 not-leaves (M a) m = refl
 not-leaves (I n) m = refl
 
 -- a shift by a multiple of 32 leaves the flags
-shift-leaves : (op : Shift) (d : Operand) (n : ℕ) (m : WordState) → (n % 32 == 0) ≡ true → (done (inst.Shift op d (By n)) m).flags ≡ m.flags
+shift-leaves : (op : Shift) (d : Operand) (n : ℕ) (m : WordState) → (n % 32 == 0) ≡ true → (executed (inst.Shift op d (By n)) m).flags ≡ m.flags
 shift-leaves op d n m e = rw e refl
 
 -- a shift by a number

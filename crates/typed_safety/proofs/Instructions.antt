@@ -15,7 +15,7 @@ use Rattle.tal_flow.specs.Forms.{form_of}
 use Rattle.tal_flow.specs.Afterwards.{after_form}
 use Rattle.tal_flow.specs.Edges.{falling}
 use Rattle.tal_flow.specs.Rules.{operand_rule, next_address}
-use Rattle.tal_flow.specs.Strongest.{Placed, At, at_in, start, placed_at, falls_from}
+use Rattle.tal_flow.specs.Strongest.{PlacedInst, At, at_in, start, placed_at, falls_from}
 use Rattle.tal_image.specs.Image.{ImageParts}
 use Rattle.tal_image.specs.Conditions.{immediate, compared, marked_number}
 use Rattle.tal_image.specs.Shown.{shown}
@@ -46,7 +46,7 @@ module _ (image : ImageParts) (live : ℕ → Bool) (runs : RunsOn image) (laws 
   -- an instruction that falls through
   passing : (form : Form) → falling (shown image) t.thread.context s.thread.place form ≡ Live (after_form (shown image) t.thread.context s.thread.place form)
       → Leads (scope_of image live s) t.thread.sig.result (after_form (shown image) t.thread.context s.thread.place form) next (form_effect image s i len next form) → FormTyped image live s t i len next form
-  passing form falls leads at = leads-typed image live laws.classes s t next _ _ (at.falls _ falls) leads
+  passing form falls leads at = leads-typed image live laws s t next _ _ (at.falls _ falls) leads
 
   -- the words of marks, for an operand of a comparison
   compared-marks : (d x : Operand) → (at : StandsAt image s t.thread.context s.thread.place next i (Compare d x))
@@ -75,7 +75,7 @@ module _ (image : ImageParts) (live : ℕ → Bool) (runs : RunsOn image) (laws 
   form-typed Nothing at = passing _ refl (nothing-leads (scope_of image live s) t.thread.sig.result t.thread.context s fits i len next) at
 
 -- the instruction at the place of a typed state
-pub instruction-typed : (image : ImageParts) → RunsOn image → ImageLaws image → (live : ℕ → Bool) (s : State) → TypedAmong image live s → (x : Placed)
+pub instruction-typed : (image : ImageParts) → RunsOn image → ImageLaws image → (live : ℕ → Bool) (s : State) → TypedAmong image live s → (x : PlacedInst)
     → instruction_in image s.thread.place ≡ Some x → EffectTyped image live s (next_address s.thread.place x.len) (Effect image s x.inst x.len)
 unfolding Effect
 instruction-typed image runs laws live s t x here =
@@ -83,23 +83,23 @@ instruction-typed image runs laws live s t x here =
     (stands-at image runs laws live s t x here)
 
 -- where something is known, an instruction stands
-placed-known : (v : ShownImage) (xs : List Placed) (c : ContextView) (pc : ℕ) (d : LiveContext) → at_in v xs c pc ≡ Live d → (x : Placed) × (placed_at xs pc ≡ Some x)
+placed-known : (v : ShownImage) (xs : List PlacedInst) (c : ContextView) (pc : ℕ) (d : LiveContext) → at_in v xs c pc ≡ Live d → (x : PlacedInst) × (placed_at xs pc ≡ Some x)
 unfolding at_in placed_at
 placed-known v [] c pc d h = absurd (cc)
 placed-known v (x ∷ xs) c pc d h = go (x.pc == pc) (placed-known v xs (falls_from v (start v x.pc c) x) pc d) h
   where
-    go : (b : Bool) → (at_in v xs (falls_from v (start v x.pc c) x) pc ≡ Live d → (y : Placed) × (placed_at xs pc ≡ Some y))
-        → (if b then start v x.pc c else at_in v xs (falls_from v (start v x.pc c) x) pc) ≡ Live d → (y : Placed) × ((if b then Some x else placed_at xs pc) ≡ Some y)
+    go : (b : Bool) → (at_in v xs (falls_from v (start v x.pc c) x) pc ≡ Live d → (y : PlacedInst) × (placed_at xs pc ≡ Some y))
+        → (if b then start v x.pc c else at_in v xs (falls_from v (start v x.pc c) x) pc) ≡ Live d → (y : PlacedInst) × ((if b then Some x else placed_at xs pc) ≡ Some y)
     go true later h = (x, refl)
     go false later h = later h
 
 -- the same for the strongest context of an image
-instruction-known : (image : ImageParts) (pc : ℕ) (d : LiveContext) → strongest_at image pc ≡ Live d → (x : Placed) × (instruction_in image pc ≡ Some x)
+instruction-known : (image : ImageParts) (pc : ℕ) (d : LiveContext) → strongest_at image pc ≡ Live d → (x : PlacedInst) × (instruction_in image pc ≡ Some x)
 unfolding strongest_at At
 instruction-known image pc d h = placed-known (shown image) (instructions image.code) Dead pc d h
 
 -- what stands at an address is what the code spells there
-spelled-there : (image : ImageParts) (place : ℕ) (x : Placed) → IsSpelledAt image place x → inst_at image place ≡ Some (x.inst, x.len)
+spelled-there : (image : ImageParts) (place : ℕ) (x : PlacedInst) → IsSpelledAt image place x → inst_at image place ≡ Some (x.inst, x.len)
 unfolding inst_at
 spelled-there image place x at = let low : nat_le code_start place ≡ true = grind (arith, nat_tests, at.after_start) in rw low (ap (λ a. instruction_of a) at.front)
 

@@ -8,7 +8,7 @@ use Rattle.ia32_code.specs.declared.instruction.Operand.TheVariants.{R, M, I}
 use Rattle.ia32_code.specs.declared.instruction.Inst.{Inst}
 use Rattle.tal_types.specs.declared.types.Ty.{Ty}
 use Rattle.tal_types.specs.Contexts.{LiveContext, same}
-use Rattle.tal_types.proofs.Orders.{same-refl}
+use Rattle.tal_types.specs.Laws.{TypeLaws}
 use Rattle.tal_flow.specs.declared.forms.Form.TheVariants.{Move}
 use Rattle.tal_flow.specs.declared.places.Place.{Place}
 use Rattle.tal_flow.specs.declared.places.Place.TheVariants.{Head}
@@ -31,14 +31,14 @@ use Rattle.typed_safety.proofs.Reading.{operand-read}
 use Rattle.typed_safety.proofs.Writing.{SomeFits, operand-written}
 use Rattle.typed_safety.proofs.Operations.{Leads, FormLeads, written-leads}
 
-module _ (l : Scope) (result : Ty) where
+module _ (types : TypeLaws) (l : Scope) (result : Ty) where
   -- a register holds the table of another's object
   add_head-fits : (c : LiveContext) (s : State) (t r : Reg) → StateFits l result c s → IsHead l.shapes (s.thread.regs t) (s.thread.regs r) → StateFits l result (add_head t r c) s
   unfolding add_head
   add_head-fits c s t r h is = thread-fits l result c _ s h (record {
     regs = h.thread.regs;
     pairs = h.thread.pairs;
-    heads = also-related (λ i a. IsHead l.shapes (s.thread.regs i) (s.thread.regs a)) c.heads t r is h.thread.heads;
+    heads = also-related types (λ i a. IsHead l.shapes (s.thread.regs i) (s.thread.regs a)) c.heads t r is h.thread.heads;
     conditions = h.thread.conditions;
     told = h.thread.told;
     frames = h.thread.frames;
@@ -64,7 +64,7 @@ module _ (l : Scope) (result : Ty) (c : LiveContext) (s : State) (h : StateFits 
     where
       go : (x : Bool) → same b r ≡ x → StateFits l result (if x then write r t c else add_head r b (write r t c)) (with_register r w s)
       go true f = g
-      go false f = add_head-fits l result (write r t c) (with_register r w s) r b g (rw (same-refl r, f) (head-read b i k w e.0 e.1 read))
+      go false f = add_head-fits laws.types l result (write r t c) (with_register r w s) r b g (rw (laws.types.same_reflexive r, f) (head-read b i k w e.0 e.1 read))
   place-noted base r w t (Head b k) q e read g = absurd e
   place-noted base r w t p q e read g = g
 

@@ -14,7 +14,7 @@ use Rattle.stack_states.specs.declared.flag_bits.FlagBits.{FlagBits}
 use Rattle.ia32_step.specs.declared.effect.Effect.{Effect as StepEffect}
 use Rattle.ia32_step.specs.declared.effect.Effect.TheVariants as step
 use Rattle.ia32_step.specs.Operands.{WordState, read_word}
-use Rattle.ia32_step.specs.Effects.{done, effect_of}
+use Rattle.ia32_step.specs.Effects.{executed, effect_of}
 use Rattle.tal_types.specs.declared.types.Ty.{Ty}
 use Rattle.tal_types.specs.declared.types.Ty.TheVariants as ty
 use Rattle.tal_types.specs.declared.types.FlagKind.{FlagKind}
@@ -171,12 +171,12 @@ module _ (l : Scope) (result : Ty) (c : LiveContext) (s : State) (h : StateFits 
       after = give_kind k (write_high wide (store (resolved l c s d) ty.Num c))
 
       next_or : (m : WordState) → m.flags ≡ s.thread.flags → (f : StepEffect) → Leads l result after next
-          (fault_or f (option_map (λ t. goes_on next (settled wide k (done i m) t)) (write_operand (shown l.image) s d (Number (read_word d (done i m))))))
+          (fault_or f (option_map (λ t. goes_on next (settled wide k (executed i m) t)) (write_operand (shown l.image) s d (Number (read_word d (executed i m))))))
       next_or m kept (step.Fault vector) = tt
       next_or m kept f =
-          stored-leads next d (Number (read_word d (done i m))) wide k (done i m) tells.plain (λ none. tells.leaves none m ∙ kept)
-          (write_operand (shown l.image) s d (Number (read_word d (done i m)))) refl
-          (operand-written l result c s h laws d (Number (read_word d (done i m))) ty.Num (grind arith) (grind arith) (result-storable sources d tells.writes (grind arith) (grind arith)) (number-num (shown l.image) l.live l.shapes _))
+          stored-leads next d (Number (read_word d (executed i m))) wide k (executed i m) tells.plain (λ none. tells.leaves none m ∙ kept)
+          (write_operand (shown l.image) s d (Number (read_word d (executed i m)))) refl
+          (operand-written l result c s h laws d (Number (read_word d (executed i m))) ty.Num (grind arith) (grind arith) (result-storable sources d tells.writes (grind arith) (grind arith)) (number-num (shown l.image) l.live l.shapes _))
 
       run : (m : WordState) → m.flags ≡ s.thread.flags → Leads l result after next (computed (shown l.image) s i len next d wide k m)
       run m kept = next_or m kept (effect_of i m len)
@@ -195,4 +195,4 @@ module _ (l : Scope) (result : Ty) (c : LiveContext) (s : State) (h : StateFits 
   address-leads i len next r m e =
       let other : same r Esp ≡ false = grind arith in
       rw (other, part-number m.base (grind arith) (grind arith), part-number m.index (grind arith) (grind arith))
-      (refl, place-fits l result _ _ next (register-fits l result c s r (Number (read_word (R r) (done i (words_of s 0)))) ty.Num h (number-num (shown l.image) l.live l.shapes _)))
+      (refl, place-fits l result _ _ next (register-fits l result c s r (Number (read_word (R r) (executed i (words_of s 0)))) ty.Num h (number-num (shown l.image) l.live l.shapes _)))

@@ -28,7 +28,7 @@ use Rattle.typed_safety.specs.Laws.{ImageLaws, HasArrays}
 use Rattle.typed_safety.proofs.Scopes.{rows, resolved, type_of, value_of, place_of, spot_in}
 use Rattle.typed_safety.proofs.Frames.{ValueFits, slot-value}
 use Rattle.typed_safety.proofs.Fitted.{StateFits}
-use Rattle.typed_safety.proofs.Spots.{type_at, HoldsArray, SpotFits, SpotFound, spot-found}
+use Rattle.typed_safety.proofs.Spots.{value_type_at, HoldsArray, SpotFits, SpotFound, spot-found}
 
 -- a value whose type there is has a number below the count
 value-counted : (s : ShapesView) (shape : ObjectShape) (j : ℕ) (f : FieldTy) → value_type s shape j ≡ Some f → j < value_count s shape
@@ -37,7 +37,7 @@ value-counted s (InstanceOf c) j f h = slice_get_within (Fields s c) j f h
 value-counted s (ArrayOf k n) j f h = grind (arith, nat_tests)
 
 -- the object that has a value of a type
-pub object-there : (l : Scope) (store : Store) → StoreFits l store → (i j : ℕ) (f : FieldTy) → type_at l i j ≡ Some f
+pub object-there : (l : Scope) (store : Store) → StoreFits l store → (i j : ℕ) (f : FieldTy) → value_type_at l i j ≡ Some f
     → (o : Object) × (slice_get store i ≡ Some o) × (value_type (rows l) o.shape j ≡ Some f)
 object-there l store h i j f e =
     go (slice_get store i) refl (sym (slice_get-map (λ (o : Object). o.shape) store i) ∙ ap (λ os. slice_get os i) (sym h.shapes))
@@ -49,7 +49,7 @@ object-there l store h i j f e =
 
 module _ (l : Scope) (result : Ty) (c : LiveContext) (s : State) (h : StateFits l result c s) where
   -- a value in the store
-  value-there : (i j : ℕ) (f : FieldTy) → l.live i ≡ true → type_at l i j ≡ Some f → ValueFits l (value_at s.store i j) (of_field f)
+  value-there : (i j : ℕ) (f : FieldTy) → l.live i ≡ true → value_type_at l i j ≡ Some f → ValueFits l (value_at s.store i j) (of_field f)
   unfolding value_at
   value-there i j f live e =
       let o = object-there l s.store h.store i j f e in

@@ -23,7 +23,7 @@ use Rattle.typed_machine.specs.Frames.{Scope, fits_in, Awaits, Back}
 use Rattle.typed_machine.specs.Typing.{ThreadFits}
 use Rattle.typed_safety.proofs.Scopes.{rows}
 use Rattle.typed_safety.proofs.Values.{fits-sub}
-use Rattle.typed_safety.proofs.Fitted.{kind_below-told}
+use Rattle.typed_safety.proofs.Fitted.{lost-told}
 use Rattle.typed_safety.proofs.CallForms.{lost-allows}
 
 -- ---- where a stack begins
@@ -106,7 +106,7 @@ replied-fits l laws u eax place values a e =
       pairs = λ i q known. absurd (let x = below.pairs i q known in cc);
       heads = λ i q known. absurd (let x = below.heads i q known in cc);
       conditions = λ q allowed. absurd (lost-allows a.context.kind q below.kind allowed);
-      told = kind_below-told l (fresh_thread eax place) kind.Lost a.context.kind below.kind tt;
+      told = lost-told l (fresh_thread eax place) a.context.kind below.kind;
       frames = a.frames;
       room = a.room;
     }

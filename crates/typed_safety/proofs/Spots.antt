@@ -30,8 +30,8 @@ use Rattle.typed_safety.proofs.Frames.{slot-deep}
 use Rattle.typed_safety.proofs.Fitted.{StateFits}
 
 -- the type of value j of object i
-abbrev pub type_at : Scope → ℕ → ℕ → Option FieldTy
-type_at l i j = option_and_then (λ shape. value_type (rows l) shape j) (slice_get l.shapes i)
+abbrev pub value_type_at : Scope → ℕ → ℕ → Option FieldTy
+value_type_at l i j = option_and_then (λ shape. value_type (rows l) shape j) (slice_get l.shapes i)
 
 -- an array is in the register
 pub record HoldsArray (l : Scope) (s : State) (base : Option Reg) (object : ℕ) : Type 0 where
@@ -45,7 +45,7 @@ pub record HoldsArray (l : Scope) (s : State) (base : Option Reg) (object : ℕ)
 -- the place, of an operand with this base, is seen where the values find the spot
 abbrev pub SpotFits : Scope → LiveContext → State → Option Reg → Place → Spot → Type 0
 SpotFits l c s base (Whole t) (AtStatic j) = (f : FieldTy) × (slice_get l.image.statics j ≡ Some f) × (t ≡ of_field f)
-SpotFits l c s base (Whole t) (AtValue i j) = (f : FieldTy) × (l.live i ≡ true) × (type_at l i j ≡ Some f) × (t ≡ of_field f)
+SpotFits l c s base (Whole t) (AtValue i j) = (f : FieldTy) × (l.live i ≡ true) × (value_type_at l i j ≡ Some f) × (t ≡ of_field f)
 SpotFits l c s base (Slot i) (AtSlot j) = (t : Ty) × (i ≡ j) × (slice_get c.slots i ≡ Some t)
 SpotFits l c s base Length (AtLength i) = HoldsArray l s base i
 SpotFits l c s base (Head r k) (AtHead i) = (s.thread.regs r ≡ Ref i) × (is_instance (rows l) (slice_get l.shapes i) k ≡ true)

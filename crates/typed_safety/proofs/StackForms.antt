@@ -7,7 +7,7 @@ use Rattle.ia32_code.specs.declared.instruction.Reg.{Reg}
 use Rattle.ia32_code.specs.declared.instruction.Reg.TheVariants.{Esp}
 use Rattle.ia32_code.specs.declared.instruction.Operand.{Operand}
 use Rattle.ia32_code.specs.declared.instruction.Inst.{Inst}
-use Rattle.ia32_step.specs.Effects.{done}
+use Rattle.ia32_step.specs.Effects.{executed}
 use Rattle.tal_types.specs.declared.types.Ty.{Ty}
 use Rattle.tal_types.specs.declared.types.Ty.TheVariants as ty
 use Rattle.tal_types.specs.declared.types.FlagKind.TheVariants as kind
@@ -91,7 +91,7 @@ module _ (l : Scope) (result : Ty) (c : LiveContext) (s : State) (h : StateFits 
       rw (frames-above l result c.slots s.values n few h.thread.frames) (
         refl,
         place-fits l result _ _ next
-            (flags-fit l result (with_slots (drop n c.slots) c) (with_values (drop n s.values) s) kind.Lost (done i (words_of s 0)).flags NoCondition dropped (λ a allowed. absurd (grind arith)) tt),
+            (flags-fit l result (with_slots (drop n c.slots) c) (with_values (drop n s.values) s) kind.Lost (executed i (words_of s 0)).flags NoCondition dropped (λ a allowed. absurd (grind arith)) tt),
       )
 
   -- ADD ESP, imm

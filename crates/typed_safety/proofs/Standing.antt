@@ -14,7 +14,7 @@ use Rattle.tal_flow.specs.Trials.{rule_number}
 use Rattle.tal_flow.specs.Forms.{form_of}
 use Rattle.tal_flow.specs.Edges.{falling, branching, target_of, falls_to, branches_to}
 use Rattle.tal_flow.specs.Rules.{operand_rule, edge_rule, rule_of_form, rule_of, next_address, Falls, Branches, Target}
-use Rattle.tal_flow.specs.Strongest.{Placed}
+use Rattle.tal_flow.specs.Strongest.{PlacedInst}
 use Rattle.tal_image.specs.Image.{ImageParts}
 use Rattle.tal_image.specs.Conditions.{marked_number}
 use Rattle.tal_image.specs.Shown.{shown}
@@ -58,7 +58,7 @@ operand-none v c pc next form h = go (operand_rule v c pc form) (edge_rule v c p
     go (Some n) e h = h
 
 -- the instruction at the place of a typed state
-pub stands-at : (image : ImageParts) → RunsOn image → ImageLaws image → (live : ℕ → Bool) (s : State) (t : TypedAmong image live s) (x : Placed)
+pub stands-at : (image : ImageParts) → RunsOn image → ImageLaws image → (live : ℕ → Bool) (s : State) (t : TypedAmong image live s) (x : PlacedInst)
     → instruction_in image s.thread.place ≡ Some x
     → StandsAt image s t.thread.context s.thread.place (next_address s.thread.place x.len) x.inst (form_of (next_address s.thread.place x.len) x.inst)
 unfolding rule_of Falls Branches Target falls_to branches_to
@@ -88,15 +88,15 @@ unfolding signature_at
 arrives-signature image pc to d sig a h = rw a.stays h
 
 -- a state that arrives with what it fits is typed
-pub arrives-typed : (image : ImageParts) (live : ℕ → Bool) (os : List ObjectShape) → ClassLaws (shown image).shapes → (pc : ℕ) (d : LiveContext) (sig : Sig) (s : State)
+pub arrives-typed : (image : ImageParts) (live : ℕ → Bool) (os : List ObjectShape) → ImageLaws image → (pc : ℕ) (d : LiveContext) (sig : Sig) (s : State)
     → Arrives image pc s.thread.place (Live d) → signature_at image pc ≡ Some sig → StateFits (record { image = image; live = live; shapes = os }) sig.result d s → TypedAmong image live s
 arrives-typed image live os laws pc d sig s a function h =
     let above = above-live (shown image).shapes d (strongest_at image s.thread.place) a.known in
     fits-typed image live s os above.0 sig above.1 (arrives-signature image pc s.thread.place (Live d) sig a function)
-    (context-above (record { image = image; live = live; shapes = os }) sig.result laws d above.0 s above.2 h)
+    (context-above laws.types (record { image = image; live = live; shapes = os }) sig.result laws.classes d above.0 s above.2 h)
 
 -- what moves on to a state that fits what is known next keeps typing
-pub leads-typed : (image : ImageParts) (live : ℕ → Bool) → ClassLaws (shown image).shapes → (s : State) (t : TypedAmong image live s) (next : ℕ) (d : LiveContext) (o : Option EffectView)
+pub leads-typed : (image : ImageParts) (live : ℕ → Bool) → ImageLaws image → (s : State) (t : TypedAmong image live s) (next : ℕ) (d : LiveContext) (o : Option EffectView)
     → Arrives image s.thread.place next (Live d) → Leads (scope_of image live s) t.thread.sig.result d next o → EffectTyped image live s next o
 leads-typed image live laws s t next d None a h = absurd h
 leads-typed image live laws s t next d (Some (Moves m)) a h = arrives-typed image live _ laws s.thread.place d t.thread.sig m (rw h.0 a) t.thread.function h.1

@@ -11,13 +11,12 @@ use Rattle.ia32_code.specs.declared.instruction.Inst.TheVariants as inst
 use Rattle.stack_states.specs.declared.flag_bits.FlagBits.{FlagBits}
 use Rattle.ia32_step.specs.Operands.{read_word}
 use Rattle.ia32_step.specs.Sums.{and_of}
-use Rattle.ia32_step.specs.Effects.{done}
+use Rattle.ia32_step.specs.Effects.{executed}
 use Rattle.tal_types.specs.declared.types.Ty.{Ty}
 use Rattle.tal_types.specs.declared.types.FlagKind.{FlagKind}
 use Rattle.tal_types.specs.declared.types.FlagKind.TheVariants as kind
 use Rattle.tal_types.specs.Contexts.{LiveContext, same}
 use Rattle.tal_types.specs.Shown.{ShownImage}
-use Rattle.tal_types.proofs.Orders.{same-true}
 use Rattle.tal_flow.specs.declared.forms.Form.TheVariants.{TestBits}
 use Rattle.tal_flow.specs.declared.rows.Family.{Family}
 use Rattle.tal_flow.specs.declared.rows.Family.TheVariants.{Numbers}
@@ -49,7 +48,7 @@ null-test w u h = grind arith
 
 -- the flags of TEST
 abbrev pub tested : ShownImage → State → Operand → Operand → FlagBits
-tested v s d x = (done (inst.Test d x) (words_of s (word_among v s (d ∷ x ∷ [])))).flags
+tested v s d x = (executed (inst.Test d x) (words_of s (word_among v s (d ∷ x ∷ [])))).flags
 
 module _ (l : Scope) (result : Ty) (c : LiveContext) (s : State) (h : StateFits l result c s) (laws : ImageLaws l.image) (runs : RunsOn l.image) where
   -- two numbers
@@ -80,7 +79,7 @@ module _ (l : Scope) (result : Ty) (c : LiveContext) (s : State) (h : StateFits 
       → FlagsTell l s (tested (shown l.image) s d x) (known_of_test (value_of l s d) (value_of l s x) (same_register d x)) (null_kind d)
   null-tested (R r) (R q) is_d null alike =
       let w = family-value l result c s h laws (R r) is_d (null-other _ null) in
-      let is = same-true r q alike in
+      let is = laws.types.same_told r q alike in
       rw (w.1, alike, null-test w.0 (value_of l s (R q)) (null-family l w.0 _ w.2 null))
       (null-tells l s (tested (shown l.image) s (R r) (R q)) (R r) w.0 (shown l.image) w.1
       (λ p e. ap (λ y. (tested (shown l.image) s (R r) (R y)).zero) (sym is) ∙ test-zero r w.0 _ is_d.spares (register-holds l s r w.0 w.1) w.2 null))

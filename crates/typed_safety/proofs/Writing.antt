@@ -32,7 +32,7 @@ use Rattle.typed_safety.proofs.Scopes.{rows, resolved, place_of, spot_in}
 use Rattle.typed_safety.proofs.Values.{fits-sub, fits-all}
 use Rattle.typed_safety.proofs.Frames.{frames-set}
 use Rattle.typed_safety.proofs.Fitted.{ThreadKnown, StateFits}
-use Rattle.typed_safety.proofs.Spots.{type_at, SpotFits, SpotFound, spot-found}
+use Rattle.typed_safety.proofs.Spots.{value_type_at, SpotFits, SpotFound, spot-found}
 
 -- ---- registers
 
@@ -201,11 +201,11 @@ array-stands (p ∷ os) (suc i) j w (suc d) row h =
 
 module _ (l : Scope) (store : Store) (h : StoreFits l store) (i j : ℕ) (w : Value) (f : FieldTy) where
   -- an object has the type that values of its shape have there
-  typed-there : (k m : ℕ) (o : Object) → slice_get store k ≡ Some o → type_at l k m ≡ value_type (rows l) o.shape m
+  typed-there : (k m : ℕ) (o : Object) → slice_get store k ≡ Some o → value_type_at l k m ≡ value_type (rows l) o.shape m
   typed-there k m o e = rw (h.shapes, slice_get-map (λ (x : Object). x.shape) store k, e) refl
 
   -- a value of an object is replaced by one that has its type
-  pub store-set : type_at l i j ≡ Some f → fits_in l w (of_field f) ≡ true → StoreFits l (set_value store i j w)
+  pub store-set : value_type_at l i j ≡ Some f → fits_in l w (of_field f) ≡ true → StoreFits l (set_value store i j w)
   store-set e g = record {
     shapes = h.shapes ∙ sym (shapes-set store i j w);
     arrays = λ d row there. array-stands store i j w d row (h.arrays d row there);
@@ -220,8 +220,8 @@ module _ (l : Scope) (store : Store) (h : StoreFits l store) (i j : ℕ) (w : Va
           → fits_in l v (of_field t) ≡ true
       typed k m o t v live r is value = ⊎_elim
           (λ (new : (k ≡ i) × (m ≡ j) × (v ≡ w)).
-          let old : type_at l k m ≡ Some t = typed-there k m r.before r.there ∙ (ap (λ x. value_type (rows l) x m) (sym r.shape) ∙ is) in
-          let same : Some t ≡ Some f = sym old ∙ (ap (λ x. type_at l x m) new.0 ∙ (ap (type_at l i) new.1 ∙ e)) in
+          let old : value_type_at l k m ≡ Some t = typed-there k m r.before r.there ∙ (ap (λ x. value_type (rows l) x m) (sym r.shape) ∙ is) in
+          let same : Some t ≡ Some f = sym old ∙ (ap (λ x. value_type_at l x m) new.0 ∙ (ap (value_type_at l i) new.1 ∙ e)) in
           let alike : t ≡ f = cc in
           rw (new.2, alike) g)
           (λ (old : slice_get r.before.values m ≡ Some v). h.fit k m r.before t v live r.there (ap (λ x. value_type (rows l) x m) (sym r.shape) ∙ is) old)
@@ -249,7 +249,7 @@ module _ (l : Scope) (result : Ty) (c : LiveContext) (s : State) (h : StateFits 
   static-written j f w e g = record { thread = h.thread; table = h.table; statics = statics-set l s.statics j f w h.statics e g; store = h.store }
 
   -- an object gets a value
-  store-written : (i j : ℕ) (f : FieldTy) (w : Value) → type_at l i j ≡ Some f → fits_in l w (of_field f) ≡ true
+  store-written : (i j : ℕ) (f : FieldTy) (w : Value) → value_type_at l i j ≡ Some f → fits_in l w (of_field f) ≡ true
       → StateFits l result c (record s { store = set_value s.store i j w })
   store-written i j f w e g = record { thread = h.thread; table = h.table; statics = h.statics; store = store-set l s.store h.store i j w f e g }
 

@@ -14,12 +14,13 @@ use Rattle.object_layout.specs.Laws.{ClassLaws}
 use Rattle.tal_types.specs.declared.types.Ty.{Ty}
 use Rattle.tal_types.specs.declared.views.Mark.{Mark}
 use Rattle.tal_types.specs.Contexts.{ContextView}
+use Rattle.tal_types.specs.Laws.{TypeLaws}
 use Rattle.tal_flow.specs.declared.calls.Arguments.{Arguments}
 use Rattle.tal_flow.specs.declared.calls.Called.TheVariants.{Gives}
 use Rattle.tal_flow.specs.Places.{mark_type}
 use Rattle.tal_flow.specs.Calls.{nucleus_arguments, entry_gives}
 use Rattle.tal_flow.specs.Rules.{next_address}
-use Rattle.tal_flow.specs.Strongest.{Placed}
+use Rattle.tal_flow.specs.Strongest.{PlacedInst}
 use Rattle.tal_image.specs.declared.parts.DataRow.{DataRow}
 use Rattle.tal_image.specs.Image.{ImageParts}
 use Rattle.tal_image.specs.Conditions.{marked_number}
@@ -42,8 +43,9 @@ pub record HasArrays (image : ImageParts) (live : ℕ → Bool) (store : Store) 
   pub stand : (d : ℕ) (row : DataRow) → data_row_in image d ≡ Some row → IsArray store d row
   pub alive : (d : ℕ) (row : DataRow) → data_row_in image d ≡ Some row → live d ≡ true
 
--- What a formed image tells of its classes, methods, blocks and marks.
+-- What a formed image tells of its classes, methods, blocks and marks, beside what holds of all types.
 pub record ImageLaws (image : ImageParts) : Type 0 where
+  pub types : TypeLaws
   pub classes : ClassLaws (shown image).shapes
   -- a method is a function of the image, with the signature that its row says
   pub methods : (c m f : ℕ) → slice_get (Methods (shown image).shapes c) m ≡ Some f
@@ -54,7 +56,7 @@ pub record ImageLaws (image : ImageParts) : Type 0 where
   pub marks : (pc n : ℕ) (mark : Mark) (live : ℕ → Bool) (store : Store) → (shown image).mark_at pc ≡ Some mark → HasArrays image live store
       → fits_among (shown image) live (shapes_in store) (marked_value n mark) (mark_type (shown image) n mark) ≡ true
   -- and its word is the number that is marked
-  pub words : (pc n : ℕ) (x : Placed) (mark : Mark) (live : ℕ → Bool) (store : Store) → instruction_in image pc ≡ Some x → (shown image).mark_at pc ≡ Some mark
+  pub words : (pc n : ℕ) (x : PlacedInst) (mark : Mark) (live : ℕ → Bool) (store : Store) → instruction_in image pc ≡ Some x → (shown image).mark_at pc ≡ Some mark
       → marked_number x.inst ≡ Some n → HasArrays image live store → Word (places_in store) (marked_value n mark) ≡ n
 
 -- What a call of entry k of the Nucleus finds, which comes back to `next`: EAX and ECX have types that the entry takes, and
@@ -83,7 +85,7 @@ EffectTyped image live s next (Some Ends) = (n : ℕ) × (s.thread.regs Eax ≡ 
 abbrev pub InstructionsKeepTyping : Type 0
 InstructionsKeepTyping =
     (image : ImageParts) → RunsOn image → ImageLaws image → (live : ℕ → Bool) (s : State) → TypedAmong image live s
-    → (x : Placed) → instruction_in image s.thread.place ≡ Some x
+    → (x : PlacedInst) → instruction_in image s.thread.place ≡ Some x
     → EffectTyped image live s (next_address s.thread.place x.len) (Effect image s x.inst x.len)
 
 -- each formed image tells this
@@ -92,7 +94,7 @@ FormedImagesTell = (image : ImageParts) → Formed image → ImageLaws image
 
 -- an instruction stands at the place of a typed state, and it is well typed and keeps typing
 pub record KeepsTyping (image : ImageParts) (live : ℕ → Bool) (s : State) : Type 0 where
-  pub placed : Placed
+  pub placed : PlacedInst
   pub here : instruction_in image s.thread.place ≡ Some placed
   pub spelled : inst_at image s.thread.place ≡ Some (placed.inst, placed.len)
   pub typed : EffectTyped image live s (next_address s.thread.place placed.len) (Effect image s placed.inst placed.len)
@@ -104,7 +106,7 @@ WellTypedImagesKeepTyping = (image : ImageParts) → WellTyped image → (live :
 -- where CMP at the place of a typed state names a word of a display, the word is there
 abbrev pub DisplaysAreThere : Type 0
 DisplaysAreThere =
-    (image : ImageParts) → WellTyped image → (live : ℕ → Bool) (s : State) → TypedAmong image live s → (x : Placed) → instruction_in image s.thread.place ≡ Some x
+    (image : ImageParts) → WellTyped image → (live : ℕ → Bool) (s : State) → TypedAmong image live s → (x : PlacedInst) → instruction_in image s.thread.place ≡ Some x
     → (a : Mem) (y : Operand) → x.inst ≡ inst.Alu alu.Cmp (M a) y → (c d : ℕ) → spot_of (shown image).shapes s a ≡ Some (AtDisplay c d)
     → (w : ℕ) × (spot_word (shown image).shapes s (AtDisplay c d) ≡ Some w)
 

@@ -6,8 +6,8 @@ ghost use Rattle.typed_safety.specs.Laws.{FormedImagesTell, InstructionsKeepTypi
 pub fn formed_images_tell()
     ensures { FormedImagesTell }
 {
-    ia32_code::laws::front_law();
-    ia32_code::laws::spelling_length();
+    tal_types::laws::type_laws();
+    tal_checker::laws::code_laws();
     tal_image::laws::formed_shapes();
 }
 

@@ -9,6 +9,6 @@ returns c = accepted_runs (record {
   rows = c.strongest_contexts.ensures.rows;
   rules = record { least = c.least_rule.ensures.least; none = c.least_rule.ensures.none };
   next = c.strongest_contexts.ensures.next;
-  told = c.context_below_tests_the_order.ensures.told;
-  reflexive = c.contexts_are_ordered.ensures.reflexive;
+  told = c.type_laws.ensures.context_told;
+  reflexive = c.type_laws.ensures.contexts_reflexive;
 })

@@ -1,6 +1,6 @@
 use Rattle.std.proofs.Common.{refl}
-use Rattle.tal_types.proofs.Meanings.{same_live}
 use Rattle.tal_flow.specs.Afterwards.{add_head}
+use Rattle.tal_flow.proofs.Fields.{same_live}
 use Rattle.tal_flow.proofs.known.add_head.Goals as goal
 
 pub returns-clause-known : goal.returns-clause-known

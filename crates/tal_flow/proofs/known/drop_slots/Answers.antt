@@ -1,6 +1,5 @@
 use Rattle.std.proofs.Common.{refl, arith}
-use Rattle.tal_types.proofs.Meanings.{same_live}
-use Rattle.tal_flow.proofs.Fields.{take-dropped, depth-most}
+use Rattle.tal_flow.proofs.Fields.{same_live, take-dropped, depth-most}
 use Rattle.tal_flow.proofs.known.drop_slots.Goals as goal
 
 pub shift_down-requires : goal.shift_down-requires

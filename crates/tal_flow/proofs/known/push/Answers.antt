@@ -1,6 +1,5 @@
 use Rattle.std.proofs.Common.{refl, arith}
-use Rattle.tal_types.proofs.Meanings.{same_live}
-use Rattle.tal_flow.proofs.Fields.{take-pushed, junk-pushed, depth-of}
+use Rattle.tal_flow.proofs.Fields.{same_live, take-pushed, junk-pushed, depth-of}
 use Rattle.tal_flow.proofs.known.push.Goals as goal
 
 pub overflow_add-context : goal.overflow_add-context

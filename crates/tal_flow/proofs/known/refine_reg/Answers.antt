@@ -1,7 +1,6 @@
 use Rattle.std.proofs.Common.{refl, arith}
-use Rattle.tal_types.proofs.Meanings.{same_live}
 use Rattle.tal_flow.specs.Edges.{refine_reg}
-use Rattle.tal_flow.proofs.Fields.{type_at-set, esp-kept}
+use Rattle.tal_flow.proofs.Fields.{same_live, kept_type-set, esp-kept}
 use Rattle.tal_flow.proofs.known.refine_reg.Goals as goal
 
 pub invariant_of-context-clause-stack_pointer : goal.invariant_of-context-clause-stack_pointer
@@ -10,7 +9,7 @@ invariant_of-context-clause-stack_pointer c = rw c.number.ensures.value (esp-kep
 pub returns-clause-known : goal.returns-clause-known
 unfolding refine_reg
 returns-clause-known c = same_live _ _
-    (λ q. rw c.number.ensures.value (type_at-set c.args.context.now.regs c.args.r q c.args.t (omega arith)))
+    (λ q. rw c.number.ensures.value (kept_type-set c.args.context.now.regs c.args.r q c.args.t (omega arith)))
     refl
     refl
     (λ i a. refl)

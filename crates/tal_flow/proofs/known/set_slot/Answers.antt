@@ -1,8 +1,7 @@
 use Rattle.std.proofs.Common.{◌≢◌, refl, arith, ◌∙◌}
 use Rattle.std.proofs.lemmas.List.{get_or-set_other}
 use Rattle.tal_types.specs.declared.types.Ty.TheVariants.{Junk}
-use Rattle.tal_types.proofs.Meanings.{same_live}
-use Rattle.tal_flow.proofs.Fields.{take-set, slot-depth}
+use Rattle.tal_flow.proofs.Fields.{same_live, take-set, slot-depth}
 use Rattle.tal_flow.proofs.known.set_slot.Goals as goal
 
 pub bounds-context-i : goal.bounds-context-i

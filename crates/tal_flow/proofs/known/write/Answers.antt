@@ -1,7 +1,6 @@
 use Rattle.std.proofs.Common.{refl, arith}
-use Rattle.tal_types.proofs.Meanings.{same_live}
 use Rattle.tal_flow.specs.Afterwards.{write}
-use Rattle.tal_flow.proofs.Fields.{type_at-set, esp-other}
+use Rattle.tal_flow.proofs.Fields.{same_live, kept_type-set, esp-other}
 use Rattle.tal_flow.proofs.known.write.Goals as goal
 
 pub invariant_of-context-clause-stack_pointer : goal.invariant_of-context-clause-stack_pointer
@@ -10,7 +9,7 @@ invariant_of-context-clause-stack_pointer c = rw c.number.ensures.value (esp-oth
 pub returns-clause-known : goal.returns-clause-known
 unfolding write
 returns-clause-known c = same_live _ _
-    (λ q. rw c.number.ensures.value (type_at-set c.args.context.now.regs c.args.r q c.args.t (omega arith)))
+    (λ q. rw c.number.ensures.value (kept_type-set c.args.context.now.regs c.args.r q c.args.t (omega arith)))
     refl
     c.kind_without-context.ensures
     c.without-context.ensures
