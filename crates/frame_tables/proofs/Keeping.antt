@@ -4,16 +4,16 @@ use Rattle.std.proofs.lemmas.Bool.{cases_eq}
 use Rattle.std.proofs.lemmas.List.Elements.{All-append}
 use Rattle.tal_types.specs.declared.FrameRow.{FrameRow}
 use Rattle.frame_tables.specs.FrameRows.{with_row, different_rows}
-use Rattle.frame_tables.specs.Layout.{numbered, rows_at, IsKept}
+use Rattle.frame_tables.specs.Layout.{numbered, addressed_rows, IsKept}
 use Rattle.frame_tables.proofs.Rows.{different_rows-append, numbered-with_row, length-with_row}
 
 -- An address and the number of its row at the ends are a row at the end.
-pub rows_at-append : (rows : List FrameRow) (as' ns : List ℕ) (a n : ℕ) → length as' ≡ length ns
-    → rows_at rows (as' ++ a ∷ []) (ns ++ n ∷ []) ≡ rows_at rows as' ns ++ record { pc = a; row = numbered rows n } ∷ []
-rows_at-append rows [] [] a n paired = refl
-rows_at-append rows [] (m ∷ ns) a n paired = absurd (omega arith)
-rows_at-append rows (b ∷ as') [] a n paired = absurd (omega arith)
-rows_at-append rows (b ∷ as') (m ∷ ns) a n paired = ap (λ l. record { pc = b; row = numbered rows m } ∷ l) (rows_at-append rows as' ns a n (omega arith))
+pub addressed_rows-append : (rows : List FrameRow) (as' ns : List ℕ) (a n : ℕ) → length as' ≡ length ns
+    → addressed_rows rows (as' ++ a ∷ []) (ns ++ n ∷ []) ≡ addressed_rows rows as' ns ++ record { pc = a; row = numbered rows n } ∷ []
+addressed_rows-append rows [] [] a n paired = refl
+addressed_rows-append rows [] (m ∷ ns) a n paired = absurd (omega arith)
+addressed_rows-append rows (b ∷ as') [] a n paired = absurd (omega arith)
+addressed_rows-append rows (b ∷ as') (m ∷ ns) a n paired = ap (λ l. record { pc = b; row = numbered rows m } ∷ l) (addressed_rows-append rows as' ns a n (omega arith))
 
 -- What holds of all holds of the first and of the rest.
 pub All-first : {X : Type 0} (P : X → Type 0) (x : X) (xs : List X) → All P (x ∷ xs) → P x
@@ -24,11 +24,11 @@ pub All-rest : {X : Type 0} (P : X → Type 0) (x : X) (xs : List X) → All P (
 All-rest P x xs all k d within = all (suc k) d (omega arith)
 
 -- Joining a row leaves the rows whose numbers were known.
-pub rows_at-with_row : (rows : List FrameRow) (row : FrameRow) (as' ns : List ℕ) → All (λ n. n < length rows) ns → rows_at (with_row rows row) as' ns ≡ rows_at rows as' ns
-rows_at-with_row rows row [] ns known = refl
-rows_at-with_row rows row (a ∷ as') [] known = refl
-rows_at-with_row rows row (a ∷ as') (n ∷ ns) known =
-    rw (numbered-with_row rows row n (All-first (λ k. k < length rows) n ns known), rows_at-with_row rows row as' ns (All-rest (λ k. k < length rows) n ns known)) refl
+pub addressed_rows-with_row : (rows : List FrameRow) (row : FrameRow) (as' ns : List ℕ) → All (λ n. n < length rows) ns → addressed_rows (with_row rows row) as' ns ≡ addressed_rows rows as' ns
+addressed_rows-with_row rows row [] ns known = refl
+addressed_rows-with_row rows row (a ∷ as') [] known = refl
+addressed_rows-with_row rows row (a ∷ as') (n ∷ ns) known =
+    rw (numbered-with_row rows row n (All-first (λ k. k < length rows) n ns known), addressed_rows-with_row rows row as' ns (All-rest (λ k. k < length rows) n ns known)) refl
 
 -- Numbers that are known stay so, and one more joins them.
 pub known-append : (few more n : ℕ) (ns : List ℕ) → few ≤ more → n < more → All (λ k. k < few) ns → All (λ k. k < more) (ns ++ n ∷ [])
@@ -40,7 +40,7 @@ known-append few more n ns grows below known =
     alone (suc k) d within = absurd (omega arith)
 
 -- Each address of rows that stand below is below.
-pub addresses_below : (rows : List FrameRow) (as' ns : List ℕ) (pc : ℕ) → length as' ≡ length ns → All (λ r. r.pc < pc) (rows_at rows as' ns) → (i : ℕ) → i < length as'
+pub addresses_below : (rows : List FrameRow) (as' ns : List ℕ) (pc : ℕ) → length as' ≡ length ns → All (λ r. r.pc < pc) (addressed_rows rows as' ns) → (i : ℕ) → i < length as'
     → get_or as' i 0 < pc
 addresses_below rows [] ns pc paired below i within = absurd (omega arith)
 addresses_below rows (a ∷ as') [] pc paired below i within = absurd (omega arith)
@@ -77,21 +77,21 @@ rising-append xs x rising above i j before within = by_case (cases_eq j (length 
 -- The table after a push, where its row has the number n.
 pub record Pushed (rows rows' : List FrameRow) (as' ns : List ℕ) (pc n : ℕ) (row : FrameRow) : Type 0 where
   pub kept : IsKept rows' (as' ++ pc ∷ []) (ns ++ n ∷ [])
-  pub table : rows_at rows' (as' ++ pc ∷ []) (ns ++ n ∷ []) ≡ rows_at rows as' ns ++ record { pc = pc; row = row } ∷ []
+  pub table : addressed_rows rows' (as' ++ pc ∷ []) (ns ++ n ∷ []) ≡ addressed_rows rows as' ns ++ record { pc = pc; row = row } ∷ []
 
 -- one row more is kept
-pub pushes : (rows rows' : List FrameRow) (as' ns : List ℕ) (pc n : ℕ) (row : FrameRow) → IsKept rows as' ns → All (λ r. r.pc < pc) (rows_at rows as' ns)
+pub pushes : (rows rows' : List FrameRow) (as' ns : List ℕ) (pc n : ℕ) (row : FrameRow) → IsKept rows as' ns → All (λ r. r.pc < pc) (addressed_rows rows as' ns)
     → rows' ≡ with_row rows row → length rows' < 2 ^ 32 → n < length rows' → numbered rows' n ≡ row → Pushed rows rows' as' ns pc n row
 pushes rows rows' as' ns pc n row kept below made few known is_row =
-    let table : rows_at rows' (as' ++ pc ∷ []) (ns ++ n ∷ []) ≡ rows_at rows as' ns ++ record { pc = pc; row = row } ∷ [] =
-    rows_at-append rows' as' ns pc n kept.paired ∙ rw (is_row, made, rows_at-with_row rows row as' ns kept.known) refl in
+    let table : addressed_rows rows' (as' ++ pc ∷ []) (ns ++ n ∷ []) ≡ addressed_rows rows as' ns ++ record { pc = pc; row = row } ∷ [] =
+    addressed_rows-append rows' as' ns pc n kept.paired ∙ rw (is_row, made, addressed_rows-with_row rows row as' ns kept.known) refl in
     record {
       kept = record {
         paired = length-append as' (pc ∷ []) ∙ ap (λ k. k + 1) kept.paired ∙ sym (length-append ns (n ∷ []));
         rising = rising-append as' pc kept.rising (addresses_below rows as' ns pc kept.paired below);
         few = few;
         known = known-append (length rows) (length rows') n ns (rw made (length-with_row rows row)) known kept.known;
-        different = made ∙ ap (λ l. with_row l row) kept.different ∙ sym (ap different_rows table ∙ different_rows-append (rows_at rows as' ns) (record { pc = pc; row = row }));
+        different = made ∙ ap (λ l. with_row l row) kept.different ∙ sym (ap different_rows table ∙ different_rows-append (addressed_rows rows as' ns) (record { pc = pc; row = row }));
       };
       table = table;
     }

@@ -4,11 +4,11 @@ use Rattle.std.proofs.lemmas.Bool.{cases_eq}
 use Rattle.std.proofs.lemmas.Bool.Decides.{nat_tests}
 use Rattle.tal_types.specs.declared.FrameRow.{FrameRow}
 use Rattle.frame_tables.specs.FrameRows.{row_at}
-use Rattle.frame_tables.specs.Layout.{Rises, numbered, rows_at}
+use Rattle.frame_tables.specs.Layout.{Rises, numbered, addressed_rows}
 
 -- Where addresses rise, the row at one of them is its own.
 pub row_at-found : (rows : List FrameRow) (xs ns : List ℕ) (pc i d : ℕ) → length xs ≡ length ns → Rises xs → i < length xs → get_or xs i 0 ≡ pc
-    → row_at (rows_at rows xs ns) pc ≡ Some (numbered rows (get_or ns i d))
+    → row_at (addressed_rows rows xs ns) pc ≡ Some (numbered rows (get_or ns i d))
 row_at-found rows [] ns pc i d paired rising within at = absurd (omega arith)
 row_at-found rows (x ∷ xs) [] pc i d paired rising within at = absurd (omega arith)
 row_at-found rows (x ∷ xs) (n ∷ ns) pc zero d paired rising within at =
@@ -19,7 +19,7 @@ row_at-found rows (x ∷ xs) (n ∷ ns) pc (suc i) d paired rising within at =
     rw miss (row_at-found rows xs ns pc i d (omega arith) (λ j k b w. rising (suc j) (suc k) (omega arith) (omega arith)) (omega arith) at)
 
 -- Where no address is this one, it has no row.
-pub row_at-missing : (rows : List FrameRow) (xs ns : List ℕ) (pc : ℕ) → ((i : ℕ) → i < length xs → get_or xs i 0 ≢ pc) → row_at (rows_at rows xs ns) pc ≡ None
+pub row_at-missing : (rows : List FrameRow) (xs ns : List ℕ) (pc : ℕ) → ((i : ℕ) → i < length xs → get_or xs i 0 ≢ pc) → row_at (addressed_rows rows xs ns) pc ≡ None
 row_at-missing rows [] ns pc differs = refl
 row_at-missing rows (x ∷ xs) [] pc differs = refl
 row_at-missing rows (x ∷ xs) (n ∷ ns) pc differs =

@@ -12,10 +12,10 @@ abbrev pub numbered : List FrameRow → ℕ → FrameRow
 numbered rows n = get_or rows n (record { regs = 0; slots = 0; refs = 0 })
 
 -- The rows at these addresses, which have these numbers.
-abbrev pub rows_at : List FrameRow → List ℕ → List ℕ → List RowAt
-rows_at rows [] ns = []
-rows_at rows (a ∷ as') [] = []
-rows_at rows (a ∷ as') (n ∷ ns) = record { pc = a; row = numbered rows n } ∷ rows_at rows as' ns
+abbrev pub addressed_rows : List FrameRow → List ℕ → List ℕ → List RowAt
+addressed_rows rows [] ns = []
+addressed_rows rows (a ∷ as') [] = []
+addressed_rows rows (a ∷ as') (n ∷ ns) = record { pc = a; row = numbered rows n } ∷ addressed_rows rows as' ns
 
 -- Addresses rise.
 abbrev pub Rises : List ℕ → Type 0
@@ -28,4 +28,4 @@ pub record IsKept (rows : List FrameRow) (addresses numbers : List ℕ) : Type 0
   pub rising : Rises addresses
   pub few : length rows < 2 ^ 32
   pub known : All (λ n. n < length rows) numbers
-  pub different : rows ≡ different_rows (rows_at rows addresses numbers)
+  pub different : rows ≡ different_rows (addressed_rows rows addresses numbers)

@@ -87,11 +87,11 @@ pub struct FrameTable {
 impl Model for FrameTable {
     ghost use Rattle.std.specs.Prelude.{List, map};
     ghost use Rattle.frame_tables.specs.FrameRows.{RowAt};
-    ghost use Rattle.frame_tables.specs.Layout.{row_of, rows_at, IsKept};
+    ghost use Rattle.frame_tables.specs.Layout.{row_of, addressed_rows, IsKept};
 
     ghost Value = { List RowAt };
 
-    ghost view = { λ t. rows_at (map row_of t.rows.keys) t.addresses.items t.numbers.items };
+    ghost view = { λ t. addressed_rows (map row_of t.rows.keys) t.addresses.items t.numbers.items };
 
     ghost invariant = { λ t. IsKept (map row_of t.rows.keys) t.addresses.items t.numbers.items };
 }

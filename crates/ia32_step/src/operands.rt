@@ -1,5 +1,5 @@
 ghost use Rattle.std.specs.Prelude.{◌≡◌, ℕ, ◌<◌, true};
-ghost use Rattle.ia32_step.specs.Operands.{state_of, register, part_of, address_of, effective_address, read_word, put_word, put_computed, count_of};
+ghost use Rattle.ia32_step.specs.Operands.{state_of, register, part_of, address_of, effective_address, read_word, put_word, put_computed, shift_count};
 ghost use Rattle.ia32_step.specs.Reaches.{IsReached, IsScaled};
 
 use crate::bus::Bus;
@@ -91,7 +91,7 @@ pub(crate) fn put_computed<B: Bus>(
 
 /// How far a shift goes, before it is taken modulo 32.
 pub(crate) fn count(by: Count, cpu: &Cpu) -> u32
-    ensures { result ≡ count_of by cpu.now.regs }
+    ensures { result ≡ shift_count by cpu.now.regs }
 {
     match by {
         Count::By(count) => count as u32,

@@ -2,7 +2,7 @@ ghost use Rattle.std.specs.Prelude.{◌≡◌, ◌≢◌, ℕ, ◌+◌, ◌%◌,
 ghost use Rattle.std.specs.Int.{w32, cast_unsigned};
 ghost use Rattle.ia32_code.specs.Canonical.{Canonical};
 ghost use Rattle.ia32_step.specs.Operands.{state_of};
-ghost use Rattle.ia32_step.specs.Effects.{set_wide, operated, multiplied, pushed, popped, below_top, top_of, effect_of, after};
+ghost use Rattle.ia32_step.specs.Effects.{set_wide, operated, multiplied, pushed, popped_into, below_top, top_of, effect_of, after_instruction};
 ghost use Rattle.ia32_step.specs.Reaches.{is_system, Reaches, IsReached, IsScaled, HasScales};
 
 use crate::bus::Bus;
@@ -29,10 +29,10 @@ pub fn exec<B: Bus>(cpu: &mut Cpu, bus: &mut B, inst: &Inst, len: u8) -> Effect
     requires reached { Reaches inst.now (state_of cpu.old (B.word_at bus.old)) (B.is_mapped bus.old) }
 
     ensures effect { result ≡ effect_of inst.now (state_of cpu.old (B.word_at bus.old)) len }
-    ensures regs { cpu.new.regs ≡ (after inst.now len (state_of cpu.old (B.word_at bus.old))).regs }
-    ensures flags { cpu.new.flags ≡ (after inst.now len (state_of cpu.old (B.word_at bus.old))).flags }
-    ensures pc { cpu.new.pc ≡ (after inst.now len (state_of cpu.old (B.word_at bus.old))).pc }
-    ensures words { (a : ℕ) → B.word_at bus.new a ≡ (after inst.now len (state_of cpu.old (B.word_at bus.old))).memory a }
+    ensures regs { cpu.new.regs ≡ (after_instruction inst.now len (state_of cpu.old (B.word_at bus.old))).regs }
+    ensures flags { cpu.new.flags ≡ (after_instruction inst.now len (state_of cpu.old (B.word_at bus.old))).flags }
+    ensures pc { cpu.new.pc ≡ (after_instruction inst.now len (state_of cpu.old (B.word_at bus.old))).pc }
+    ensures words { (a : ℕ) → B.word_at bus.new a ≡ (after_instruction inst.now len (state_of cpu.old (B.word_at bus.old))).memory a }
     ensures mapped { (a : ℕ) → B.is_mapped bus.new a ≡ B.is_mapped bus.old a }
 {
     scaled(inst);
@@ -168,7 +168,7 @@ fn push<B: Bus>(word: u32, cpu: &mut Cpu, bus: &mut B)
 /// Takes the word on top of the stack into a register.
 fn pop<B: Bus>(to: Reg, cpu: &mut Cpu, bus: &B)
     requires { B.is_mapped bus.now (top_of (state_of cpu.old (B.word_at bus.now))) ≡ true }
-    ensures regs { cpu.new.regs ≡ (popped to (state_of cpu.old (B.word_at bus.now))).regs }
+    ensures regs { cpu.new.regs ≡ (popped_into to (state_of cpu.old (B.word_at bus.now))).regs }
     ensures flags { cpu.new.flags ≡ cpu.old.flags }
     ensures pc { cpu.new.pc ≡ cpu.old.pc }
 {

@@ -34,8 +34,8 @@ abbrev pub memory_text : Mem → List ℕ
 memory_text m = codes "[" ++ base_text m.base ++ index_text m.index m.scale ++ number_text m.disp ++ codes "]"
 
 -- the address that lies so far from this one
-abbrev pub target : ℕ → ℤ → ℕ
-target next distance = (next + cast_unsigned w32 distance) % 2 ^ 32
+abbrev pub target_address : ℕ → ℤ → ℕ
+target_address next distance = (next + cast_unsigned w32 distance) % 2 ^ 32
 
 -- an operand, where the next instruction has this address
 abbrev pub operand_text : ℕ → OperandWord → List ℕ
@@ -43,7 +43,7 @@ operand_text next (Register r) = register_text r
 operand_text next (Memory m) = memory_text m
 operand_text next (Number n) = number_text n
 operand_text next Cl = codes "cl"
-operand_text next (Target distance) = word_text (target next distance)
+operand_text next (Target distance) = word_text (target_address next distance)
 
 -- the operands, each behind a space or a comma
 abbrev pub operands_text : ℕ → OperandWords → List ℕ

@@ -1,7 +1,7 @@
 // The text of an instruction.
 ghost use Rattle.std.specs.Prelude.{◌≡◌, ◌++◌, OnOk};
 ghost use Rattle.std.specs.String.{string_bytes};
-ghost use Rattle.tal_listing.specs.Words.{base_text, factor_text, index_text, memory_text, target, operand_text, operands_text, words_text, system_text, inst_text};
+ghost use Rattle.tal_listing.specs.Words.{base_text, factor_text, index_text, memory_text, target_address, operand_text, operands_text, words_text, system_text, inst_text};
 
 use crate::number_text::{push_byte, push_number, push_word};
 use code_words::{OperandWord, OperandWords, Words, register_text, said};
@@ -58,7 +58,7 @@ fn push_memory(out: &mut String, mem: Mem) -> Result<(), AllocError>
 
 // The address that lies so far from the next instruction.
 fn target(next: u32, distance: i32) -> u32
-    ensures { result ≡ target next distance }
+    ensures { result ≡ target_address next distance }
 {
     next.wrapping_add(distance.cast_unsigned())
 }

@@ -12,7 +12,7 @@ use Rattle.tal_syntax.specs.declared.instructions.Operands.TheVariants as operan
 use Rattle.tal_syntax.specs.Sentences.{◌⊕◌}
 use Rattle.tal_syntax.specs.Grammar.{mark, name, number, line_end, comma, type_says, terms_says, arg_says, count_says, called_says, target_says, alone_says, pair_says, up_to_three_say, none_says, args_say}
 use Rattle.tal_syntax.specs.Reading.{Read, reads, cons, name_at, end_at}
-use Rattle.tal_syntax.specs.Operands.{arg_of, arg_at, count_of, count_at, called_of, called_at, target_at, last_at, alone, pair_at, third_of, third_at, second_of, second_at, up_to_three_at, args_at}
+use Rattle.tal_syntax.specs.Operands.{arg_of, arg_at, count_arg_of, count_at, called_of, called_at, target_at, last_at, alone, pair_at, third_of, third_at, second_of, second_at, up_to_three_at, args_at}
 use Rattle.tal_syntax.proofs.Lawful.{Lawful, Made, Both, Nothing, nothing, Lawful-done, Lawful-both, Lawful-reads, Lawful-same}
 use Rattle.tal_syntax.proofs.LawfulChoices.{Chosen, Lawful-choose, Opened, opened_law, law_of, led, led_by_mark, lead}
 use Rattle.tal_syntax.proofs.TokenLaws.{Lawful-name, Lawful-number, Lawful-end, ended}
@@ -85,7 +85,7 @@ count_rest (Key key.Cl) = Nothing arg.Cl
 count_rest t = arg_rest t
 
 -- each way to read a count
-count_laws : (t : Lexeme) (p : Read Arg) → count_of t ≡ Some p → Lawful p (count_rest t)
+count_laws : (t : Lexeme) (p : Read Arg) → count_arg_of t ≡ Some p → Lawful p (count_rest t)
 count_laws (Key key.Cl) p e = law_of (Lawful-done arg.Cl) e
 count_laws t p e = arg_laws t p e
 
@@ -100,25 +100,25 @@ count_there (Key key.Cl) x ts s = rw (s.none, s.value) refl
 count_there t x ts s = may_count x (t ∷ ts) (arg_there t x ts s)
 
 -- an operand is read alike as a count,
-as_count : (x : Arg) (t : Lexeme) (way : Read Arg) (ts : List Lexeme) → arg_of t ≡ Some way → arg_rest t x ts → (count_of t ≡ Some way) × count_rest t x ts
+as_count : (x : Arg) (t : Lexeme) (way : Read Arg) (ts : List Lexeme) → arg_of t ≡ Some way → arg_rest t x ts → (count_arg_of t ≡ Some way) × count_rest t x ts
 as_count x (Key key.Cl) way ts e s = absurd cc
 as_count x t way ts e s = (e, s)
 
 -- by the same token
-chosen_count : (x : Arg) (ts : List Lexeme) → Chosen arg_of arg_rest x ts → Chosen count_of count_rest x ts
+chosen_count : (x : Arg) (ts : List Lexeme) → Chosen arg_of arg_rest x ts → Chosen count_arg_of count_rest x ts
 chosen_count x ts b =
     let c = as_count x b.token b.way b.back b.picks b.two in
     record { token = b.token; back = b.back; parts = b.parts; way = b.way; picks = c.0; two = c.1 }
 
 -- a count by its first token
-count_back : (x : Arg) (ts : List Lexeme) → count_says x ts → Chosen count_of count_rest x ts
+count_back : (x : Arg) (ts : List Lexeme) → count_says x ts → Chosen count_arg_of count_rest x ts
 count_back arg.Cl ts s = record { token = Key key.Cl; back = []; parts = s; way = _; picks = refl; two = nothing arg.Cl }
 count_back x ts s = chosen_count x ts (arg_back x ts s)
 
 -- a count is read exactly
 Lawful-count : Lawful count_at count_says
 unfolding count_at
-Lawful-count = Lawful-choose count_of count_rest count_says count_laws count_there count_back (record { value = arg.Cl; text = Key key.Cl ∷ []; says = refl })
+Lawful-count = Lawful-choose count_arg_of count_rest count_says count_laws count_there count_back (record { value = arg.Cl; text = Key key.Cl ∷ []; says = refl })
 
 -- ---- what a call goes to, and labels
 

@@ -1,7 +1,7 @@
 -- A reader reads exactly the sentences of a language, and refuses the first token after which no sentence can follow.
 use Rattle.std.proofs.Common.{◌≡◌, List, [], ◌∷◌, ◌++◌, Result, Ok, Err, refl, sym, ap, subst, ◌∙◌, append_assoc}
 use Rattle.text_tokens.specs.Token.{Lexeme}
-use Rattle.tal_syntax.specs.Reading.{Read, ◌>>=◌, done, both, reads}
+use Rattle.tal_syntax.specs.Reading.{Read, ◌>>=◌, pure, both, reads}
 use Rattle.tal_syntax.specs.Sentences.{◌⊕◌}
 
 -- the same answer, whatever follows the refused token
@@ -51,7 +51,7 @@ pub record Nothing {A : Type 0} (v : A) (x : A) (ts : List Lexeme) : Type 0 wher
 pub nothing : {A : Type 0} (v : A) → Nothing v v []
 nothing v = record { value = refl; none = refl }
 
-pub Lawful-done : {A : Type 0} (v : A) → Lawful (done v) (Nothing v)
+pub Lawful-done : {A : Type 0} (v : A) → Lawful (pure v) (Nothing v)
 Lawful-done {A} v = record {
   lives = record { value = v; text = []; says = nothing v };
   took = λ ts x rest e.

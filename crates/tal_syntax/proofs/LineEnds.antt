@@ -3,10 +3,10 @@ use Rattle.std.proofs.Common.{◌≡◌, ℕ, zero, suc, ◌+◌, Bool, true, fa
 use Rattle.std.specs.Prelude.{ℤ, pos, neg_ℤ, nat_le, ◌==◌, ◌&&◌}
 use Rattle.std.specs.List.{take_while}
 use Rattle.text_tokens.specs.Bytes.{is_blank, is_letter, is_digit, is_name_byte, is_mark_byte, is_allowed}
-use Rattle.text_tokens.specs.Token.{Lexeme, Key, Register, Mnemonic, Name, Number, Bad, EndOfLine, Placed, lexemes_of}
+use Rattle.text_tokens.specs.Token.{Lexeme, Key, Register, Mnemonic, Name, Number, Bad, EndOfLine, PlacedLexeme, lexemes_of}
 use Rattle.text_tokens.specs.Lexing.{placed, tokens_from, line_tokens}
 use Rattle.text_tokens.specs.Pieces.{PieceView, piece_in, piece_at, token_of, glues}
-use Rattle.text_tokens.specs.Numbers.{signed, unsigned}
+use Rattle.text_tokens.specs.Numbers.{number_token, unsigned}
 use Rattle.text_tokens.specs.Words.{word_of}
 use Rattle.text_tokens.specs.declared.words.Word.{Word}
 use Rattle.text_tokens.specs.declared.words.Word.TheVariants as word
@@ -57,8 +57,8 @@ number_plain true n = tt
 number_plain false n = tt
 
 -- with a sign or without,
-signed_plain : (negative : Bool) (value : ℕ) → IsPlain (signed negative value)
-unfolding signed
+signed_plain : (negative : Bool) (value : ℕ) → IsPlain (number_token negative value)
+unfolding number_token
 signed_plain true value = number_plain (nat_le value 2147483648) (neg_ℤ (pos value))
 signed_plain false value = number_plain (nat_le value 4294967295) (pos value)
 
@@ -96,7 +96,7 @@ ends_behind_plain EndOfLine ts p e = absurd p
 ends_behind_plain t ts p e = e
 
 -- a token or none before them
-ends_after : (o : Option Lexeme) (column : ℕ) (here there : List Placed) → BringsPlain o → EndsOnce (lexemes_of here) → EndsOnce (lexemes_of there) → EndsOnce (lexemes_of (elim o [ None ↦ here | Some t ↦ placed column t ∷ there ]))
+ends_after : (o : Option Lexeme) (column : ℕ) (here there : List PlacedLexeme) → BringsPlain o → EndsOnce (lexemes_of here) → EndsOnce (lexemes_of there) → EndsOnce (lexemes_of (elim o [ None ↦ here | Some t ↦ placed column t ∷ there ]))
 ends_after None column here there p e f = e
 ends_after (Some t) column here there p e f = ends_behind_plain t (lexemes_of there) p f
 

@@ -1,6 +1,6 @@
 -- The first fault of a line.
 use Rattle.std.proofs.Common.{◌≡◌, ℕ, Bool, true, false, cond, List, Option, None, Result, Ok, Err}
-use Rattle.text_tokens.specs.Token.{Placed, lexemes_of}
+use Rattle.text_tokens.specs.Token.{PlacedLexeme, lexemes_of}
 use Rattle.tal_syntax.specs.Grammar.{code_says, member_says, outside_says}
 use Rattle.tal_syntax.specs.Faults.{FirstTokenFault}
 use Rattle.tal_syntax.specs.Forms.{form_at, code_at, member_at, outside_at}
@@ -18,16 +18,16 @@ not_empty true read column code e = absurd cc
 not_empty false read column code e = e
 
 -- the fault of a line of a class
-pub class_fault : (items : List Placed) (column code : ℕ) → line_at InClass items ≡ Err (At column code) → FirstTokenFault member_says items column code
+pub class_fault : (items : List PlacedLexeme) (column code : ℕ) → line_at InClass items ≡ Err (At column code) → FirstTokenFault member_says items column code
 unfolding line_at form_at
 class_fault items column code e = first_fault member_at member_says Lawful-member items column code (not_empty (no_token (lexemes_of items)) (whole items (member_at (lexemes_of items))) column code e)
 
 -- the fault of a line outside classes and functions
-pub outside_fault : (items : List Placed) (column code : ℕ) → line_at Outside items ≡ Err (At column code) → FirstTokenFault outside_says items column code
+pub outside_fault : (items : List PlacedLexeme) (column code : ℕ) → line_at Outside items ≡ Err (At column code) → FirstTokenFault outside_says items column code
 unfolding line_at form_at
 outside_fault items column code e = first_fault outside_at outside_says Lawful-outside items column code (not_empty (no_token (lexemes_of items)) (whole items (outside_at (lexemes_of items))) column code e)
 
 -- the fault of a line of a function
-pub code_fault : (items : List Placed) (column code : ℕ) → line_at InFunc items ≡ Err (At column code) → FirstTokenFault code_says items column code
+pub code_fault : (items : List PlacedLexeme) (column code : ℕ) → line_at InFunc items ≡ Err (At column code) → FirstTokenFault code_says items column code
 unfolding line_at form_at
 code_fault items column code e = first_fault code_at code_says Lawful-code items column code (not_empty (no_token (lexemes_of items)) (whole items (code_at (lexemes_of items))) column code e)

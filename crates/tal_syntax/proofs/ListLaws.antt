@@ -6,7 +6,7 @@ use lib.Dec.{eqb}
 use Rattle.text_tokens.specs.Token.{Lexeme, Mark}
 use Rattle.tal_syntax.specs.Sentences.{◌⊕◌}
 use Rattle.tal_syntax.specs.Grammar.{mark, comma, more_says, list_says}
-use Rattle.tal_syntax.specs.Reading.{Read, done, both, reads, cons, is_mark, if_mark, mark_at, more_at, most, some_rows, comma_at, rows_at}
+use Rattle.tal_syntax.specs.Reading.{Read, pure, both, reads, cons, is_mark, if_mark, mark_at, more_at, most, some_rows, comma_at, rows_at}
 use Rattle.tal_syntax.proofs.Lawful.{Lawful, Refusal, Took, Stuck, Made, Both, Nothing, nothing, Lawful-done, Lawful-both, Lawful-reads, Lawful-same}
 use Rattle.tal_syntax.proofs.LawfulChoices.{lead}
 use Rattle.tal_syntax.proofs.TokenLaws.{Lawful-mark, marked}
@@ -169,8 +169,8 @@ module _ {A : Type 0} (close : ℕ) (next : Read A) (N : A → List Lexeme → T
   unfolding more_at
   Lawful-more zero = Lawful-same (reads (λ u. []) (mark_at close)) (Made (λ u. []) (marked close)) (More close N zero) (Lawful-reads (λ u. []) (Lawful-mark close)) none_there none_back
   Lawful-more (suc n) =
-      Lawful-same (if_mark close (done []) (reads cons (both next (more_at close next n)))) (Unless close Closed (Rows n)) (More close N (suc n))
-      (Lawful-unless close (done []) (reads cons (both next (more_at close next n))) Closed (Rows n) (Lawful-done []) (Lawful-reads cons (after n (Lawful-more n))) (rows_start n))
+      Lawful-same (if_mark close (pure []) (reads cons (both next (more_at close next n)))) (Unless close Closed (Rows n)) (More close N (suc n))
+      (Lawful-unless close (pure []) (reads cons (both next (more_at close next n))) Closed (Rows n) (Lawful-done []) (Lawful-reads cons (after n (Lawful-more n))) (rows_start n))
       (some_there n) (some_back n)
 
 module _ {A : Type 0} (item : Read A) (S : A → List Lexeme → Type 0) (li : Lawful item S) where
@@ -216,6 +216,6 @@ module _ {A : Type 0} (close : ℕ) (item : Read A) (S : A → List Lexeme → T
   pub Lawful-rows : Lawful (rows_at close item) (list_says close S)
   unfolding rows_at some_rows
   Lawful-rows =
-      Lawful-same (if_mark close (done []) (some_rows close item (comma_at item))) (Unless close Closed Listed) (list_says close S)
-      (Lawful-unless close (done []) (some_rows close item (comma_at item)) Closed Listed (Lawful-done []) (Lawful-reads cons (Lawful-both li (Lawful-more close (comma_at item) (comma S) (λ n l. Lawful-both (Lawful-comma item S li) l) comma_starts most))) list_starts)
+      Lawful-same (if_mark close (pure []) (some_rows close item (comma_at item))) (Unless close Closed Listed) (list_says close S)
+      (Lawful-unless close (pure []) (some_rows close item (comma_at item)) Closed Listed (Lawful-done []) (Lawful-reads cons (Lawful-both li (Lawful-more close (comma_at item) (comma S) (λ n l. Lawful-both (Lawful-comma item S li) l) comma_starts most))) list_starts)
       list_there list_back

@@ -1,6 +1,6 @@
 -- What is read of a text is what its sentences say.
 use Rattle.std.proofs.Common.{◌≡◌, ℕ, ◌+◌, Bool, true, false, cond, length, List, [], ◌∷◌, ◌++◌, Option, Some, None, Result, Ok, Err, refl, sym, ap, subst, ◌∙◌, append-nil}
-use Rattle.text_tokens.specs.Token.{Lexeme, EndOfLine, Placed, lexemes_of, long_name, is_long}
+use Rattle.text_tokens.specs.Token.{Lexeme, EndOfLine, PlacedLexeme, lexemes_of, long_name, is_long}
 use Rattle.text_tokens.specs.Lexing.{line_tokens}
 use Rattle.tal_syntax.specs.Faults.{NoLong}
 use Rattle.tal_syntax.specs.Forms.{form_at, outside_at, member_at, code_at}
@@ -54,16 +54,16 @@ all_said scope f ts s = ap (form_at scope) (sym (append-nil ts)) ∙ (Lawful-for
 -- ---- a line
 
 -- with none left all were passed
-passed_all : (items : List Placed) → passed items [] ≡ items
+passed_all : (items : List PlacedLexeme) → passed items [] ≡ items
 passed_all items = passed_is items items [] (sym (append-nil items))
 
 -- one more name that is short
-short_step : (i : Placed) (is : List Placed) → is_long i.token ≡ false → long_name is ≡ None → long_name (i ∷ is) ≡ None
+short_step : (i : PlacedLexeme) (is : List PlacedLexeme) → is_long i.token ≡ false → long_name is ≡ None → long_name (i ∷ is) ≡ None
 unfolding long_name
 short_step i is e h = rw (e, long_name) h
 
 -- names of which none is too long
-none_long : (is : List Placed) → NoLong (lexemes_of is) → long_name is ≡ None
+none_long : (is : List PlacedLexeme) → NoLong (lexemes_of is) → long_name is ≡ None
 unfolding long_name
 none_long [] h = refl
 none_long (i ∷ is) h = short_step i is h.0 (none_long is h.1)
@@ -74,7 +74,7 @@ taken_is None f found e = (refl, cc)
 taken_is (Some c) f found e = absurd cc
 
 -- a form that is read is that of the line,
-form_line : (scope : Scope) (items : List Placed) (x : Form × List Lexeme) (o : Option Form) → EndsOnce (lexemes_of items) → form_at scope (lexemes_of items) ≡ Ok x → whole items (Ok x) ≡ Ok o → LineOf scope items o
+form_line : (scope : Scope) (items : List PlacedLexeme) (x : Form × List Lexeme) (o : Option Form) → EndsOnce (lexemes_of items) → form_at scope (lexemes_of items) ≡ Ok x → whole items (Ok x) ≡ Ok o → LineOf scope items o
 form_line scope items x o once e h =
     let all = all_read scope x.0 (lexemes_of items) x.1 once e in
     let same : passed items x.1 ≡ items = ap (passed items) all.0 ∙ passed_all items in
@@ -82,7 +82,7 @@ form_line scope items x o once e h =
     subst (λ (p : Option Form). LineOf scope items p) (sym k.1) (all.1, no_long items (ap long_name (sym same) ∙ k.0))
 
 -- whatever was read
-read_line : (scope : Scope) (items : List Placed) (r : Result (Form × List Lexeme) (List Lexeme)) (o : Option Form) → EndsOnce (lexemes_of items) → form_at scope (lexemes_of items) ≡ r → whole items r ≡ Ok o → LineOf scope items o
+read_line : (scope : Scope) (items : List PlacedLexeme) (r : Result (Form × List Lexeme) (List Lexeme)) (o : Option Form) → EndsOnce (lexemes_of items) → form_at scope (lexemes_of items) ≡ r → whole items r ≡ Ok o → LineOf scope items o
 read_line scope items (Ok x) o once e h = form_line scope items x o once e h
 read_line scope items (Err left) o once e h = absurd cc
 
@@ -93,7 +93,7 @@ empty_is (EndOfLine ∷ ts) e once = ap (λ (l : List Lexeme). EndOfLine ∷ l) 
 empty_is (t ∷ ts) e once = absurd cc
 
 -- a line is empty or has a form
-line_case : (scope : Scope) (items : List Placed) (o : Option Form) (r : Bool) → no_token (lexemes_of items) ≡ r → EndsOnce (lexemes_of items) → cond r (Ok None) (whole items (form_at scope (lexemes_of items))) ≡ Ok o → LineOf scope items o
+line_case : (scope : Scope) (items : List PlacedLexeme) (o : Option Form) (r : Bool) → no_token (lexemes_of items) ≡ r → EndsOnce (lexemes_of items) → cond r (Ok None) (whole items (form_at scope (lexemes_of items))) ≡ Ok o → LineOf scope items o
 line_case scope items o true e once h =
     let same : None ≡ o = cc in
     subst (λ (p : Option Form). LineOf scope items p) same (empty_is (lexemes_of items) e once)
@@ -111,7 +111,7 @@ some_token scope f (EndOfLine ∷ ts) s = absurd (let e = sym (end_refused scope
 some_token scope f (t ∷ ts) s = refl
 
 -- what the tokens of a line say is read
-pub line_said : (scope : Scope) (items : List Placed) (o : Option Form) → LineOf scope items o → line_at scope items ≡ Ok o
+pub line_said : (scope : Scope) (items : List PlacedLexeme) (o : Option Form) → LineOf scope items o → line_at scope items ≡ Ok o
 unfolding line_at
 line_said scope items None s = rw s refl
 line_said scope items (Some f) s =

@@ -5,7 +5,7 @@ use Rattle.std.proofs.lemmas.Bool.{eqb-true}
 use Rattle.std.proofs.lemmas.Bool.Decides.{nat_tests}
 use lib.Dec.{eqb}
 use Rattle.text_tokens.specs.Token.{Lexeme, Mark}
-use Rattle.tal_syntax.specs.Reading.{Read, ◌>>=◌, Gives, GivesVia, done, both, reads, cons, if_mark, mark_at, more_at}
+use Rattle.tal_syntax.specs.Reading.{Read, ◌>>=◌, Gives, GivesVia, pure, both, reads, cons, if_mark, mark_at, more_at}
 use Rattle.tal_syntax.specs.declared.tokens_read.Stop.{Stop}
 use Rattle.tal_syntax.specs.declared.tokens_read.Stop.TheVariants.{Refused, Memory}
 
@@ -74,7 +74,7 @@ module _ {A : Type 0} (close : ℕ) (next : Read A) where
   unfolding more_at
   row_more front n ts vs x total unclosed one so_far =
       let p = reads cons (both next (more_at close next n)) in
-      sym (regroup front x (more_at close next n vs)) ∙ ap (λ (r : Result (List A × List Lexeme) (List Lexeme)). with_front front r) (sym (row_then next (more_at close next n) ts vs x one) ∙ sym (goes_on close (done []) p ts unclosed)) ∙ so_far
+      sym (regroup front x (more_at close next n vs)) ∙ ap (λ (r : Result (List A × List Lexeme) (List Lexeme)). with_front front r) (sym (row_then next (more_at close next n) ts vs x one) ∙ sym (goes_on close (pure []) p ts unclosed)) ∙ so_far
 
   -- the closing mark
   pub row_last : (front : List A) (n : ℕ) (ts us : List Lexeme) (total : Result (List A × List Lexeme) (List Lexeme)) → ts ≡ Mark close ∷ us → with_front front (more_at close next n ts) ≡ total → total ≡ Ok (front, us)
@@ -82,7 +82,7 @@ module _ {A : Type 0} (close : ℕ) (next : Read A) where
   row_last front zero ts us total e so_far = sym so_far ∙ rw (e, takes_mark close us, append-nil front) refl
   row_last front (suc n) ts us total e so_far =
       let p = reads cons (both next (more_at close next n)) in
-      sym so_far ∙ rw (closes close (done []) p ts us e, append-nil front) refl
+      sym so_far ∙ rw (closes close (pure []) p ts us e, append-nil front) refl
 
   -- no row
   pub no_row : (front : List A) (n : ℕ) (ts left : List Lexeme) (total : Result (List A × List Lexeme) (List Lexeme)) → ((ws : List Lexeme) → ts ≡ Mark close ∷ ws → ⊥) → next ts ≡ Err left
@@ -90,7 +90,7 @@ module _ {A : Type 0} (close : ℕ) (next : Read A) where
   unfolding more_at
   no_row front n ts left total unclosed one so_far =
       let p = reads cons (both next (more_at close next n)) in
-      sym so_far ∙ rw (goes_on close (done []) p ts unclosed, row_fails next (more_at close next n) ts left one) refl
+      sym so_far ∙ rw (goes_on close (pure []) p ts unclosed, row_fails next (more_at close next n) ts left one) refl
 
   -- after the last count only the closing mark is read
   pub row_end : (front : List A) (ts us : List Lexeme) (total : Result (List A × List Lexeme) (List Lexeme)) → mark_at close ts ≡ Ok (tt, us) → with_front front (more_at close next zero ts) ≡ total → total ≡ Ok (front, us)

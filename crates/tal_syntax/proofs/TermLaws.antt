@@ -11,7 +11,7 @@ use Rattle.text_tokens.specs.declared.token.Keyword.TheVariants as key
 use Rattle.tal_syntax.specs.declared.form.Term.{Term}
 use Rattle.tal_syntax.specs.declared.form.Term.TheVariants as term
 use Rattle.tal_syntax.specs.Grammar.{name, number, factor_says, term_says, Negative, signed_says, terms_says}
-use Rattle.tal_syntax.specs.Reading.{Read, done, both, reads, cons, is_mark, if_mark, number_at, more_at, most, some_rows}
+use Rattle.tal_syntax.specs.Reading.{Read, pure, both, reads, cons, is_mark, if_mark, number_at, more_at, most, some_rows}
 use Rattle.tal_syntax.specs.Operands.{factor, of_factor, factor_at, register_at, term_of, term_at, negated, signed_of, signed_at, terms_at}
 use Rattle.tal_syntax.proofs.Lawful.{Lawful, Lives, Made, Both, Nothing, nothing, Lawful-done, Lawful-both, Lawful-reads, Lawful-same}
 use Rattle.tal_syntax.proofs.LawfulChoices.{Chosen, Lawful-one, led, lead}
@@ -156,10 +156,10 @@ module _ {B : Type 0} (q : Read B) (T : B → List Lexeme → Type 0) (lq : Lawf
   register_then : (r : Reg) → Lawful (both (register_at r) q) (Both (register_rest r) T)
   unfolding register_at
   register_then r =
-      Lawful-as (both (if_mark 42 (scaled r) (done (term.Register r))) q) (if_mark 42 (both (scaled r) q) (both (done (term.Register r)) q)) (Both (register_rest r) T)
-      (both_mark 42 (scaled r) (done (term.Register r)) q)
-      (Lawful-same (if_mark 42 (both (scaled r) q) (both (done (term.Register r)) q)) (Unless 42 (Both (scaled_says r) T) (Both (Nothing (term.Register r)) T)) (Both (register_rest r) T)
-      (Lawful-unless 42 (both (scaled r) q) (both (done (term.Register r)) q) (Both (scaled_says r) T) (Both (Nothing (term.Register r)) T)
+      Lawful-as (both (if_mark 42 (scaled r) (pure (term.Register r))) q) (if_mark 42 (both (scaled r) q) (both (pure (term.Register r)) q)) (Both (register_rest r) T)
+      (both_mark 42 (scaled r) (pure (term.Register r)) q)
+      (Lawful-same (if_mark 42 (both (scaled r) q) (both (pure (term.Register r)) q)) (Unless 42 (Both (scaled_says r) T) (Both (Nothing (term.Register r)) T)) (Both (register_rest r) T)
+      (Lawful-unless 42 (both (scaled r) q) (both (pure (term.Register r)) q) (Both (scaled_says r) T) (Both (Nothing (term.Register r)) T)
       (Lawful-both (Lawful-reads (λ k. term.Scaled r k) Lawful-factor) lq) (Lawful-both (Lawful-done (term.Register r)) lq) (alone_starts r))
       (with_factor r) (λ z ts s. factor_first r z ts s.front s.back s.parts s.one s.two))
 

@@ -1,6 +1,6 @@
 -- The first fault of a line, by a grammar of its tokens.
 use Rattle.std.specs.Prelude.{◌≡◌, ◌⊎◌, ℕ, ◌≤◌, List, [], ◌∷◌, ◌++◌, true, false}
-use Rattle.text_tokens.specs.Token.{Lexeme, Bad, EndOfLine, Placed, lexemes_of, is_long}
+use Rattle.text_tokens.specs.Token.{Lexeme, Bad, EndOfLine, PlacedLexeme, lexemes_of, is_long}
 use Rattle.tal_syntax.specs.declared.form.Form.{Form}
 
 -- some form begins with these tokens
@@ -21,10 +21,10 @@ TokenFault S front EndOfLine code = ⊥
 TokenFault S front t code = ((code ≡ 3) × (BeginsForm S (front ++ t ∷ []) → ⊥)) ⊎ ((code ≡ 4) × (is_long t ≡ true))
 
 -- the first token with a fault, behind tokens without, and there the least code
-pub record FirstTokenFault (S : Form → List Lexeme → Type 0) (items : List Placed) (column code : ℕ) : Type 0 where
-  pub front : List Placed
-  pub item : Placed
-  pub back : List Placed
+pub record FirstTokenFault (S : Form → List Lexeme → Type 0) (items : List PlacedLexeme) (column code : ℕ) : Type 0 where
+  pub front : List PlacedLexeme
+  pub item : PlacedLexeme
+  pub back : List PlacedLexeme
   pub parts : items ≡ front ++ item ∷ back
   pub place : item.column ≡ column
   pub begins : BeginsForm S (lexemes_of front)

@@ -8,7 +8,7 @@ use Rattle.tal_syntax.specs.declared.form.Form.{Form}
 use Rattle.tal_syntax.specs.declared.form.Form.TheVariants as form
 use Rattle.tal_syntax.specs.declared.form.Scope.{Scope}
 use Rattle.tal_syntax.specs.declared.form.Scope.TheVariants.{Outside, InClass, InFunc}
-use Rattle.tal_syntax.specs.Reading.{Read, done, both, reads, choose, by_key, mark_at, name_at, number_at, end_at, rows_at}
+use Rattle.tal_syntax.specs.Reading.{Read, pure, both, reads, choose, by_key, mark_at, name_at, number_at, end_at, rows_at}
 use Rattle.tal_syntax.specs.Rows.{type_at, reg_type_at}
 use Rattle.tal_syntax.specs.Operands.{inst_at}
 
@@ -34,7 +34,7 @@ static_at ext = reads (λ x. form.Static ext x.0 x.1.0) (both name_at (both type
 
 -- the numbers of a data array, where they are given, and the line's end
 abbrev pub numbers_of : Lexeme → Option (Read (Option (List ℤ)))
-numbers_of EndOfLine = Some (done None)
+numbers_of EndOfLine = Some (pure None)
 numbers_of (Mark b) = if b == 123 then Some (reads (λ x. Some x.0) (both (rows_at 125 number_at) end_at)) else None
 numbers_of _ = None
 
@@ -51,7 +51,7 @@ outer_data_at = reads (λ x. form.DataArray true x.0 x.1.0 x.1.1.0 None) (both n
 -- the class below which a class is, where it is given, and the line's end
 abbrev pub parent_of : Lexeme → Option (Read (Option (List ℕ)))
 parent_of (Key key.Below) = Some (reads (λ x. Some x.0) (both name_at end_at))
-parent_of EndOfLine = Some (done None)
+parent_of EndOfLine = Some (pure None)
 parent_of _ = None
 
 unfoldable pub parent_at : Read (Option (List ℕ))
@@ -115,7 +115,7 @@ member_at = choose (by_key class_key)
 
 -- the slots of a label, where they are given, and the line's end
 abbrev pub slots_of : Lexeme → Option (Read (Option (List TypeText)))
-slots_of EndOfLine = Some (done None)
+slots_of EndOfLine = Some (pure None)
 slots_of (Mark b) = if b == 91 then Some (reads (λ x. Some x.0) (both (rows_at 93 type_at) end_at)) else None
 slots_of _ = None
 

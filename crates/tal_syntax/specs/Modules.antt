@@ -1,6 +1,6 @@
 -- A text by the sentences of its lines.
 use Rattle.std.specs.Prelude.{◌≡◌, ℕ, ◌+◌, List, [], ◌∷◌, ◌++◌, true, Option, Some, None, Result, Err}
-use Rattle.text_tokens.specs.Token.{EndOfLine, Placed, lexemes_of}
+use Rattle.text_tokens.specs.Token.{EndOfLine, PlacedLexeme, lexemes_of}
 use Rattle.text_tokens.specs.Lexing.{line_tokens}
 use Rattle.tal_syntax.specs.Faults.{NoLong}
 use Rattle.tal_syntax.specs.Grammar.{form_says}
@@ -14,7 +14,7 @@ use Rattle.tal_syntax.specs.declared.form.Scope.TheVariants.{Outside}
 use Rattle.tal_syntax.specs.declared.module.TextLine.{TextLine}
 
 -- A line is empty, or its tokens say a form and no name of it is too long.
-abbrev pub LineOf : Scope → List Placed → Option Form → Type 0
+abbrev pub LineOf : Scope → List PlacedLexeme → Option Form → Type 0
 LineOf scope items None = lexemes_of items ≡ EndOfLine ∷ []
 LineOf scope items (Some f) = form_says scope f (lexemes_of items) × NoLong (lexemes_of items)
 

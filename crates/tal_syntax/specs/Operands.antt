@@ -19,7 +19,7 @@ use Rattle.tal_syntax.specs.declared.instructions.Operands.{Operands}
 use Rattle.tal_syntax.specs.declared.instructions.Operands.TheVariants as operands
 use Rattle.tal_syntax.specs.declared.instructions.Role.{Role}
 use Rattle.tal_syntax.specs.declared.instructions.Role.TheVariants as role
-use Rattle.tal_syntax.specs.Reading.{Read, done, both, reads, choose, one_of, if_mark, name_at, number_at, end_at, cons, some_rows, comma_at}
+use Rattle.tal_syntax.specs.Reading.{Read, pure, both, reads, choose, one_of, if_mark, name_at, number_at, end_at, cons, some_rows, comma_at}
 use Rattle.tal_syntax.specs.Rows.{type_at}
 
 -- ---- terms of memory operands
@@ -42,7 +42,7 @@ factor_at = one_of of_factor
 
 -- a register, and its factor where `*` follows
 unfoldable pub register_at : Reg → Read Term
-register_at r = if_mark 42 (reads (λ k. term.Scaled r k) factor_at) (done (term.Register r))
+register_at r = if_mark 42 (reads (λ k. term.Scaled r k) factor_at) (pure (term.Register r))
 
 -- two names
 abbrev pub two_names : Read (List ℕ × List ℕ)
@@ -59,7 +59,7 @@ term_key _ = None
 -- a term, by its first token
 abbrev pub term_of : Lexeme → Option (Read Term)
 term_of (Register r) = Some (register_at r)
-term_of (Number n) = Some (done (term.Number n))
+term_of (Number n) = Some (pure (term.Number n))
 term_of (Key k) = term_key k
 term_of _ = None
 
@@ -99,8 +99,8 @@ arg_key _ = None
 
 -- an operand, by its first token
 abbrev pub arg_of : Lexeme → Option (Read Arg)
-arg_of (Register r) = Some (done (arg.Register r))
-arg_of (Number n) = Some (done (arg.Number n))
+arg_of (Register r) = Some (pure (arg.Register r))
+arg_of (Number n) = Some (pure (arg.Number n))
 arg_of (Key k) = arg_key k
 arg_of (Mark b) = if b == 91 then Some memory_at else None
 arg_of _ = None
@@ -109,17 +109,17 @@ unfoldable pub arg_at : Read Arg
 arg_at = choose arg_of
 
 -- the count of a shift
-abbrev pub count_of : Lexeme → Option (Read Arg)
-count_of (Key key.Cl) = Some (done arg.Cl)
-count_of t = arg_of t
+abbrev pub count_arg_of : Lexeme → Option (Read Arg)
+count_arg_of (Key key.Cl) = Some (pure arg.Cl)
+count_arg_of t = arg_of t
 
 unfoldable pub count_at : Read Arg
-count_at = choose count_of
+count_at = choose count_arg_of
 
 -- what a call goes to
 abbrev pub called_of : Lexeme → Option (Read Arg)
-called_of (Register r) = Some (done (arg.Register r))
-called_of (Name n) = Some (done (arg.Target n))
+called_of (Register r) = Some (pure (arg.Register r))
+called_of (Name n) = Some (pure (arg.Target n))
 called_of (Key key.Nucleus) = Some (reads (λ k. arg.Nucleus k) number_at)
 called_of (Mark b) = if b == 91 then Some memory_at else None
 called_of _ = None
@@ -178,7 +178,7 @@ pair_at second = reads (λ x. x.0 ∷ x.1 ∷ []) (both arg_at (comma_at (last_a
 
 -- the third operand, or the line's end
 abbrev pub third_of : Lexeme → Option (Read (Option Arg))
-third_of EndOfLine = Some (done None)
+third_of EndOfLine = Some (pure None)
 third_of (Mark b) = if b == 44 then Some (reads (λ x. Some x) (last_at arg_at)) else None
 third_of _ = None
 
@@ -187,7 +187,7 @@ third_at = choose third_of
 
 -- the second operand and perhaps a third, or the line's end
 abbrev pub second_of : Lexeme → Option (Read (List Arg))
-second_of EndOfLine = Some (done [])
+second_of EndOfLine = Some (pure [])
 second_of (Mark b) = if b == 44 then Some (reads (λ x. x.0 ∷ option_to_list x.1) (both arg_at third_at)) else None
 second_of _ = None
 

@@ -30,8 +30,8 @@ Gives (Err Refused) read left = read ≡ Err left
 Gives (Err Memory) read left = Unit {0}
 
 -- a value, and no token
-abbrev pub done : {A : Type 0} → A → Read A
-done x ts = Ok (x, ts)
+abbrev pub pure : {A : Type 0} → A → Read A
+pure x ts = Ok (x, ts)
 
 -- one after the other
 abbrev pub both : {A B : Type 0} → Read A → Read B → Read (A × B)
@@ -116,7 +116,7 @@ cons x = x.0 ∷ x.1
 -- up to n more rows, each with what stands before it, and the closing mark
 unfoldable pub more_at : {A : Type 0} → ℕ → Read A → ℕ → Read (List A)
 more_at close next zero = reads (λ u. []) (mark_at close)
-more_at close next (suc n) = if_mark close (done []) (reads cons (both next (more_at close next n)))
+more_at close next (suc n) = if_mark close (pure []) (reads cons (both next (more_at close next n)))
 
 -- more rows than any line has
 unfoldable pub most : ℕ
@@ -132,4 +132,4 @@ comma_at item = reads (λ x. x.1) (both (mark_at 44) item)
 
 -- rows between commas, and the closing mark
 unfoldable pub rows_at : {A : Type 0} → ℕ → Read A → Read (List A)
-rows_at close item = if_mark close (done []) (some_rows close item (comma_at item))
+rows_at close item = if_mark close (pure []) (some_rows close item (comma_at item))

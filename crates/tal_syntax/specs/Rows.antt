@@ -7,7 +7,7 @@ use Rattle.text_tokens.specs.declared.token.Keyword.TheVariants as key
 use Rattle.tal_syntax.specs.declared.form.TypeText.{TypeText}
 use Rattle.tal_syntax.specs.declared.form.TypeText.TheVariants as ty
 use Rattle.tal_syntax.specs.declared.form.RegType.{RegType}
-use Rattle.tal_syntax.specs.Reading.{Read, done, both, reads, choose, by_key, name_at, typed_at}
+use Rattle.tal_syntax.specs.Reading.{Read, pure, both, reads, choose, by_key, name_at, typed_at}
 
 -- a mark was taken, or stays
 abbrev pub Peels : ℕ → Bool → List Lexeme → List Lexeme → Type 0
@@ -16,8 +16,8 @@ Peels m false old new = (new ≡ old) × ((ts : List Lexeme) → old ≡ Mark m 
 
 -- a type, by its first word
 abbrev pub type_key : Keyword → Option (Read TypeText)
-type_key key.Num = Some (done ty.Num)
-type_key key.Junk = Some (done ty.Junk)
+type_key key.Num = Some (pure ty.Num)
+type_key key.Junk = Some (pure ty.Junk)
 type_key key.Ref = Some (reads (λ n. ty.Ref n) name_at)
 type_key key.Obj = Some (reads (λ n. ty.Obj n) name_at)
 type_key key.ArrRef = Some (reads (λ n. ty.ArrRef n) name_at)

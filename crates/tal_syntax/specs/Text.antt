@@ -1,6 +1,6 @@
 -- A text as numbered lines, or its first fault.
 use Rattle.std.specs.Prelude.{◌≡◌, ℕ, ◌+◌, ◌-◌, List, [], ◌∷◌, ◌++◌, length, take, drop, Bool, true, false, ◌&&◌, not, Option, Some, None, Result, Ok, Err, if◌then◌else◌}
-use Rattle.text_tokens.specs.Token.{Lexeme, Bad, EndOfLine, Placed, lexemes_of, column_of, long_name}
+use Rattle.text_tokens.specs.Token.{Lexeme, Bad, EndOfLine, PlacedLexeme, lexemes_of, column_of, long_name}
 use Rattle.text_tokens.specs.Lexing.{line_tokens}
 use Rattle.tal_syntax.specs.Forms.{form_at}
 use Rattle.tal_syntax.specs.Lines.{lines}
@@ -18,11 +18,11 @@ use Rattle.tal_syntax.specs.declared.line.LineStop.TheVariants as stop
 -- ---- one line
 
 -- the tokens before those that are left
-abbrev pub passed : List Placed → List Lexeme → List Placed
+abbrev pub passed : List PlacedLexeme → List Lexeme → List PlacedLexeme
 passed line left = take (length line - length left) line
 
 -- the column of the first of the tokens that are left
-abbrev pub place : List Placed → List Lexeme → ℕ
+abbrev pub place : List PlacedLexeme → List Lexeme → ℕ
 place line left = column_of (drop (length line - length left) line)
 
 -- how a line fails: at a column with a code, or it is no whole form
@@ -35,7 +35,7 @@ code_of (Bad c ∷ ts) = c
 code_of ts = 3
 
 -- the fault at the first of these tokens, where no form has it
-abbrev pub refusal : List Placed → List Lexeme → LineFault
+abbrev pub refusal : List PlacedLexeme → List Lexeme → LineFault
 refusal items [] = Unfinished
 refusal items (EndOfLine ∷ ts) = Unfinished
 refusal items left = At (place items left) (code_of left)
@@ -49,7 +49,7 @@ taken_or_long None f = Ok (Some f)
 taken_or_long (Some long) f = Err (At long 4)
 
 -- Of a name that is too long and a token behind it that is refused, the name comes first.
-abbrev pub whole : List Placed → Result (Form × List Lexeme) (List Lexeme) → Result (Option Form) LineFault
+abbrev pub whole : List PlacedLexeme → Result (Form × List Lexeme) (List Lexeme) → Result (Option Form) LineFault
 whole items (Err left) = Err (refused_or_long (long_name (passed items left)) (refusal items left))
 whole items (Ok x) = taken_or_long (long_name (passed items x.1)) x.0
 
@@ -58,7 +58,7 @@ no_token (EndOfLine ∷ ts) = true
 no_token _ = false
 
 -- a line's form, or none where it is empty
-unfoldable pub line_at : Scope → List Placed → Result (Option Form) LineFault
+unfoldable pub line_at : Scope → List PlacedLexeme → Result (Option Form) LineFault
 line_at scope items = if no_token (lexemes_of items) then Ok None else whole items (form_at scope (lexemes_of items))
 
 -- what the code answers for a line

@@ -2,7 +2,7 @@
 use Rattle.std.proofs.Common.{◌≡◌, ℕ, zero, suc, ◌+◌, ◌≤◌, ◌<◌, List, [], ◌∷◌, length, drop, get_or, Option, Some, None, refl, sym, ap, subst, ◌∙◌, arith, add-one}
 use Rattle.std.proofs.Math.Seq.{drop-cons}
 use Rattle.std.proofs.lemmas.List.{drop_all, drop-drop}
-use Rattle.text_tokens.specs.Token.{Lexeme, Placed, seen}
+use Rattle.text_tokens.specs.Token.{Lexeme, PlacedLexeme, seen}
 use Rattle.text_tokens.specs.Lexing.{tokens_from, placed, line_end}
 use Rattle.text_tokens.specs.Pieces.{piece_at, PieceView, IsPiece, seen_option}
 use Rattle.text_tokens.specs.declared.pieces.Mode.{Mode}
@@ -20,7 +20,7 @@ pub at_end : (column : ℕ) (mode : Mode) (line : List ℕ) (at : ℕ) → lengt
 unfolding tokens_from
 at_end column mode line at le = rw (drop_all at line le) refl
 
-abbrev tokens_at : Option Lexeme → ℕ → Mode → ℕ → List ℕ → List Placed
+abbrev tokens_at : Option Lexeme → ℕ → Mode → ℕ → List ℕ → List PlacedLexeme
 tokens_at o more mode column bytes = elim o [
   | None ↦ tokens_from 0 mode (column + 1) bytes
   | Some t ↦ placed column t ∷ tokens_from more mode (column + 1) bytes
@@ -59,7 +59,7 @@ begins p t mode line at lt h e more =
     let fits : p.more ≤ length (drop (at + 1) line) = omega (arith, ap length k) in
     ap (λ (l : List ℕ). tokens_from 0 mode (at + 1) l) k
     ∙ found p (Some t) (get_or line at 0) (at + 1) mode (drop (at + 1) line) h2 e
-    ∙ ap (λ (is : List Placed). placed (at + 1) (seen t) ∷ is)
+    ∙ ap (λ (is : List PlacedLexeme). placed (at + 1) (seen t) ∷ is)
     (skips p.more (at + 1 + 1) p.mode (drop (at + 1) line) fits
     ∙ ap (λ (l : List ℕ). tokens_from 0 p.mode (at + 1 + 1 + p.more) l) (drop-drop p.more (at + 1) line ∙ ap (λ (n : ℕ). drop n line) (omega arith))
     ∙ ap (λ (n : ℕ). tokens_from 0 p.mode n (drop (at + 1 + p.more) line)) (omega arith))

@@ -38,6 +38,6 @@ unsigned bytes =
     else record { bytes = length (decimal_digits bytes); value = value_of 10 0 (decimal_digits bytes) }
 
 -- the token of a number: numbers go from -2^31 to 2^32 - 1
-unfoldable pub signed : Bool → ℕ → Lexeme
-signed true value = if nat_le value 2147483648 then Number (neg_ℤ (pos value)) else Bad 2
-signed false value = if nat_le value 4294967295 then Number (pos value) else Bad 2
+unfoldable pub number_token : Bool → ℕ → Lexeme
+number_token true value = if nat_le value 2147483648 then Number (neg_ℤ (pos value)) else Bad 2
+number_token false value = if nat_le value 4294967295 then Number (pos value) else Bad 2

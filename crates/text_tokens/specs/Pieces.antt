@@ -6,7 +6,7 @@ use Rattle.text_tokens.specs.declared.token.Token.{Token}
 use Rattle.text_tokens.specs.declared.pieces.Piece.{Piece}
 use Rattle.text_tokens.specs.Token.{seen, Lexeme, Key, Register, Mnemonic, Name, Number, Mark, Bad}
 use Rattle.text_tokens.specs.Words.{word_of}
-use Rattle.text_tokens.specs.Numbers.{byte_at, unsigned, signed}
+use Rattle.text_tokens.specs.Numbers.{byte_at, unsigned, number_token}
 use Rattle.text_tokens.specs.declared.words.Word.TheVariants as word
 use Rattle.text_tokens.specs.declared.pieces.Mode.{Mode}
 use Rattle.text_tokens.specs.declared.pieces.Mode.TheVariants.{Line, Label, Inside, Behind, Comment}
@@ -65,11 +65,11 @@ word_piece mode bytes =
 
 -- a number without a sign
 abbrev pub number_piece : Mode → List ℕ → PieceView
-number_piece mode bytes = record { token = Some (signed false (unsigned bytes).value); more = (unsigned bytes).bytes - 1; mode = behind_value mode }
+number_piece mode bytes = record { token = Some (number_token false (unsigned bytes).value); more = (unsigned bytes).bytes - 1; mode = behind_value mode }
 
 -- a number behind its `-`
 abbrev pub negative_piece : Mode → List ℕ → PieceView
-negative_piece mode bytes = record { token = Some (signed true (unsigned (drop 1 bytes)).value); more = (unsigned (drop 1 bytes)).bytes; mode = behind_value mode }
+negative_piece mode bytes = record { token = Some (number_token true (unsigned (drop 1 bytes)).value); more = (unsigned (drop 1 bytes)).bytes; mode = behind_value mode }
 
 -- what the first of some bytes begins, outside a comment: a blank and `;` begin nothing
 unfoldable pub piece_in : Mode → ℕ → List ℕ → PieceView

@@ -29,17 +29,17 @@ seen (code.Bad c) = Bad c
 seen code.EndOfLine = EndOfLine
 
 -- a token and the column of its first byte, counted from 1
-pub record Placed : Type 0 where
+pub record PlacedLexeme : Type 0 where
   pub column : ℕ
   pub token : Lexeme
 
 -- the tokens without their columns
-abbrev pub lexemes_of : List Placed → List Lexeme
+abbrev pub lexemes_of : List PlacedLexeme → List Lexeme
 lexemes_of ts = map (λ t. t.token) ts
 
 -- the tokens of a line, and those that are still to be read
 pub record TokensView : Type 0 where
-  pub line : List Placed
+  pub line : List PlacedLexeme
   pub left : List Lexeme
 
 -- all but the first
@@ -48,7 +48,7 @@ tail [] = []
 tail (t ∷ ts) = ts
 
 -- the same with columns
-abbrev pub tail_tokens : List Placed → List Placed
+abbrev pub tail_tokens : List PlacedLexeme → List PlacedLexeme
 tail_tokens [] = []
 tail_tokens (t ∷ ts) = ts
 
@@ -58,7 +58,7 @@ IsNext None left = left ≡ []
 IsNext (Some t) left = left ≡ seen t ∷ tail left
 
 -- the column of the first of some tokens
-abbrev pub column_of : List Placed → ℕ
+abbrev pub column_of : List PlacedLexeme → ℕ
 column_of [] = 0
 column_of (t ∷ ts) = t.column
 
@@ -68,11 +68,11 @@ is_long (Name w) = nat_lt 63 (length w)
 is_long _ = false
 
 -- the column of the first name that is too long
-unfoldable pub long_name : List Placed → Option ℕ
+unfoldable pub long_name : List PlacedLexeme → Option ℕ
 long_name [] = None
 long_name (t ∷ ts) = if is_long t.token then Some t.column else long_name ts
 
 -- the same with one token more behind
-abbrev pub long_behind : Option ℕ → Placed → Option ℕ
+abbrev pub long_behind : Option ℕ → PlacedLexeme → Option ℕ
 long_behind (Some c) t = Some c
 long_behind None t = if is_long t.token then Some t.column else None

@@ -40,15 +40,15 @@ keyword_text key.Nucleus = codes "nucleus"
 keyword_text key.Cl = codes "cl"
 
 -- the letters of a word
-abbrev pub word_text : Word → List ℕ
-word_text (Key k) = keyword_text k
-word_text (Register r) = register_text r
-word_text (Mnemonic m) = mnemonic_text m
+abbrev pub word_letters : Word → List ℕ
+word_letters (Key k) = keyword_text k
+word_letters (Register r) = register_text r
+word_letters (Mnemonic m) = mnemonic_text m
 
 -- the first of some words that is written so
 unfoldable pub first_written : List Word → List ℕ → Option Word
 first_written [] letters = None
-first_written (w ∷ ws) letters = if bytes_eq (word_text w) letters then Some w else first_written ws letters
+first_written (w ∷ ws) letters = if bytes_eq (word_letters w) letters then Some w else first_written ws letters
 
 -- the word that is written so
 unfoldable pub word_of : List ℕ → Option Word

@@ -3,7 +3,7 @@ ghost use Rattle.std.specs.Prelude.{◌≡◌, ℕ, ◌⊎◌, IsTrue, slice_ind
 ghost use Rattle.std.specs.List.{take_while};
 ghost use Rattle.text_tokens.specs.Bytes.{is_digit, is_hex_digit, digit_of};
 ghost use Rattle.text_tokens.specs.Token.{seen};
-ghost use Rattle.text_tokens.specs.Numbers.{value_of, unsigned, is_hex_start, signed};
+ghost use Rattle.text_tokens.specs.Numbers.{value_of, unsigned, is_hex_start, number_token};
 
 use crate::bytes::{digit, hex_digit};
 use crate::token::Token;
@@ -108,9 +108,9 @@ pub fn unsigned_at(bytes: &[u8]) -> (usize, u64)
 }
 
 // A number's token.
-#[tactic(auto, unfolding(crate::specs::Numbers::signed))]
+#[tactic(auto, unfolding(crate::specs::Numbers::number_token))]
 pub fn signed_token(negative: bool, value: u64) -> Token<'static>
-    ensures { (v : ℕ) → min value (2 ^ 32) ≡ min v (2 ^ 32) → seen result ≡ signed negative v }
+    ensures { (v : ℕ) → min value (2 ^ 32) ≡ min v (2 ^ 32) → seen result ≡ number_token negative v }
 {
     if negative {
         if value <= 2147483648 {

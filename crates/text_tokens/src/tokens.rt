@@ -1,6 +1,6 @@
 // The tokens of a line, read from left to right.
 ghost use Rattle.std.specs.Prelude.{List, ◌≡◌, ◌∷◌, [], ◌≤◌, ◌<◌, ◌^◌, length, IfOk};
-ghost use Rattle.text_tokens.specs.Token.{Placed, IsNext, tail, lexemes_of, column_of, long_name, is_long, seen};
+ghost use Rattle.text_tokens.specs.Token.{PlacedLexeme, IsNext, tail, lexemes_of, column_of, long_name, is_long, seen};
 ghost use Rattle.text_tokens.specs.Tokens.{StandsBetween, StandsSomewhere, long_with};
 ghost use Rattle.text_tokens.specs.Lexing.{line_tokens};
 
@@ -58,7 +58,7 @@ impl<'a> Tokens<'a> {
     /// The column of the next token, counted from 1, or 0 where none is left.
     pub fn column(&self) -> usize
         ensures stands { StandsSomewhere self.now }
-        ensures column { (before after : List Placed) → StandsBetween self.now before after → result ≡ column_of after }
+        ensures column { (before after : List PlacedLexeme) → StandsBetween self.now before after → result ≡ column_of after }
     {
         match &self.here {
             Some(found) => found.column,
@@ -69,7 +69,7 @@ impl<'a> Tokens<'a> {
     /// The column of the first name before the next token that is too long.
     pub fn long_name(&self) -> Option<usize>
         ensures stands { StandsSomewhere self.now }
-        ensures column { (before after : List Placed) → StandsBetween self.now before after → result ≡ long_name before }
+        ensures column { (before after : List PlacedLexeme) → StandsBetween self.now before after → result ≡ long_name before }
     {
         self.long
     }

@@ -1,6 +1,6 @@
 // The words that are no names, each with its letters.
 ghost use Rattle.std.specs.Prelude.{◌≡◌, drop};
-ghost use Rattle.text_tokens.specs.Words.{keyword_text, word_text, first_written, word_of};
+ghost use Rattle.text_tokens.specs.Words.{keyword_text, word_letters, first_written, word_of};
 
 use crate::token::Keyword;
 use code_words::{Mnemonic, register_text};
@@ -133,7 +133,7 @@ fn keyword_text(keyword: Keyword) -> &'static str
 
 // The letters of a word.
 fn word_text(word: Word) -> &'static str
-    ensures { result.now ≡ word_text word }
+    ensures { result.now ≡ word_letters word }
 {
     match word {
         Word::Key(keyword) => keyword_text(keyword),

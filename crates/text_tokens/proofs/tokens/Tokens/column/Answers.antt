@@ -1,6 +1,6 @@
 use Rattle.std.proofs.Common.{◌≡◌, ◌∙◌, List, Option, ap, sym, subst}
 use Rattle.text_tokens.specs.declared.lexing.Found.{Found}
-use Rattle.text_tokens.specs.Token.{Placed, TokensView, column_of}
+use Rattle.text_tokens.specs.Token.{PlacedLexeme, TokensView, column_of}
 use Rattle.text_tokens.specs.Tokens.{StandsBetween, StandsSomewhere, tokens_left}
 use Rattle.text_tokens.proofs.Places.{cut_is, cut_here}
 use Rattle.text_tokens.proofs.tokens.Tokens.column.Goals as goal

@@ -1,5 +1,5 @@
 use Rattle.std.proofs.Common.{◌≡◌, ◌∙◌, List, ap, sym, subst}
-use Rattle.text_tokens.specs.Token.{Placed, TokensView, long_name}
+use Rattle.text_tokens.specs.Token.{PlacedLexeme, TokensView, long_name}
 use Rattle.text_tokens.specs.Tokens.{StandsBetween, StandsSomewhere}
 use Rattle.text_tokens.proofs.Places.{cut_is, cut_here}
 use Rattle.text_tokens.proofs.tokens.Tokens.long_name.Goals as goal
