@@ -11,7 +11,7 @@ use Rattle.device_model.specs.declared.events.Event.{Event}
 use Rattle.device_model.specs.History.{History}
 use Rattle.stack_states.specs.declared.journal_entry.Entry.{Entry}
 use Rattle.tal_flow.specs.Rules.{next_address}
-use Rattle.tal_flow.specs.Strongest.{Placed, placed_at}
+use Rattle.tal_flow.specs.Strongest.{PlacedInst, placed_at}
 use Rattle.tal_image.specs.Image.{ImageParts}
 use Rattle.tal_checker.specs.Instructions.{instructions}
 use Rattle.tal_checker.specs.WellTyped.{WellTyped}
@@ -40,7 +40,7 @@ use Rattle.kernel_machine.proofs.Stacks.{one-anywhere, first-is-current}
 -- ---- the instruction
 
 -- an instruction of a list in which none calls an entry of the Nucleus
-listed-calls-none : (xs : List Placed) (pc : ℕ) (x : Placed) → first_call xs ≡ None → placed_at xs pc ≡ Some x → calls_entry (next_address x.pc x.len) x.inst ≡ false
+listed-calls-none : (xs : List PlacedInst) (pc : ℕ) (x : PlacedInst) → first_call xs ≡ None → placed_at xs pc ≡ Some x → calls_entry (next_address x.pc x.len) x.inst ≡ false
 unfolding placed_at
 listed-calls-none [] pc x e h = absurd (cc)
 listed-calls-none (y ∷ ys) pc x e h = go (listed-calls-none ys pc x) (calls_entry (next_address y.pc y.len) y.inst) refl e (y.pc == pc) h

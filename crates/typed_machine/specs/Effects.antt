@@ -14,7 +14,7 @@ use Rattle.ia32_step.specs.declared.effect.Effect.{Effect as StepEffect}
 use Rattle.ia32_step.specs.declared.effect.Effect.TheVariants as step
 use Rattle.ia32_step.specs.Operands.{WordState, read_word}
 use Rattle.ia32_step.specs.Conditions.{holds}
-use Rattle.ia32_step.specs.Effects.{done, effect_of}
+use Rattle.ia32_step.specs.Effects.{executed, effect_of}
 use Rattle.tal_types.specs.declared.types.FlagKind.{FlagKind}
 use Rattle.tal_types.specs.declared.types.FlagKind.TheVariants as kind
 use Rattle.tal_types.specs.declared.signatures.Sig.{Sig}
@@ -84,7 +84,7 @@ fault_or step.Return otherwise = otherwise
 abbrev pub computed : ShownImage → State → Inst → ℕ → ℕ → Operand → Bool → Option FlagKind → WordState → Option EffectView
 computed v s i len next d wide k m =
     fault_or (effect_of i m len)
-    (option_map (λ t. goes_on next (settled wide k (done i m) t)) (write_operand v s d (Number (read_word d (done i m)))))
+    (option_map (λ t. goes_on next (settled wide k (executed i m) t)) (write_operand v s d (Number (read_word d (executed i m)))))
 
 -- an operation on numbers
 unfoldable pub computes : ShownImage → State → Inst → ℕ → ℕ → List Operand → Operand → Bool → Option FlagKind → Option EffectView
@@ -138,7 +138,7 @@ known_of (Some w) None bare display = None
 
 -- the flags are those of the words, and so much is known of them
 abbrev pub sets_flags : ShownImage → State → Inst → ℕ → List Operand → Option Known → Option EffectView
-sets_flags v s i next xs known = option_map (λ k. goes_on next (with_flags (done i (words_of s (word_among v s xs))).flags k s)) known
+sets_flags v s i next xs known = option_map (λ k. goes_on next (with_flags (executed i (words_of s (word_among v s xs))).flags k s)) known
 
 unfoldable pub compares : ShownImage → State → Inst → ℕ → Operand → Operand → Option EffectView
 compares v s i next d x =
@@ -169,7 +169,7 @@ is_number_in s (Some r) = not (same r Esp) && is_some (number_in (s.thread.regs 
 unfoldable pub addresses : State → Inst → ℕ → Reg → Mem → Option EffectView
 addresses s i next r m =
     if not (same r Esp) && (is_number_in s m.base && is_number_in s m.index)
-    then Some (goes_on next (with_register r (Number (read_word (R r) (done i (words_of s 0)))) s)) else None
+    then Some (goes_on next (with_register r (Number (read_word (R r) (executed i (words_of s 0)))) s)) else None
 
 -- the stack is full
 unfoldable pub is_full : State → Bool
@@ -197,7 +197,7 @@ abbrev pub drops : State → Inst → ℕ → Option ℕ → Option EffectView
 drops s i next None = None
 drops s i next (Some n) =
     if has_above n s.values
-    then Some (goes_on next (with_flags (done i (words_of s 0)).flags NoCondition (with_values (drop n s.values) s))) else None
+    then Some (goes_on next (with_flags (executed i (words_of s 0)).flags NoCondition (with_values (drop n s.values) s))) else None
 
 -- ---- calls and returns
 

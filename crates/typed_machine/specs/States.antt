@@ -1,5 +1,5 @@
 -- States of the typed machine.
-use Rattle.std.specs.Prelude.{ℕ, ◌-◌, false, List, [], ◌∷◌, map, replicate, slice_index, Option, None, if◌then◌else◌}
+use Rattle.std.specs.Prelude.{ℕ, ◌-◌, ◌*◌, false, List, [], ◌∷◌, map, replicate, slice_index, Option, None, if◌then◌else◌}
 use Rattle.std.specs.Option.{option_map_or}
 use Rattle.ia32_code.specs.declared.instruction.Reg.{Reg}
 use Rattle.ia32_code.specs.declared.instruction.Reg.TheVariants.{Eax}
@@ -52,6 +52,10 @@ pub record State : Type 0 where
 -- a stack has at most so many values
 abbrev pub most_values : ℕ
 most_values = 4096
+
+-- the bytes of a stack: four for each value
+abbrev pub stack_bytes : ℕ
+stack_bytes = 4 * most_values
 
 -- no flag is set
 abbrev pub clear_flags : FlagBits

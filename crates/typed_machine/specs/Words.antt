@@ -5,11 +5,11 @@ use Rattle.ia32_code.specs.declared.instruction.Reg.TheVariants.{Eax, Ecx, Edx, 
 use Rattle.object_layout.specs.Areas.{stacks_start}
 use Rattle.ia32_step.specs.Operands.{WordState}
 use Rattle.typed_machine.specs.Values.{Value, Word}
-use Rattle.typed_machine.specs.States.{State, places_of}
+use Rattle.typed_machine.specs.States.{State, stack_bytes, places_of}
 
 -- the address above a stack's last word
 abbrev pub upper_end : ℕ → ℕ
-upper_end stack = stacks_start + 16384 * (stack + 1)
+upper_end stack = stacks_start + stack_bytes * (stack + 1)
 
 -- ESP of a stack with so many words
 abbrev pub stack_pointer : ℕ → ℕ → ℕ

@@ -137,43 +137,24 @@ next-place image s cpu m i len at = ap (λ pc. (pc + len) % 2 ^ 32) at.grounds.s
 
 -- ---- calls
 
--- the number of the entry at an address
-abbrev pub entry_at : ℕ → ℕ
-entry_at a = (a - 0x1000) / 16
-
 -- an entry is at an address with its number
-entry-there : (a : ℕ) → is_entry a ≡ true → (arguments : Arguments) × (entry_number a ≡ Some (entry_at a)) × (slice_get nucleus_arguments (entry_at a) ≡ Some arguments)
-unfolding is_entry entry_number
-entry-there a h = go (nat_le 0x1000 a && ((a - 0x1000) % 16 == 0)) h
+entry-there : (a k : ℕ) → is_entry a ≡ true → entry_number a ≡ Some k → (arguments : Arguments) × (slice_get nucleus_arguments k ≡ Some arguments)
+unfolding is_entry
+entry-there a k h e = at (slice_get nucleus_arguments k) (rw e at h)
   where
     at : (o : Option Arguments) → is_some o ≡ true → (arguments : Arguments) × (o ≡ Some arguments)
     at None h = absurd (cc)
     at (Some x) h = (x, refl)
 
-    go : (t : Bool) → is_some (option_and_then (slice_get nucleus_arguments) (if t then Some (entry_at a) else None)) ≡ true
-        → (arguments : Arguments) × ((if t then Some (entry_at a) else None) ≡ Some (entry_at a)) × (slice_get nucleus_arguments (entry_at a) ≡ Some arguments)
-    go true h = let x = at (slice_get nucleus_arguments (entry_at a)) h in (x.0, refl, x.1)
-    go false h = absurd (cc)
-
--- an entry's address is not below that of entry 0
-pub entry-above : (a : ℕ) → is_entry a ≡ true → 0x1000 ≤ a
-unfolding is_entry entry_number
-entry-above a h = go (nat_le 0x1000 a && ((a - 0x1000) % 16 == 0)) refl h
-  where
-    go : (t : Bool) → (nat_le 0x1000 a && ((a - 0x1000) % 16 == 0)) ≡ t
-        → is_some (option_and_then (slice_get nucleus_arguments) (if t then Some (entry_at a) else None)) ≡ true → 0x1000 ≤ a
-    go true e f = let low = (and_parts (nat_le 0x1000 a) ((a - 0x1000) % 16 == 0) e).0 in grind (arith, nat_tests)
-    go false e f = absurd (cc)
-
 -- a call of an entry
-pub entry-comes : (image : ImageParts) (s : State) (next a : ℕ) (ran : Cpu) (after : MemoryView) (e : Option EffectView) → is_entry a ≡ true
-    → Left image s next (left.Call a) e ran after → Came (step.Calls (entry_at a)) ran after image s e
+pub entry-comes : (image : ImageParts) (s : State) (next a k : ℕ) (ran : Cpu) (after : MemoryView) (e : Option EffectView) → is_entry a ≡ true → entry_number a ≡ Some k
+    → Left image s next (left.Call a) e ran after → Came (step.Calls k) ran after image s e
 unfolding calls_to
-entry-comes image s next a ran after e h (known, is, stand) =
-    let x = entry-there a h in
-    let calls : calls_to (shown image) s next a ≡ calls_entry s (entry_at a) x.0 = rw (x.1, x.2) refl in
-    let there : calls_entry s (entry_at a) x.0 ≢ None = λ none. known (is ∙ (calls ∙ none)) in
-    rw (is ∙ (calls ∙ passed _ (Calls (entry_at a)) there)) (refl, stand)
+entry-comes image s next a k ran after e h number (known, is, stand) =
+    let x = entry-there a k h number in
+    let calls : calls_to (shown image) s next a ≡ calls_entry s k x.0 = rw (number, x.1) refl in
+    let there : calls_entry s k x.0 ≢ None = λ none. known (is ∙ (calls ∙ none)) in
+    rw (is ∙ (calls ∙ passed _ (Calls k) there)) (refl, stand)
 
 -- a call of any other address is one of a function
 other-call : (v : ShownImage) (s : State) (next a : ℕ) → is_entry a ≡ false → calls_to v s next a ≡ calls_function v s next a

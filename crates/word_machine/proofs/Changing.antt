@@ -11,7 +11,7 @@ use Rattle.typed_machine.specs.Stores.{Object}
 use Rattle.typed_machine.specs.States.{State, places_of}
 use Rattle.typed_machine.specs.Words.{stack_pointer}
 use Rattle.word_machine.specs.Memory.{MemoryView, word_of, is_mapped}
-use Rattle.word_machine.specs.Standing.{Holds, object_values, values_at}
+use Rattle.word_machine.specs.Standing.{HoldsValues, object_values, values_at}
 use Rattle.word_machine.specs.Following.{Grounds}
 use Rattle.word_machine.proofs.Holding.{Outside, Change, word-kept, holds-kept}
 use Rattle.word_machine.proofs.Tables.{table-below, descriptor-below}
@@ -19,7 +19,7 @@ use Rattle.word_machine.proofs.Bounds.{stack-short}
 
 -- the words of stack n, where it has these values
 abbrev pub StackHolds : MemoryView → State → ℕ → List Value → Type 0
-StackHolds m s n values = Holds m (places_of s) (stack_pointer n (length values)) values
+StackHolds m s n values = HoldsValues m (places_of s) (stack_pointer n (length values)) values
 
 module _ {image : ImageParts} {live : ℕ → Bool} {s : State} {cpu : Cpu} {m : MemoryView} (g : Grounds image live s cpu m) {after : MemoryView} {a w : ℕ}
     (c : Change m after a w) where
@@ -45,12 +45,12 @@ module _ {image : ImageParts} {live : ℕ → Bool} {s : State} {cpu : Cpu} {m :
       go false = g.stand.memory.room b low high aligned
 
   -- the statics
-  pub statics-kept : Outside a statics_start (length s.statics) → Holds after (places_of s) statics_start s.statics
+  pub statics-kept : Outside a statics_start (length s.statics) → HoldsValues after (places_of s) statics_start s.statics
   statics-kept out = holds-kept c (places_of s) statics_start s.statics g.stand.memory.statics out
 
   -- an object that lives
   pub object-kept : (i : ℕ) (o : Object) → live i ≡ true → slice_get s.store i ≡ Some o → Outside a o.place (length (object_values o))
-      → Holds after (places_of s) o.place (object_values o)
+      → HoldsValues after (places_of s) o.place (object_values o)
   object-kept i o lives there out = holds-kept c (places_of s) o.place (object_values o) (g.stand.memory.objects i o lives there) out
 
   -- a stack that the address is not in

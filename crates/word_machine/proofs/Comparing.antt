@@ -8,7 +8,7 @@ use Rattle.ia32_code.specs.declared.instruction.Inst.{Inst}
 use Rattle.ia32_code.specs.declared.instruction.Inst.TheVariants as inst
 use Rattle.ia32_step.specs.declared.cpu.Cpu.{Cpu}
 use Rattle.ia32_step.specs.Operands.{read_word}
-use Rattle.ia32_step.specs.Effects.{done}
+use Rattle.ia32_step.specs.Effects.{executed}
 use Rattle.tal_flow.specs.Rows.{same_register}
 use Rattle.tal_flow.specs.Rules.{next_address}
 use Rattle.tal_image.specs.Image.{ImageParts}
@@ -51,9 +51,9 @@ module _ {image : ImageParts} {s : State} {cpu : Cpu} {m : MemoryView} {i : Inst
       let w = word_among (shown image) s (d ∷ x ∷ []) in
       let first : read_word d over_now ≡ read_word d (words_of s w) = read-alike (word_at m) w (words_of s 0) d (agrees-first d (x ∷ []) at_d) in
       let second : read_word x over_now ≡ read_word x (words_of s w) = read-alike (word_at m) w (words_of s 0) x (agrees-second d x [] one at_x) in
-      let flags : (done i over_now).flags ≡ (done i (words_of s w)).flags =
+      let flags : (executed i over_now).flags ≡ (executed i (words_of s w)).flags =
       ap (λ k. k.flags) (o.done_is over_now) ∙ (ap₂ o.flags first second ∙ sym (ap (λ k. k.flags) (o.done_is (words_of s w)))) in
-      thread-step b (at_place (next_address s.thread.place len) (with_flags (done i (words_of s w)).flags known s)).thread over_now refl
+      thread-step b (at_place (next_address s.thread.place len) (with_flags (executed i (words_of s w)).flags known s)).thread over_now refl
       (o.effect_is over_now len) (ap (λ k. k.memory) (o.done_is over_now)) (ap (λ k. k.regs) (o.done_is over_now)) flags (o.next_is over_now len)
       (o.reaches over_now (is_mapped m) at_d.reached at_x.reached) o.runs
 

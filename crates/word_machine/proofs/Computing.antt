@@ -16,7 +16,7 @@ use Rattle.ia32_step.specs.declared.effect.Effect.{Effect as StepEffect}
 use Rattle.ia32_step.specs.declared.effect.Effect.TheVariants as step
 use Rattle.stack_states.specs.declared.flag_bits.FlagBits.{FlagBits}
 use Rattle.ia32_step.specs.Operands.{WordState, address_of, read_word, put_word}
-use Rattle.ia32_step.specs.Effects.{done, effect_of}
+use Rattle.ia32_step.specs.Effects.{executed, effect_of}
 use Rattle.tal_types.specs.declared.types.FlagKind.{FlagKind}
 use Rattle.tal_types.specs.Contexts.{same}
 use Rattle.tal_types.specs.Shown.{ShownImage}
@@ -124,15 +124,15 @@ module _ {image : ImageParts} {s : State} {cpu : Cpu} {m : MemoryView} {i : Inst
     next = next_address s.thread.place len
 
     -- where its destination is written
-    written-step : (u : State) → AllThere image s m sources → write_operand (shown image) s d (Number (read_word d (done i before))) ≡ Some u
-        → StepOf image s m i len (Some (goes_on next (settled false k (done i before) u)))
+    written-step : (u : State) → AllThere image s m sources → write_operand (shown image) s d (Number (read_word d (executed i before))) ≡ Some u
+        → StepOf image s m i len (Some (goes_on next (settled false k (executed i before) u)))
     unfolding before next words_of Word next_address
     written-step u there written =
         let over_now = words_over s m in
         let agrees = agree there in
         let value : o.value over_now ≡ o.value before = o.value_alike (word_at m) (word_among (shown image) s (d ∷ sources)) (words_of s 0) agrees in
         let flags : o.flags over_now ≡ o.flags before = o.flags_alike (word_at m) (word_among (shown image) s (d ∷ sources)) (words_of s 0) agrees in
-        let read : read_word d (done i before) ≡ o.value before =
+        let read : read_word d (executed i before) ≡ o.value before =
         ap (read_word d) (o.done_is before) ∙ put-read (shown image) s u (word_among (shown image) s (d ∷ sources)) (o.value before) d _ (o.flags before) written in
         let is : write_operand (shown image) s d (Number (o.value before)) ≡ Some u = rw read at written in
         let goes : effect_of i over_now len ≡ step.Next = o.effect_is over_now len in
@@ -145,7 +145,7 @@ module _ {image : ImageParts} {s : State} {cpu : Cpu} {m : MemoryView} {i : Inst
               put-stands b d (Number (o.value before)) u after spares is
               (λ a. on.words a ∙ (ap (λ x. x.memory a) (o.done_is over_now) ∙ ap (λ n. (put_word d n over_now).memory a) value)) on.mapped in
               rw goes (
-                at_place next (settled false k (done i before) u),
+                at_place next (settled false k (executed i before) u),
                 refl,
                 record {
                   processor = record {
@@ -164,9 +164,9 @@ module _ {image : ImageParts} {s : State} {cpu : Cpu} {m : MemoryView} {i : Inst
     unfolding computes before next
     operation-step known = go (list_all (is_number (shown image) s) sources) refl known
       where
-        put : (u : Option State) → AllThere image s m sources → write_operand (shown image) s d (Number (read_word d (done i before))) ≡ u
-            → option_map (λ t. goes_on next (settled false k (done i before) t)) u ≢ None
-            → StepOf image s m i len (option_map (λ t. goes_on next (settled false k (done i before) t)) u)
+        put : (u : Option State) → AllThere image s m sources → write_operand (shown image) s d (Number (read_word d (executed i before))) ≡ u
+            → option_map (λ t. goes_on next (settled false k (executed i before) t)) u ≢ None
+            → StepOf image s m i len (option_map (λ t. goes_on next (settled false k (executed i before) t)) u)
         put None there e h = absurd (h refl)
         put (Some u) there e h = written-step u there e
 
@@ -176,9 +176,9 @@ module _ {image : ImageParts} {s : State} {cpu : Cpu} {m : MemoryView} {i : Inst
         go false e h = absurd (h refl)
         go true e h =
             subst (λ (x : StepEffect). StepOf image s m i len
-            (fault_or x (option_map (λ t. goes_on next (settled false k (done i before) t)) (write_operand (shown image) s d (Number (read_word d (done i before)))))))
+            (fault_or x (option_map (λ t. goes_on next (settled false k (executed i before) t)) (write_operand (shown image) s d (Number (read_word d (executed i before)))))))
             (sym (o.effect_is before len))
-            (put (write_operand (shown image) s d (Number (read_word d (done i before)))) (numbers-there sources spare e) refl (rw (o.effect_is before len) at h))
+            (put (write_operand (shown image) s d (Number (read_word d (executed i before)))) (numbers-there sources spare e) refl (rw (o.effect_is before len) at h))
 
   -- an operation on EDX and EAX
   module _ (sources : List Operand) (k : Option FlagKind) (o : Widens i sources) (spare : AllSpare sources)
@@ -189,7 +189,7 @@ module _ {image : ImageParts} {s : State} {cpu : Cpu} {m : MemoryView} {i : Inst
     -- the state where it goes on
     wide-after : State
     wide-after =
-        at_place (next_address s.thread.place len) (settled true k (done i wide-before) (with_register Eax (Number (read_word (R Eax) (done i wide-before))) s))
+        at_place (next_address s.thread.place len) (settled true k (executed i wide-before) (with_register Eax (Number (read_word (R Eax) (executed i wide-before))) s))
 
     -- it goes on
     wide-goes : AllThere image s m sources → effect_of i wide-before len ≡ step.Next → StepOf image s m i len (Some (Moves wide-after))
@@ -197,7 +197,7 @@ module _ {image : ImageParts} {s : State} {cpu : Cpu} {m : MemoryView} {i : Inst
     wide-goes there goes =
         let over_now = words_over s m in
         let agrees = agree there in
-        let made : done i over_now ≡ over (word_at m) (done i wide-before) = o.alike (word_at m) (word_among (shown image) s (R Eax ∷ sources)) (words_of s 0) agrees in
+        let made : executed i over_now ≡ over (word_at m) (executed i wide-before) = o.alike (word_at m) (word_among (shown image) s (R Eax ∷ sources)) (words_of s 0) agrees in
         thread-step b wide-after.thread over_now refl
         (o.effect_alike (word_at m) (word_among (shown image) s (R Eax ∷ sources)) (words_of s 0) len agrees ∙ goes)
         (ap (λ x. x.memory) made)

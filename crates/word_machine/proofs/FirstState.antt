@@ -16,7 +16,7 @@ use Rattle.typed_machine.specs.Stores.{Object, zero_of, first_store}
 use Rattle.typed_machine.specs.States.{EmptyStack, first_state}
 use Rattle.typed_machine.specs.Words.{stack_pointer}
 use Rattle.word_machine.specs.Memory.{MemoryView, word_of, is_mapped}
-use Rattle.word_machine.specs.Standing.{Holds, object_values, kept_values, values_at, ObjectsLie, MemoryStands, end_of}
+use Rattle.word_machine.specs.Standing.{HoldsValues, object_values, kept_values, values_at, ObjectsLie, MemoryStands, end_of}
 use Rattle.word_machine.proofs.Areas.{table_there, descriptor_there, static_there, stack_there}
 use Rattle.word_machine.proofs.FirstData.{Kept, kept, apart, roomy, data_fits, zero_word}
 use Rattle.word_machine.proofs.Lists.{front-read, behind-read}
@@ -72,7 +72,7 @@ module _ (image : ImageParts) (formed : Formed image) (laws : ClassLaws (shapes_
   stack_read : (k : ℕ) → k < 4096 * image.stacks → word_of m (stacks_start + 4 * k) ≡ Some 0
   stack_read k h = stack_there m k ∙ ap (λ (ws : List ℕ). slice_get ws k) words.stacks ∙ get_same (4096 * image.stacks) k 0 h
 
-  first_statics : (places : List ℕ) → Holds m places statics_start (map zero_of image.statics)
+  first_statics : (places : List ℕ) → HoldsValues m places statics_start (map zero_of image.statics)
   first_statics places k v h = go (slice_get image.statics k) refl (sym (slice_get-map zero_of image.statics k) ∙ h)
     where
       go : (t : Option FieldTy) → slice_get image.statics k ≡ t → option_map zero_of t ≡ Some v → word_of m (statics_start + 4 * k) ≡ Some (Word places v)
@@ -90,7 +90,7 @@ module _ (image : ImageParts) (formed : Formed image) (laws : ClassLaws (shapes_
   first_object i o h places =
       kept (shapes_of image) places (statics_start + 4 * length image.statics) image.arrays (roomy _ _ _ image.arrays formed.arrays) i o h
 
-  first_objects : (places : List ℕ) (i : ℕ) (o : Object) → slice_get (first_store image) i ≡ Some o → Holds m places o.place (object_values o)
+  first_objects : (places : List ℕ) (i : ℕ) (o : Object) → slice_get (first_store image) i ≡ Some o → HoldsValues m places o.place (object_values o)
   first_objects places i o h k v e =
       let object = first_object i o h places in
       let within : k < length (object_values o) = slice_get_within (object_values o) k v e in
@@ -100,7 +100,7 @@ module _ (image : ImageParts) (formed : Formed image) (laws : ClassLaws (shapes_
       let behind = behind-read (replicate n 0) (data_words image) (object.0 + k) in
       ap (word_of m) at ∙ static_read (n + (object.0 + k)) low ∙ (rw (length-replicate {A = ℕ} n 0) at behind) ∙ object.1.each k v e
 
-  first_stacks : (places : List ℕ) (n : ℕ) → n < image.stacks → Holds m places (stack_pointer n (length (values_at (first_state image) n))) (values_at (first_state image) n)
+  first_stacks : (places : List ℕ) (n : ℕ) → n < image.stacks → HoldsValues m places (stack_pointer n (length (values_at (first_state image) n))) (values_at (first_state image) n)
   unfolding first_state values_at Word
   first_stacks places zero few zero v h = let is : Ret 0 ≡ v = cc in rw (← is) (stack_read 4095 (omega arith))
   first_stacks places zero few (suc k) v h = absurd cc

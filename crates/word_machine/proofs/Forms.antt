@@ -17,7 +17,7 @@ use Rattle.ia32_step.specs.declared.cpu.Cpu.{Cpu}
 use Rattle.ia32_step.specs.declared.effect.Effect.TheVariants as step
 use Rattle.ia32_step.specs.Conditions.{holds}
 use Rattle.ia32_step.specs.Operands.{WordState, address_of, read_word, put_word}
-use Rattle.ia32_step.specs.Effects.{done, effect_of, next_of, target as goes_far}
+use Rattle.ia32_step.specs.Effects.{executed, effect_of, next_of, target as goes_far}
 use Rattle.ia32_step.specs.Reaches.{Reaches, is_system}
 use Rattle.object_layout.specs.Areas.{code_start}
 use Rattle.tal_types.specs.Contexts.{same}
@@ -112,7 +112,7 @@ module _ {image : ImageParts} {s : State} {cpu : Cpu} {m : MemoryView} {len : �
   address-step r a b known = go (not (same r Esp)) refl (is_number_in s a.base && is_number_in s a.index) known
     where
       there : Operand → ℕ
-      there x = read_word x (done (inst.Lea (R r) (M a)) (words_of s 0))
+      there x = read_word x (executed (inst.Lea (R r) (M a)) (words_of s 0))
 
       goes : not (same r Esp) ≡ true → StepOf image s m (inst.Lea (R r) (M a)) len (Some (goes_on (next s len) (with_register r (Number (there (R r))) s)))
       goes e =
@@ -130,7 +130,7 @@ module _ {image : ImageParts} {s : State} {cpu : Cpu} {m : MemoryView} {len : �
   -- ---- branches
 
   -- an instruction that goes to an address, and does nothing else
-  gone-step : (i : Inst) (to : ℕ) → Begins image s cpu m i len → done i (words_over s m) ≡ words_over s m → effect_of i (words_over s m) len ≡ step.Next
+  gone-step : (i : Inst) (to : ℕ) → Begins image s cpu m i len → executed i (words_over s m) ≡ words_over s m → effect_of i (words_over s m) len ≡ step.Next
       → next_of i (words_over s m) len ≡ to → Reaches i (words_over s m) (is_mapped m) → is_system i ≡ false → StepOf image s m i len (Some (goes_on to s))
   unfolding words_of
   gone-step i to b nothing effect place reaches runs =

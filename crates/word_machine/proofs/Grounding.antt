@@ -9,7 +9,7 @@ use Rattle.ia32_code.specs.Canonical.{Canonical}
 use Rattle.ia32_step.specs.declared.cpu.Cpu.{Cpu}
 use Rattle.ia32_step.specs.Operands.{WordState, state_of}
 use Rattle.tal_flow.specs.Rules.{next_address}
-use Rattle.tal_flow.specs.Strongest.{Placed}
+use Rattle.tal_flow.specs.Strongest.{PlacedInst}
 use Rattle.tal_image.specs.Image.{ImageParts}
 use Rattle.tal_checker.specs.Running.{instruction_in}
 use Rattle.typed_machine.specs.Values.{all_objects}
@@ -111,7 +111,7 @@ pub record Begins (image : ImageParts) (s : State) (cpu : Cpu) (m : MemoryView) 
   pub grounds : Grounds image all_objects s cpu m
   pub laws : StepLaws
   pub plain : IsPlain i
-  pub placed : Placed
+  pub placed : PlacedInst
   pub here : instruction_in image s.thread.place ≡ Some placed
   pub is : placed.inst ≡ i
   pub known : Effect image s i len ≢ None

@@ -4,7 +4,7 @@ use Rattle.std.proofs.lemmas.Bool.Decides.{nat_tests}
 use Rattle.std.proofs.lemmas.Option.{slice_get_within}
 use Rattle.typed_machine.specs.Values.{Value, Word}
 use Rattle.word_machine.specs.Memory.{MemoryView, word_of}
-use Rattle.word_machine.specs.Standing.{Holds}
+use Rattle.word_machine.specs.Standing.{HoldsValues}
 use Rattle.word_machine.specs.Laws.{Written}
 use Rattle.word_machine.proofs.Lists.{set-read, drop-read}
 
@@ -25,14 +25,14 @@ module _ {before after : MemoryView} {a w : ℕ} (c : Change before after a w) w
   pub word-put : (b : ℕ) → b ≡ a → word_of after b ≡ Some w
   word-put b is = let e : (b == a) ≡ true = grind (arith, nat_tests) in c.written b ∙ rw e refl
 
-  module _ (places : List ℕ) (base : ℕ) (values : List Value) (h : Holds before places base values) where
+  module _ (places : List ℕ) (base : ℕ) (values : List Value) (h : HoldsValues before places base values) where
     -- words that the address is none of stay
-    pub holds-kept : Outside a base (length values) → Holds after places base values
+    pub holds-kept : Outside a base (length values) → HoldsValues after places base values
     holds-kept (inl low) k v e = let few = slice_get_within values k v e in word-kept (base + 4 * k) (λ z. omega arith) ∙ h k v e
     holds-kept (inr high) k v e = let few = slice_get_within values k v e in word-kept (base + 4 * k) (λ z. omega arith) ∙ h k v e
 
     -- the word of one of the values becomes that of another
-    pub holds-put : (k : ℕ) (v : Value) → a ≡ base + 4 * k → w ≡ Word places v → Holds after places base (slice_set values k v)
+    pub holds-put : (k : ℕ) (v : Value) → a ≡ base + 4 * k → w ≡ Word places v → HoldsValues after places base (slice_set values k v)
     holds-put k v at is j u e = go (set-read values k j v u e)
       where
         go : ((j ≡ k) × (u ≡ v)) ⊎ ((j ≢ k) × (slice_get values j ≡ Some u)) → word_of after (base + 4 * j) ≡ Some (Word places u)
@@ -40,13 +40,13 @@ module _ {before after : MemoryView} {a w : ℕ} (c : Change before after a w) w
         go (inr (f, g)) = word-kept (base + 4 * j) (λ z. f (omega arith)) ∙ h j u g
 
     -- the word below the first becomes that of a value in front
-    pub holds-pushed : (v : Value) → base ≡ a + 4 → w ≡ Word places v → Holds after places a (v ∷ values)
+    pub holds-pushed : (v : Value) → base ≡ a + 4 → w ≡ Word places v → HoldsValues after places a (v ∷ values)
     holds-pushed v at is zero u e = let f : v ≡ u = cc in rw (← f) (word-put (a + 4 * 0) (omega arith) ∙ ap Some is)
     holds-pushed v at is (suc k) u e =
         let same : a + 4 * suc k ≡ base + 4 * k = omega arith in rw same (word-kept (base + 4 * k) (λ z. omega arith) ∙ h k u e)
 
 -- the values behind the first so many stand that much further up
-pub holds-dropped : (m : MemoryView) (places : List ℕ) (base n : ℕ) (values : List Value) → Holds m places base values
-    → Holds m places (base + 4 * n) (drop n values)
+pub holds-dropped : (m : MemoryView) (places : List ℕ) (base n : ℕ) (values : List Value) → HoldsValues m places base values
+    → HoldsValues m places (base + 4 * n) (drop n values)
 holds-dropped m places base n values h k v e =
     let same : base + 4 * n + 4 * k ≡ base + 4 * (n + k) = omega arith in rw same (h (n + k) v (sym (drop-read n values k) ∙ e))

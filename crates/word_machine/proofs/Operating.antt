@@ -16,8 +16,8 @@ use Rattle.ia32_step.specs.Flags.{sign_of}
 use Rattle.ia32_step.specs.Sums.{alu_computed, and_of, inc_of, dec_of, neg_of, not_of}
 use Rattle.ia32_step.specs.Shifts.{shift_computed}
 use Rattle.ia32_step.specs.Products.{mul_of, imul_wide_of, imul_of, div_of, idiv_of}
-use Rattle.ia32_step.specs.Operands.{WordState, address_of, read_word, put_word, count_of}
-use Rattle.ia32_step.specs.Effects.{done, effect_of, next_of, behind, eax, edx, put_product, put_quotient, divided}
+use Rattle.ia32_step.specs.Operands.{WordState, address_of, read_word, put_word, shift_count}
+use Rattle.ia32_step.specs.Effects.{executed, effect_of, next_of, behind, eax, edx, put_product, put_quotient, divided}
 use Rattle.ia32_step.specs.Reaches.{IsReached, Reaches, is_system}
 
 -- ---- operands over a memory
@@ -60,7 +60,7 @@ pub record Operates (i : Inst) (sources : List Operand) (d : Operand) : Type 0 w
   pub flags : WordState → FlagBits
   pub value_alike : (f : ℕ → ℕ) (w : ℕ) (m : WordState) → AllAgree f w m.regs sources → value (over f m) ≡ value (over_word w m)
   pub flags_alike : (f : ℕ → ℕ) (w : ℕ) (m : WordState) → AllAgree f w m.regs sources → flags (over f m) ≡ flags (over_word w m)
-  pub done_is : (m : WordState) → done i m ≡ record (put_word d (value m) m) { flags = flags m }
+  pub done_is : (m : WordState) → executed i m ≡ record (put_word d (value m) m) { flags = flags m }
   pub effect_is : (m : WordState) (len : ℕ) → effect_of i m len ≡ step.Next
   pub next_is : (m : WordState) (len : ℕ) → next_of i m len ≡ behind m len
   pub reaches : (m : WordState) (mapped : ℕ → Bool) → IsReached d m mapped → AllReached m mapped sources → Reaches i m mapped
@@ -128,10 +128,10 @@ neg-operates d = record {
 -- the shifts, whose count may be in ECX
 pub shift-operates : (op : Shift) (d : Operand) (by : Count) (more : List Operand) → Operates (inst.Shift op d by) (d ∷ more) d
 shift-operates op d by more = record {
-  value = λ m. (shift_computed op (read_word d m) (count_of by m.regs) m.flags).value;
-  flags = λ m. (shift_computed op (read_word d m) (count_of by m.regs) m.flags).flags;
-  value_alike = λ f w m h. ap (λ n. (shift_computed op n (count_of by m.regs) m.flags).value) (read-alike f w m d h.0);
-  flags_alike = λ f w m h. ap (λ n. (shift_computed op n (count_of by m.regs) m.flags).flags) (read-alike f w m d h.0);
+  value = λ m. (shift_computed op (read_word d m) (shift_count by m.regs) m.flags).value;
+  flags = λ m. (shift_computed op (read_word d m) (shift_count by m.regs) m.flags).flags;
+  value_alike = λ f w m h. ap (λ n. (shift_computed op n (shift_count by m.regs) m.flags).value) (read-alike f w m d h.0);
+  flags_alike = λ f w m h. ap (λ n. (shift_computed op n (shift_count by m.regs) m.flags).flags) (read-alike f w m d h.0);
   done_is = λ m. refl;
   effect_is = λ m len. refl;
   next_is = λ m len. refl;
@@ -191,7 +191,7 @@ Stores alu.Cmp = ⊥
 
 -- what an operation other than CMP leaves
 alu-done : (op : Alu) → Stores op → (d x : Operand) (m : WordState)
-    → done (inst.Alu op d x) m
+    → executed (inst.Alu op d x) m
     ≡ record (put_word d (alu_computed op (read_word d m) (read_word x m)).value m) { flags = (alu_computed op (read_word d m) (read_word x m)).flags }
 alu-done alu.Add h d x m = refl
 alu-done alu.Or h d x m = refl
@@ -218,11 +218,11 @@ alu-operates op stores d x = record {
 
 -- an operation that puts a wide result into EDX and EAX, or is the divide error, from the words of its sources
 pub record Widens (i : Inst) (sources : List Operand) : Type 0 where
-  pub alike : (f : ℕ → ℕ) (w : ℕ) (m : WordState) → AllAgree f w m.regs sources → done i (over f m) ≡ over f (done i (over_word w m))
+  pub alike : (f : ℕ → ℕ) (w : ℕ) (m : WordState) → AllAgree f w m.regs sources → executed i (over f m) ≡ over f (executed i (over_word w m))
   pub effect_alike : (f : ℕ → ℕ) (w : ℕ) (m : WordState) (len : ℕ) → AllAgree f w m.regs sources → effect_of i (over f m) len ≡ effect_of i (over_word w m) len
   -- the other registers stay
   pub others : (a c d b e p s z : ℕ) (m : WordState) → m.regs ≡ a ∷ c ∷ d ∷ b ∷ e ∷ p ∷ s ∷ z ∷ []
-      → (done i m).regs ≡ read_word (R Eax) (done i m) ∷ c ∷ read_word (R Edx) (done i m) ∷ b ∷ e ∷ p ∷ s ∷ z ∷ []
+      → (executed i m).regs ≡ read_word (R Eax) (executed i m) ∷ c ∷ read_word (R Edx) (executed i m) ∷ b ∷ e ∷ p ∷ s ∷ z ∷ []
   pub effects : (m : WordState) (len : ℕ) → (effect_of i m len ≡ step.Next) ⊎ (effect_of i m len ≡ step.Fault 0)
   pub next_is : (m : WordState) (len : ℕ) → next_of i m len ≡ behind m len
   pub reaches : (m : WordState) (mapped : ℕ → Bool) → AllReached m mapped sources → Reaches i m mapped
@@ -295,7 +295,7 @@ idiv-widens x = record {
 -- an instruction that does nothing but set the flags, from the words of two operands
 pub record SetsFlags (i : Inst) (d x : Operand) : Type 0 where
   pub flags : ℕ → ℕ → FlagBits
-  pub done_is : (m : WordState) → done i m ≡ record m { flags = flags (read_word d m) (read_word x m) }
+  pub done_is : (m : WordState) → executed i m ≡ record m { flags = flags (read_word d m) (read_word x m) }
   pub effect_is : (m : WordState) (len : ℕ) → effect_of i m len ≡ step.Next
   pub next_is : (m : WordState) (len : ℕ) → next_of i m len ≡ behind m len
   pub reaches : (m : WordState) (mapped : ℕ → Bool) → IsReached d m mapped → IsReached x m mapped → Reaches i m mapped

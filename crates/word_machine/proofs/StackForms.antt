@@ -13,7 +13,7 @@ use Rattle.ia32_code.specs.declared.instruction.Inst.TheVariants as inst
 use Rattle.ia32_step.specs.declared.cpu.Cpu.{Cpu}
 use Rattle.ia32_step.specs.Sums.{add_of}
 use Rattle.ia32_step.specs.Operands.{read_word}
-use Rattle.ia32_step.specs.Effects.{done, below_top}
+use Rattle.ia32_step.specs.Effects.{executed, below_top}
 use Rattle.object_layout.specs.Areas.{word_index}
 use Rattle.tal_types.specs.Contexts.{same}
 use Rattle.tal_flow.specs.Afterwards.{slots_in}
@@ -170,7 +170,7 @@ module _ {image : ImageParts} {s : State} {cpu : Cpu} {m : MemoryView} {len : �
   dropped-step : (bytes k : ℕ) → Begins image s cpu m (inst.Alu alu.Add (R Esp) (I bytes)) len → bytes ≡ 4 * k → k ≤ length s.values
       → StepOf image s m (inst.Alu alu.Add (R Esp) (I bytes)) len
       (Some (goes_on (next s len)
-      (with_flags (done (inst.Alu alu.Add (R Esp) (I bytes)) (words_of s 0)).flags NoCondition (with_values (drop k s.values) s))))
+      (with_flags (executed (inst.Alu alu.Add (R Esp) (I bytes)) (words_of s 0)).flags NoCondition (with_values (drop k s.values) s))))
   unfolding words_of next_address add_of
   dropped-step bytes k b is some =
       let i = inst.Alu alu.Add (R Esp) (I bytes) in

@@ -14,7 +14,7 @@ use Rattle.typed_machine.specs.Values.{Value, Word}
 use Rattle.typed_machine.specs.States.{State, places_of, with_values, most_values}
 use Rattle.typed_machine.specs.Words.{stack_pointer, esp_of}
 use Rattle.word_machine.specs.Memory.{MemoryView}
-use Rattle.word_machine.specs.Standing.{Holds, object_values, kept_values, values_at, IsInside, ObjectsLie, MemoryStands}
+use Rattle.word_machine.specs.Standing.{HoldsValues, object_values, kept_values, values_at, IsInside, ObjectsLie, MemoryStands}
 use Rattle.word_machine.specs.Following.{Grounds}
 use Rattle.word_machine.specs.Laws.{PushLaw, DropLaw}
 use Rattle.word_machine.proofs.Holding.{Outside, Change, holds-pushed, holds-dropped}
@@ -46,7 +46,7 @@ module _ {image : ImageParts} {live : ℕ → Bool} {s : State} {cpu : Cpu} {m :
   running-values = let e : (s.current == s.current) ≡ true = grind (arith, nat_tests) in rw e refl
 
   -- their words
-  pub running-holds : Holds m (places_of s) (esp_of s) s.values
+  pub running-holds : HoldsValues m (places_of s) (esp_of s) s.values
   running-holds = subst (λ values. StackHolds m s s.current values) running-values (g.stand.memory.stacks s.current (runs-there g))
 
   module _ (laws : ClassLaws (shapes_of image)) {after : MemoryView} {a w : ℕ} (c : Change m after a w) where

@@ -21,7 +21,7 @@ use Rattle.typed_machine.specs.States.{State, places_of, with_values}
 use Rattle.typed_machine.specs.Operands.{Spot, AtStatic, AtSlot, AtValue, AtLength, AtHead, AtMethod, AtDisplay, may_hold, type_there, provided, write_spot, spot_of}
 use Rattle.typed_machine.specs.Words.{esp_of}
 use Rattle.word_machine.specs.Memory.{MemoryView}
-use Rattle.word_machine.specs.Standing.{Holds, head_values, object_values, values_at, IsInside, MemoryStands, end_of}
+use Rattle.word_machine.specs.Standing.{HoldsValues, head_values, object_values, values_at, IsInside, MemoryStands, end_of}
 use Rattle.word_machine.specs.Following.{Grounds}
 use Rattle.word_machine.specs.Laws.{SpotLives, Written}
 use Rattle.word_machine.proofs.Holding.{Outside, Change, holds-put}
@@ -141,7 +141,7 @@ module _ {image : ImageParts} {live : ℕ → Bool} {s : State} {cpu : Cpu} {m :
         apart p (inl below) = inr (omega arith)
         apart p (inr above) = let end = within in inl (omega arith)
 
-        object : (k : ℕ) (p : Object) → live k ≡ true → Replaced s.store i j v k p → Holds after (places_of s) p.place (object_values p)
+        object : (k : ℕ) (p : Object) → live k ≡ true → Replaced s.store i j v k p → HoldsValues after (places_of s) p.place (object_values p)
         object k p live_too (inl (q, there, same, new)) =
             let one : Some q ≡ Some h.object = sym there ∙ h.there in
             let alike : q ≡ h.object = cc in

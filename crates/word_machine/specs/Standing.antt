@@ -8,7 +8,7 @@ use Rattle.tal_image.specs.Image.{ImageParts}
 use Rattle.tal_image.specs.Shown.{shapes_of}
 use Rattle.typed_machine.specs.Values.{Value, Number, Tab, Desc, ObjectShape, InstanceOf, ArrayOf, Word}
 use Rattle.typed_machine.specs.Stores.{Object}
-use Rattle.typed_machine.specs.States.{State, Stack, EmptyStack, RunningStack, YieldedStack, InterruptedStack, places_of}
+use Rattle.typed_machine.specs.States.{State, Stack, stack_bytes, EmptyStack, RunningStack, YieldedStack, InterruptedStack, places_of}
 use Rattle.typed_machine.specs.Words.{stack_pointer, register_words, esp_of}
 use Rattle.word_machine.specs.Memory.{MemoryView, word_of, is_mapped}
 
@@ -35,8 +35,8 @@ unfoldable pub values_at : State → ℕ → List Value
 values_at s n = if n == s.current then s.values else option_map_or kept_values (slice_get s.stacks n) []
 
 -- the words from an address up are those of the values
-abbrev pub Holds : MemoryView → List ℕ → ℕ → List Value → Type 0
-Holds m places base values = (k : ℕ) (v : Value) → slice_get values k ≡ Some v → word_of m (base + 4 * k) ≡ Some (Word places v)
+abbrev pub HoldsValues : MemoryView → List ℕ → ℕ → List Value → Type 0
+HoldsValues m places base values = (k : ℕ) (v : Value) → slice_get values k ≡ Some v → word_of m (base + 4 * k) ≡ Some (Word places v)
 
 -- ---- where objects lie
 
@@ -71,10 +71,10 @@ pub record CpuStands (s : State) (cpu : Cpu) : Type 0 where
 pub record MemoryStands (image : ImageParts) (live : ℕ → Bool) (s : State) (m : MemoryView) : Type 0 where
   pub tables : (c k w : ℕ) → table_word (shapes_of image) c k ≡ Some w → word_of m (table_address c + 4 * k) ≡ Some w
   pub descriptors : (d k w : ℕ) → descriptor_word (shapes_of image) d k ≡ Some w → word_of m (descriptor_address d + 4 * k) ≡ Some w
-  pub statics : Holds m (places_of s) statics_start s.statics
-  pub objects : (i : ℕ) (o : Object) → live i ≡ true → slice_get s.store i ≡ Some o → Holds m (places_of s) o.place (object_values o)
-  pub stacks : (n : ℕ) → n < image.stacks → Holds m (places_of s) (stack_pointer n (length (values_at s n))) (values_at s n)
-  pub room : (a : ℕ) → stacks_start ≤ a → a < stacks_start + 16384 * image.stacks → a % 4 ≡ 0 → is_mapped m a ≡ true
+  pub statics : HoldsValues m (places_of s) statics_start s.statics
+  pub objects : (i : ℕ) (o : Object) → live i ≡ true → slice_get s.store i ≡ Some o → HoldsValues m (places_of s) o.place (object_values o)
+  pub stacks : (n : ℕ) → n < image.stacks → HoldsValues m (places_of s) (stack_pointer n (length (values_at s n))) (values_at s n)
+  pub room : (a : ℕ) → stacks_start ≤ a → a < stacks_start + stack_bytes * image.stacks → a % 4 ≡ 0 → is_mapped m a ≡ true
   pub lie : ObjectsLie live s
 
 -- all words together

@@ -9,7 +9,7 @@ use Rattle.object_layout.specs.Areas.{stacks_start}
 use Rattle.tal_image.specs.Image.{ImageParts}
 use Rattle.tal_image.specs.Shown.{shown}
 use Rattle.typed_machine.specs.Values.{all_objects}
-use Rattle.typed_machine.specs.States.{State}
+use Rattle.typed_machine.specs.States.{State, stack_bytes}
 use Rattle.typed_machine.specs.Effects.{EffectView, Moves, Faults, calls_to, returns_from}
 use Rattle.typed_safety.specs.Laws.{FormedImagesTell, WellTypedImagesKeepTyping, DisplaysAreThere}
 use Rattle.word_machine.specs.declared.step.Step.{Step}
@@ -30,7 +30,7 @@ pub record StepLaws : Type 0 where
 
 -- ESP is at the lower end of its stack
 abbrev pub is_at_limit : Cpu → ℕ → Bool
-is_at_limit cpu stack = slice_index cpu.regs 4 == stacks_start + 16384 * stack
+is_at_limit cpu stack = slice_index cpu.regs 4 == stacks_start + stack_bytes * stack
 
 -- the instruction is PUSH
 abbrev pub is_push : Inst → Bool

@@ -2,7 +2,7 @@ ghost use Rattle.std.specs.Prelude.{◌≡◌, ℕ, ◌≤◌, ◌<◌, ◌+◌,
 ghost use Rattle.object_layout.specs.Areas.{statics_start, stacks_start};
 ghost use Rattle.object_layout.specs.Classes.{table_word, descriptor_word};
 ghost use Rattle.tal_image.specs.Shown.{shapes_of, data_words};
-ghost use Rattle.typed_machine.specs.States.{first_state};
+ghost use Rattle.typed_machine.specs.States.{first_state, stack_bytes};
 ghost use Rattle.typed_machine.specs.Words.{upper_end};
 ghost use Rattle.word_machine.specs.Laws.{Written};
 ghost use Rattle.word_machine.specs.Memory.{word_in, word_of, is_mapped};
@@ -64,7 +64,7 @@ impl Memory {
     /// The words of a stack from its top, which ESP tells, to its bottom.
     pub fn stack_words(&self, stack: u32, esp: u32) -> &[u32]
         requires few { stack < 64 }
-        requires low { stacks_start + 16384 * stack ≤ esp }
+        requires low { stacks_start + stack_bytes * stack ≤ esp }
         requires high { esp ≤ upper_end stack }
         requires aligned { esp % 4 ≡ 0 }
         requires mapped { (a : ℕ) → esp ≤ a → a < upper_end stack → a % 4 ≡ 0 → is_mapped self.now a ≡ true }

@@ -15,17 +15,12 @@ use crate::memory::{Memory, STACK_WORDS};
 use ia32_code::Inst;
 use ia32_step::{Bus, Cpu, Effect as StepEffect, exec};
 use object_layout::areas::STACKS_START;
-use tal_flow::is_entry;
+use tal_flow::{entry_number, is_entry};
 
 const ESP: usize = 4;
 
 /// The vector of the stack fault.
 const STACK_FAULT: u8 = 12;
-
-/// The address of the Nucleus's entry 0, and from each entry to the next.
-const ENTRIES_START: u32 = 0x1000;
-
-const ENTRY_BYTES: u32 = 16;
 
 /// What an instruction came to.
 #[derive(Clone, Copy, Debug, PartialEq, Eq, Drop)]
@@ -56,7 +51,7 @@ pub fn advance(cpu: &mut Cpu, memory: &mut Memory, current: u32, inst: &Inst, le
         StepEffect::Fault(vector) => Step::Faults(vector),
         StepEffect::Call(target) => {
             if is_entry(target) {
-                return Step::Calls((target - ENTRIES_START) / ENTRY_BYTES);
+                return Step::Calls(entry_number(target));
             }
             if is_at_limit(cpu, current) {
                 return Step::Faults(STACK_FAULT);

@@ -1,6 +1,6 @@
 use Rattle.std.proofs.Common.{sym, ◌∙◌}
 use Rattle.typed_machine.specs.Values.{all_objects}
-use Rattle.word_machine.proofs.Advancing.{stack-few, next-comes, fault-comes, left-grounds, next-place, entry-above, entry-comes, call-overflows, call-reaches, call-enters, return-reaches, return-comes}
+use Rattle.word_machine.proofs.Advancing.{stack-few, next-comes, fault-comes, left-grounds, next-place, entry-comes, call-overflows, call-reaches, call-enters, return-reaches, return-comes}
 use Rattle.word_machine.proofs.step.advance.Goals as goal
 
 pub returns-in-Next : goal.returns-in-Next
@@ -9,11 +9,8 @@ returns-in-Next c = λ image s at same. next-comes image s _ _ _ (c.in-Next.ensu
 pub returns-in-Fault : goal.returns-in-Fault
 returns-in-Fault c = λ image s at same. fault-comes image s _ _ _ _ (c.in-Fault.ensures image s at same)
 
-pub overflow_sub-result : goal.overflow_sub-result
-overflow_sub-result c = entry-above _ (sym c.is_entry.ensures ∙ c.if-is_entry.true)
-
 pub returns-then-is_entry : goal.returns-then-is_entry
-returns-then-is_entry c = λ image s at same. entry-comes image s _ _ _ _ _ (sym c.is_entry.ensures ∙ c.if-is_entry.true) (c.in-Call.ensures image s at same)
+returns-then-is_entry c = λ image s at same. entry-comes image s _ _ _ _ _ _ (sym c.is_entry.ensures ∙ c.if-is_entry.true) c.entry_number.ensures (c.in-Call.ensures image s at same)
 
 pub is_at_limit-requires : goal.is_at_limit-requires
 is_at_limit-requires c = stack-few _ _ _ _ _ c.requires.runs
