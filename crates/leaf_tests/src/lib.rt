@@ -15,6 +15,4 @@ mod names;
 #[cfg(test)]
 mod stacks;
 #[cfg(test)]
-mod steps;
-#[cfg(test)]
 mod texts;

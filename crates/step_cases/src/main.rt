@@ -3,6 +3,8 @@
 #![tactic(auto)]
 
 mod case;
+#[cfg(test)]
+mod memory_steps;
 mod one_word;
 mod playing;
 mod script;
