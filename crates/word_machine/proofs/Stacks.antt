@@ -1,8 +1,9 @@
 -- The running stack: the word on top, and what pushing and dropping leave.
-use Rattle.std.proofs.Common.{◌≡◌, ◌≢◌, ◌⊎◌, inl, inr, ⊎_elim, ◌+◌, ◌-◌, ◌*◌, ◌<◌, ◌≤◌, ◌==◌, ℕ, Bool, true, false, if◌then◌else◌, arith, refl, subst, List, [], ◌∷◌, length, drop, slice_get}
+use Rattle.std.proofs.Common.{◌≡◌, ◌≢◌, ◌⊎◌, inl, inr, ⊎_elim, ◌+◌, ◌-◌, ◌*◌, ◌<◌, ◌≤◌, ◌==◌, ℕ, Bool, true, false, if◌then◌else◌, arith, refl, subst, List, [], ◌∷◌, length, drop, Some, slice_get}
 use Rattle.std.specs.Option.{option_map_or}
 use Rattle.std.proofs.lemmas.Bool.Decides.{nat_tests}
 use Rattle.std.proofs.lemmas.List.{length-drop}
+use Rattle.std.proofs.lemmas.Option.{slice_get_within}
 use Rattle.object_layout.specs.Areas.{stacks_start}
 use Rattle.object_layout.specs.Laws.{ClassLaws}
 use Rattle.tal_image.specs.Shown.{shapes_of}
@@ -10,13 +11,15 @@ use Rattle.typed_machine.specs.Stores.{Object}
 use Rattle.std.proofs.lemmas.Bool.{cases_lt}
 use Rattle.ia32_step.specs.declared.cpu.Cpu.{Cpu}
 use Rattle.tal_image.specs.Image.{ImageParts}
+use Rattle.tal_checker.specs.WellTyped.{WellTyped}
 use Rattle.typed_machine.specs.Values.{Value, Word}
-use Rattle.typed_machine.specs.States.{State, places_of, with_values, most_values}
-use Rattle.typed_machine.specs.Words.{stack_pointer, esp_of}
+use Rattle.typed_machine.specs.States.{State, EmptyStack, places_of, with_values, most_values}
+use Rattle.typed_machine.specs.Typing.{TypedAmong}
+use Rattle.typed_machine.specs.Words.{stack_pointer, register_words, esp_of}
 use Rattle.word_machine.specs.Memory.{MemoryView}
 use Rattle.word_machine.specs.Standing.{HoldsValues, object_values, kept_values, values_at, IsInside, ObjectsLie, MemoryStands}
 use Rattle.word_machine.specs.Following.{Grounds}
-use Rattle.word_machine.specs.Laws.{PushLaw, DropLaw}
+use Rattle.word_machine.specs.Laws.{Written, PushLaw, DropLaw}
 use Rattle.word_machine.proofs.Holding.{Outside, Change, holds-pushed, holds-dropped}
 use Rattle.word_machine.proofs.Changing.{StackHolds, tables-kept, descriptors-kept, room-kept, statics-kept, object-kept, stack-kept}
 use Rattle.word_machine.proofs.Bounds.{few-stacks, runs-there}
@@ -116,3 +119,57 @@ module _ {image : ImageParts} {live : ℕ → Bool} {s : State} {cpu : Cpu} {m :
     top = λ v vs is. let same : esp_of s ≡ esp_of s + 4 * 0 = omega arith in rw same (running-holds 0 v (rw is refl));
     dropped = dropped;
   }
+
+-- ---- stacks that do not run
+
+-- the processor of a state: where the memory stands for the state, the words stand
+abbrev cpu_of : State → Cpu
+cpu_of s = record { regs = register_words (places_of s) s.thread.regs (esp_of s); flags = s.thread.flags; pc = s.thread.place }
+
+-- the last word of an empty stack is free
+pub empty-free : (image : ImageParts) (live : ℕ → Bool) (s : State) (m : MemoryView) → WellTyped image → TypedAmong image live s → MemoryStands image live s m
+    → ClassLaws (shapes_of image) → (n : ℕ) → slice_get s.stacks n ≡ Some EmptyStack
+    → (w : ℕ) (after : MemoryView) → Written m after (stack_pointer n 1) w → MemoryStands image live s after
+unfolding values_at kept_values
+empty-free image live s m well_typed typed memory laws n empty w after written =
+    record {
+      tables = tables-kept g c laws (omega arith);
+      descriptors = descriptors-kept g c laws (omega arith);
+      statics = let short = memory.lie.short in statics-kept g c (inr (omega arith));
+      objects = λ i o lives here. object-kept g c i o lives here (apart o (memory.lie.inside i o lives here));
+      stacks = λ k inside. at k inside (k == n) refl;
+      room = room-kept g c;
+      lie = memory.lie;
+    }
+  where
+    g : Grounds image live s (cpu_of s) m
+    g = record {
+      well_typed = well_typed;
+      typed = typed;
+      stand = record { processor = record { regs = refl; flags = refl; place = refl }; memory = memory };
+    }
+
+    c : Change m after (stack_pointer n 1) w
+    c = record { written = written }
+
+    there : n < image.stacks
+    there = let within = slice_get_within s.stacks n EmptyStack empty in let count = typed.count in omega arith
+
+    few : image.stacks ≤ 64
+    few = few-stacks g
+
+    apart : (o : Object) → IsInside s o → Outside (stack_pointer n 1) o.place (length (object_values o))
+    apart o (inl (above, below)) = inr (omega arith)
+    apart o (inr (above, below)) = inl (omega (arith, there, few))
+
+    others : n ≢ s.current
+    others e = let runs = typed.one in let stopped = rw e at empty in cc
+
+    none : values_at s n ≡ []
+    none = let e : (n == s.current) ≡ false = grind (arith, nat_tests, others) in rw (e, empty) refl
+
+    at : (k : ℕ) → k < image.stacks → (b : Bool) → (k == n) ≡ b → StackHolds after s k (values_at s k)
+    at k inside true e = let same : k ≡ n = grind (arith, nat_tests) in rw (same, none) (λ j v h. absurd (cc))
+    at k inside false e =
+        let differ : k ≢ n = grind (arith, nat_tests) in
+        stack-kept g c k inside (⊎_elim (λ (l : k < n). inr (omega arith)) (λ (l : n ≤ k). inl (omega arith)) (cases_lt k n))

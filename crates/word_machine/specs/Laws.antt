@@ -1,15 +1,17 @@
 -- Laws of words that stand for a state: of the words at spots, and of the running stack.
-use Rattle.std.specs.Prelude.{◌≡◌, ◌≢◌, ℕ, ◌-◌, ◌<◌, ◌≤◌, ◌==◌, Bool, true, List, ◌∷◌, length, drop, Some, if◌then◌else◌}
+use Rattle.std.specs.Prelude.{◌≡◌, ◌≢◌, ℕ, ◌-◌, ◌<◌, ◌≤◌, ◌==◌, Bool, true, List, ◌∷◌, length, drop, Some, slice_get, if◌then◌else◌}
 use Rattle.ia32_code.specs.declared.instruction.Reg.TheVariants.{Esp}
 use Rattle.ia32_code.specs.declared.instruction.Mem.{Mem}
 use Rattle.ia32_step.specs.declared.cpu.Cpu.{Cpu}
 use Rattle.ia32_step.specs.Operands.{address_of}
 use Rattle.tal_image.specs.Image.{ImageParts}
 use Rattle.tal_image.specs.Shown.{shown}
+use Rattle.tal_checker.specs.WellTyped.{WellTyped}
 use Rattle.typed_machine.specs.Values.{Value, Word}
-use Rattle.typed_machine.specs.States.{State, places_of, with_values, most_values}
+use Rattle.typed_machine.specs.States.{State, EmptyStack, places_of, with_values, most_values}
 use Rattle.typed_machine.specs.Operands.{Spot, AtStatic, AtSlot, AtValue, AtLength, AtHead, AtMethod, AtDisplay, spot_of, spot_word, write_spot}
-use Rattle.typed_machine.specs.Words.{esp_of}
+use Rattle.typed_machine.specs.Typing.{TypedAmong}
+use Rattle.typed_machine.specs.Words.{stack_pointer, esp_of}
 use Rattle.word_machine.specs.Memory.{MemoryView, word_of, is_mapped}
 use Rattle.word_machine.specs.Standing.{MemoryStands}
 use Rattle.word_machine.specs.Following.{Grounds}
@@ -63,3 +65,10 @@ pub record DropLaw (image : ImageParts) (live : ℕ → Bool) (s : State) (m : M
 abbrev pub ValuesAreDropped : Type 0
 ValuesAreDropped =
     (image : ImageParts) (live : ℕ → Bool) (s : State) (cpu : Cpu) (m : MemoryView) → Grounds image live s cpu m → DropLaw image live s m
+
+-- the last word of an empty stack is no value's: whatever it becomes, the memory stands for the state
+abbrev pub EmptyStacksAreFree : Type 0
+EmptyStacksAreFree =
+    (image : ImageParts) (live : ℕ → Bool) (s : State) (m : MemoryView) → WellTyped image → TypedAmong image live s → MemoryStands image live s m
+    → (n : ℕ) → slice_get s.stacks n ≡ Some EmptyStack
+    → (w : ℕ) (after : MemoryView) → Written m after (stack_pointer n 1) w → MemoryStands image live s after

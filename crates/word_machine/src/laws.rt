@@ -1,5 +1,5 @@
 // What holds of words that stand for a typed state: each law is a function with nothing to do, whose clause is the law.
-ghost use Rattle.word_machine.specs.Laws.{SpotsAreRead, SpotsAreWritten, ValuesArePushed, ValuesAreDropped};
+ghost use Rattle.word_machine.specs.Laws.{SpotsAreRead, SpotsAreWritten, ValuesArePushed, ValuesAreDropped, EmptyStacksAreFree};
 
 /// The word at a spot of the state stands at the address of the operand that points there, whose index is not ESP.
 pub fn spots_are_read()
@@ -26,3 +26,10 @@ pub fn values_are_pushed()
 pub fn values_are_dropped()
     ensures { ValuesAreDropped }
 {}
+
+/// The last word of an empty stack is no value's: whatever it becomes, the memory stands for the state.
+pub fn empty_stacks_are_free()
+    ensures { EmptyStacksAreFree }
+{
+    typed_safety::laws::formed_images_tell();
+}
