@@ -1,0 +1,9 @@
+pub mod Tables
+pub mod Words
+pub mod Switched
+pub mod Led
+pub mod Keeping
+pub mod Granting
+pub mod Asked
+pub mod Starting
+pub mod Replied

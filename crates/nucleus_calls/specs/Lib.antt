@@ -1,0 +1,8 @@
+-- A journal.
+pub mod Journal
+-- The Nucleus, and when it stands for a state.
+pub mod Nucleus
+-- Where turns lead.
+pub mod Turning
+-- What the parts of a call do.
+pub mod Calling
