@@ -47,10 +47,13 @@ entry-same : (s : State) (turn current : ℕ) (kind : EntryKind) (value : ℕ) �
 entry-same s turn current kind value turns is = rw (← turns, is) refl
 
 -- a switch leads to what a turn comes to that switches
-switch-leads : (image : ImageParts) (live : ℕ → Bool) (answers : List Answer) (before : List Entry) (entry made : Entry) (o : Option State) (cpu : Cpu) (v : NucleusView)
-    → made ≡ entry → SwitchStands image live o cpu v → Leads image live before (before ++ made ∷ []) cpu v (option_map (turned answers (Some entry)) o)
-switch-leads image live answers before entry made o cpu v same sw =
-    (turned answers (Some entry) sw.state, rw sw.is refl, record { processor = sw.processor; nucleus = sw.nucleus; entries = rw same refl })
+switch-leads : (image : ImageParts) (live : ℕ → Bool) (s : State) (answers : List Answer) (before : List Entry) (entry made : Entry) (o : Option State) (cpu : Cpu) (v : NucleusView)
+    → made ≡ entry → SwitchStands image live s o cpu v → Leads image live s answers before (before ++ made ∷ []) cpu v (option_map (turned answers (Some entry)) o)
+switch-leads image live s answers before entry made o cpu v same sw = (
+  turned answers (Some entry) sw.state,
+  rw sw.is refl,
+  record { processor = sw.processor; nucleus = sw.nucleus; entries = rw same refl; same_turn = sw.same_turn; left = refl },
+)
 
 -- ---- an application leaves
 
@@ -64,14 +67,14 @@ pub leave-leads : EmptyStacksAreFree → (image : ImageParts) (live : ℕ → Bo
     → OneRuns v.stacks → current_of v.stacks ≢ 0 → (was : StackState) → slice_get v.stacks 0 ≡ Some was → (start : ℕ) → slice_get v.starts 0 ≡ Some start
     → (why : Leaving) (ran : Cpu) (after : MemoryView) → GoesOn start 0 (reply_of why (current_of v.stacks)) was v.memory ran after
     → (turn : ℕ) → s.turns ≡ turn → (before : List Entry) (answers : List Answer)
-    → Leads image live before (before ++ entry_at turn (current_of v.stacks) (kind_of why) (value_of why) ∷ []) ran
+    → Leads image live s answers before (before ++ entry_at turn (current_of v.stacks) (kind_of why) (value_of why) ∷ []) ran
     (with_parts v after (table.handed_over v.stacks Empty 0) v.devices) (after_effect image answers next s (effect_of why))
 unfolding kept_values
 leave-leads law image live s next cpu v h one application was waits start starts why ran after went turn turns before answers =
     let current = current-is h.typed h.nucleus one in
     let other : s.current ≢ 0 = λ e. application (current ∙ e) in
     rw (leaving-turn image answers next s why other)
-    (switch-leads image live answers before _ _ _ ran _ (entry-same s turn (current_of v.stacks) (kind_of why) (value_of why) turns current)
+    (switch-leads image live s answers before _ _ _ ran _ (entry-same s turn (current_of v.stacks) (kind_of why) (value_of why) turns current)
     (switch-stands law image live s v h.well_typed h.typed h.nucleus one 0 (λ e. application (sym e)) was waits start starts EmptyStack (inr refl)
     (reply_of why s.current) ran after (rw current at went)))
 
@@ -81,13 +84,13 @@ pub yield-leads : EmptyStacksAreFree → (image : ImageParts) (live : ℕ → Bo
     → OneRuns v.stacks → (to : ℕ) → to ≢ current_of v.stacks → (was : StackState) → slice_get v.stacks to ≡ Some was → (start : ℕ) → slice_get v.starts to ≡ Some start
     → (k : ℕ) → Reply k s ≡ Some (YieldsTo to) → (ran : Cpu) (after : MemoryView) → GoesOn start to (65536 + current_of v.stacks) was v.memory ran after
     → (turn : ℕ) → s.turns ≡ turn → (before : List Entry) (answers : List Answer)
-    → Leads image live before (before ++ entry_at turn (current_of v.stacks) Yield to ∷ []) ran
+    → Leads image live s answers before (before ++ entry_at turn (current_of v.stacks) Yield to ∷ []) ran
     (with_parts v after (table.handed_over v.stacks (Yielded (slice_index cpu.regs 4) cpu.pc) to) v.devices) (after_effect image answers next s (Calls k))
 unfolding kept_values
 yield-leads law image live s next cpu v h one to other was waits start starts k reply ran after went turn turns before answers =
     let current = current-is h.typed h.nucleus one in
     rw (reply, h.processor.regs, h.processor.place)
-    (switch-leads image live answers before _ _ _ ran _ (entry-same s turn (current_of v.stacks) Yield to turns current)
+    (switch-leads image live s answers before _ _ _ ran _ (entry-same s turn (current_of v.stacks) Yield to turns current)
     (switch-stands law image live s v h.well_typed h.typed h.nucleus one to other was waits start starts (YieldedStack next s.values) (inl refl)
     (65536 + s.current) ran after (rw current at went)))
 
@@ -119,7 +122,7 @@ caller-goes-on image live t v reply next h =
 pub reply-leads : (image : ImageParts) (live : ℕ → Bool) (s : State) (next : ℕ) (cpu : Cpu) (v : NucleusView) → StandsBefore image live s next cpu v → OneRuns v.stacks
     → (k reply : ℕ) (after : NucleusView) → RepliesAt image live s reply (Reply k s) after
     → (turn : ℕ) → s.turns ≡ turn → (before : List Entry) (answers : List Answer)
-    → Leads image live before (before ++ entry_at turn (current_of v.stacks) (Call k) reply ∷ []) (fresh_cpu reply (slice_index cpu.regs 4) cpu.pc) after
+    → Leads image live s answers before (before ++ entry_at turn (current_of v.stacks) (Call k) reply ∷ []) (fresh_cpu reply (slice_index cpu.regs 4) cpu.pc) after
     (after_effect image answers next s (Calls k))
 reply-leads image live s next cpu v h one k reply after r turn turns before answers = (
   turned answers (Some (entry_of (Call k) reply s)) (runs (fresh_thread (Number reply) next) r.state.values r.state),
@@ -128,6 +131,8 @@ reply-leads image live s next cpu v h one k reply after r turn turns before answ
     processor = rw h.processor.place (fresh-stands _ reply _ _ refl esp);
     nucleus = caller-goes-on image live r.state after reply next r.nucleus;
     entries = ap (λ (e : Entry). before ++ e ∷ []) (entry-same s turn (current_of v.stacks) (Call k) reply turns (current-is h.typed h.nucleus one));
+    same_turn = record { turns = r.kept.same_turn.turns; ending = r.kept.same_turn.ending };
+    left = refl;
   },
 )
   where
@@ -163,12 +168,23 @@ devices-typed : (image : ImageParts) (live : ℕ → Bool) (s : State) (history 
 devices-typed image live s history h =
     record { thread = h.thread; others = h.others; one = h.one; only = h.only; kernel = h.kernel; count = h.count; statics = h.statics; store = h.store }
 
+-- a switch from the state with another history is one in its turn
+retold-switch : (image : ImageParts) (live : ℕ → Bool) (s : State) (history : History) (o : Option State) (cpu : Cpu) (v : NucleusView)
+    → SwitchStands image live (record s { devices = history }) o cpu v → SwitchStands image live s o cpu v
+retold-switch image live s history o cpu v sw = record {
+  state = sw.state;
+  is = sw.is;
+  same_turn = record { turns = sw.same_turn.turns; ending = sw.same_turn.ending };
+  processor = sw.processor;
+  nucleus = sw.nucleus;
+}
+
 pub interrupt-leads : EmptyStacksAreFree → (image : ImageParts) (live : ℕ → Bool) (s : State) (cpu : Cpu) (v : NucleusView) → StandsBefore image live s s.thread.place cpu v
     → OneRuns v.stacks → current_of v.stacks ≢ 0 → (was : StackState) → slice_get v.stacks 0 ≡ Some was → (start : ℕ) → slice_get v.starts 0 ≡ Some start
     → (line : ℕ) (devices : DevicesView) → StandsFor devices (Granted line ∷ s.devices)
     → (ran : Cpu) (after : MemoryView) → GoesOn start 0 (131072 + line) was v.memory ran after
     → (turn : ℕ) → s.turns ≡ turn → (before : List Entry) (answers : List Answer)
-    → Leads image live before (before ++ entry_at turn (current_of v.stacks) Interrupt line ∷ []) ran
+    → Leads image live s answers before (before ++ entry_at turn (current_of v.stacks) Interrupt line ∷ []) ran
     (with_parts v after (table.handed_over v.stacks (Interrupted cpu.regs cpu.flags cpu.pc) 0) devices) (interrupted image answers line s)
 unfolding kept_values
 interrupt-leads law image live s cpu v h one application was waits start starts line devices stand ran after went turn turns before answers =
@@ -176,7 +192,8 @@ interrupt-leads law image live s cpu v h one application was waits start starts 
     let granted : NucleusStands image live (record s { devices = Granted line ∷ s.devices }) (with_parts v v.memory v.stacks devices) =
     devices-stand image live s v (Granted line ∷ s.devices) devices h.nucleus stand in
     rw (h.processor.regs, h.processor.flags, h.processor.place)
-    (switch-leads image live answers before _ _ _ ran _ (entry-same s turn (current_of v.stacks) Interrupt line turns current)
+    (switch-leads image live s answers before _ _ _ ran _ (entry-same s turn (current_of v.stacks) Interrupt line turns current)
+    (retold-switch image live s (Granted line ∷ s.devices) _ _ _
     (switch-stands law image live (record s { devices = Granted line ∷ s.devices }) (with_parts v v.memory v.stacks devices) h.well_typed
     (devices-typed image live s (Granted line ∷ s.devices) h.typed) granted one 0 (λ e. application (sym e)) was waits start starts
-    (InterruptedStack s.thread s.values) (inl refl) (131072 + line) ran after went))
+    (InterruptedStack s.thread s.values) (inl refl) (131072 + line) ran after went)))

@@ -7,3 +7,5 @@ pub mod Granting
 pub mod Asked
 pub mod Starting
 pub mod Replied
+pub mod KeptParts
+pub mod Stepping

@@ -70,7 +70,7 @@ current-row s = refl
 pub replies-alone : (image : ImageParts) (live : ℕ → Bool) (s : State) (v : NucleusView) (r : ℕ) (o : Option ReplyView) → NucleusStands image live s v
     → o ≡ Some (Replies r s) → RepliesAt image live s r o v
 replies-alone image live s v r o stands is =
-    record { state = s; replies = is; nucleus = stands; kept = record { current = refl; values = refl; store = refl; turns = refl } }
+    record { state = s; replies = is; nucleus = stands; kept = record { current = refl; values = refl; store = refl; same_turn = record { turns = refl; ending = refl } } }
 
 number-is : (places : List ℕ) (n : ℕ) (o : Option Stack) → number_of (option_map (state_by places n) o) ≡ state_number o
 number-is places n None = refl
@@ -198,7 +198,7 @@ reset-replies image live s v typed stands one n kernel differs was h = record {
   state = record s { stacks = slice_set s.stacks n EmptyStack };
   replies = rw (reset-row-is s n (sym current ∙ kernel), found.here) (go found.stack found.here);
   nucleus = emptied-stands image live s v stands n (slice_get_within s.stacks n found.stack found.here);
-  kept = record { current = refl; values = refl; store = refl; turns = refl };
+  kept = record { current = refl; values = refl; store = refl; same_turn = record { turns = refl; ending = refl } };
 }
   where
     current : current_of v.stacks ≡ s.current
@@ -266,7 +266,7 @@ replies-by image live s v r o history devices stands stand is = record {
   state = record s { devices = history };
   replies = is;
   nucleus = devices-stand image live s v history devices stands stand;
-  kept = record { current = refl; values = refl; store = refl; turns = refl };
+  kept = record { current = refl; values = refl; store = refl; same_turn = record { turns = refl; ending = refl } };
 }
 
 -- a cell of the screen is written, or there is none

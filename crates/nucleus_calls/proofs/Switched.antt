@@ -21,6 +21,7 @@ use Rattle.word_machine.specs.Memory.{MemoryView, word_of}
 use Rattle.word_machine.specs.Standing.{Holds, kept_values, values_at, CpuStands, ObjectsLie, MemoryStands}
 use Rattle.word_machine.specs.Laws.{Written, EmptyStacksAreFree}
 use Rattle.nucleus_calls.specs.Nucleus.{NucleusView, state_by, states_by, NucleusStands}
+use Rattle.nucleus_calls.specs.Turning.{SameTurn}
 use Rattle.nucleus_calls.specs.Calling.{fresh_cpu, GoesOn}
 use Rattle.nucleus_calls.proofs.Tables.{set-here, set-elsewhere, states-count, states-get, StackThere, stack-there, states-set}
 use Rattle.nucleus_calls.proofs.Words.{written-there}
@@ -112,10 +113,11 @@ module _ {image : ImageParts} {live : ℕ → Bool} {s : State} {v : NucleusView
           devices = stands.devices;
         }
 
--- what a switch leads to, which the processor and the Nucleus stand for
-pub record SwitchStands (image : ImageParts) (live : ℕ → Bool) (o : Option State) (cpu : Cpu) (v : NucleusView) : Type 0 where
+-- what a switch leads to in the same turn, which the processor and the Nucleus stand for
+pub record SwitchStands (image : ImageParts) (live : ℕ → Bool) (s : State) (o : Option State) (cpu : Cpu) (v : NucleusView) : Type 0 where
   pub state : State
   pub is : o ≡ Some state
+  pub same_turn : SameTurn s state
   pub processor : CpuStands state cpu
   pub nucleus : NucleusStands image live state v
 
@@ -124,7 +126,7 @@ pub switch-stands : EmptyStacksAreFree → (image : ImageParts) (live : ℕ → 
     → NucleusStands image live s v → OneRuns v.stacks
     → (to : ℕ) → to ≢ current_of v.stacks → (was : StackState) → slice_get v.stacks to ≡ Some was → (start : ℕ) → slice_get v.starts to ≡ Some start
     → (left : Stack) → KeepsValues s left → (reply : ℕ) (cpu : Cpu) (after : MemoryView) → GoesOn start to reply was v.memory cpu after
-    → SwitchStands image live (switched image to (Number reply) left s) cpu
+    → SwitchStands image live s (switched image to (Number reply) left s) cpu
     (record { memory = after; stacks = table.handed_over v.stacks (state_by (places_of s) s.current left) to; starts = v.starts; devices = v.devices })
 unfolding switched values_at kept_values Word
 switch-stands law image live s v well_typed typed stands one to differs was waits start starts left keeps reply cpu after went =
@@ -157,11 +159,12 @@ switch-stands law image live s v well_typed typed stands one to differs was wait
     holds stack here = rw (kept stack here) at (stands.memory.stacks to there)
 
     go : (stack : Stack) → slice_get s.stacks to ≡ Some stack → GoesOn start to reply (state_by (places_of s) to stack) v.memory cpu after
-        → SwitchStands image live (switched image to (Number reply) left s) cpu
+        → SwitchStands image live s (switched image to (Number reply) left s) cpu
         (record { memory = after; stacks = table.handed_over v.stacks (state_by (places_of s) s.current left) to; starts = v.starts; devices = v.devices })
     go EmptyStack here (is, written) = record {
       state = handed_over left to (runs (fresh_thread (Number 0) (entry_place image to)) (Ret 0 ∷ []) s);
       is = rw here refl;
+      same_turn = record { turns = refl; ending = refl };
       processor = rw (is, start-is) (fresh-stands _ 0 _ _ refl refl);
       nucleus = moved typed stands to other inside left keeps current after _ (Ret 0 ∷ [])
           (law image live s v.memory well_typed typed stands.memory to here 0 after written) (end-word written);
@@ -175,12 +178,14 @@ switch-stands law image live s v well_typed typed stands one to differs was wait
     go (YieldedStack place values) here (is, unchanged) = record {
       state = handed_over left to (runs (fresh_thread (Number reply) place) values s);
       is = rw here refl;
+      same_turn = record { turns = refl; ending = refl };
       processor = rw is (fresh-stands _ reply _ _ refl refl);
       nucleus = rw unchanged (moved typed stands to other inside left keeps current v.memory _ values stands.memory (holds _ here));
     }
     go (InterruptedStack thread values) here (is, unchanged) = record {
       state = handed_over left to (runs thread values s);
       is = rw here refl;
+      same_turn = record { turns = refl; ending = refl };
       processor = rw is (record { regs = refl; flags = refl; place = refl });
       nucleus = rw unchanged (moved typed stands to other inside left keeps current v.memory _ values stands.memory (holds _ here));
     }

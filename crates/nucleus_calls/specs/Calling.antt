@@ -21,6 +21,7 @@ use Rattle.word_machine.specs.Laws.{Written}
 use Rattle.nucleus_calls.specs.declared.outcome.Leaving.{Leaving}
 use Rattle.nucleus_calls.specs.declared.outcome.Leaving.TheVariants as leaving
 use Rattle.nucleus_calls.specs.Nucleus.{NucleusView, NucleusStands}
+use Rattle.nucleus_calls.specs.Turning.{SameTurn}
 
 -- EAX and ESP are these, the other registers are 0, no flag is set, and the place is this
 abbrev pub fresh_cpu : ℕ → ℕ → ℕ → Cpu
@@ -42,12 +43,12 @@ number_of (Some (Yielded sp pc)) = 2
 number_of (Some (Interrupted regs flags pc)) = 3
 number_of None = 4
 
--- what a call leaves of its caller and of the store
+-- what a call leaves of its caller, of the store and of the turn
 pub record KeepsCaller (s t : State) : Type 0 where
   pub current : t.current ≡ s.current
   pub values : t.values ≡ s.values
   pub store : t.store ≡ s.store
-  pub turns : t.turns ≡ s.turns
+  pub same_turn : SameTurn s t
 
 -- a call is replied to at once, and the Nucleus stands for the state with what the call changed
 pub record RepliesAt (image : ImageParts) (live : ℕ → Bool) (s : State) (r : ℕ) (o : Option ReplyView) (after : NucleusView) : Type 0 where

@@ -83,7 +83,7 @@ impl Nucleus {
         requires room { 1 ≤ journal.old.spare }
         ensures turn { (image : ImageParts) (live : ℕ → Bool) (s : State) (next : ℕ) → StandsBefore image live s next cpu.old self.old
             → CallTyped (scope_of image live s) s next number → s.turns ≡ turn → (answers : List Answer)
-            → Leads image live journal.old.entries journal.new.entries cpu.new self.new (after_effect image answers next s (Calls number)) }
+            → Leads image live s answers journal.old.entries journal.new.entries cpu.new self.new (after_effect image answers next s (Calls number)) }
         ensures done { result ≡ (if current_of self.new.stacks == current_of self.old.stacks then Done.Back else Done.Switched) }
         ensures back { result ≡ Done.Back → cpu.new.pc ≡ cpu.old.pc }
         ensures spare { journal.new.spare + 1 ≡ journal.old.spare }

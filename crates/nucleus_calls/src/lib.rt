@@ -13,6 +13,7 @@ mod journal;
 mod nucleus;
 mod outcome;
 mod switching;
+mod words;
 
 pub use journal::Journal;
 pub use nucleus::Nucleus;

@@ -150,7 +150,7 @@ impl Nucleus {
         ensures grants { (s : State) → IsRunning self.old s → StandsFor self.old.devices s.devices → result ≡ is_some (line_granted s) }
         ensures turn { (image : ImageParts) (live : ℕ → Bool) (s : State) → StandsBefore image live s s.thread.place cpu.old self.old → s.turns ≡ turn
             → (line : ℕ) → line_granted s ≡ Some line → (answers : List Answer)
-            → Leads image live journal.old.entries journal.new.entries cpu.new self.new (interrupted image answers line s) }
+            → Leads image live s answers journal.old.entries journal.new.entries cpu.new self.new (interrupted image answers line s) }
         ensures spare { IsTrue result → journal.new.spare + 1 ≡ journal.old.spare }
         ensures none { IsFalse result → (self.new ≡ self.old) × (cpu.new ≡ cpu.old) × (journal.new ≡ journal.old) }
     {
@@ -189,7 +189,7 @@ impl Nucleus {
         requires room { 1 ≤ journal.old.spare }
         ensures turn { (image : ImageParts) (live : ℕ → Bool) (s : State) (next : ℕ) → StandsBefore image live s next cpu.old self.old → s.turns ≡ turn
             → (answers : List Answer)
-            → Leads image live journal.old.entries journal.new.entries cpu.new self.new (after_effect image answers next s (effect_of why)) }
+            → Leads image live s answers journal.old.entries journal.new.entries cpu.new self.new (after_effect image answers next s (effect_of why)) }
         ensures spare { journal.new.spare + 1 ≡ journal.old.spare }
     {
         empty_stacks_are_free();

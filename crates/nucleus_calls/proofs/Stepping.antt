@@ -1,0 +1,98 @@
+-- An instruction that runs on the Nucleus's memory leads processor and Nucleus as it leads the state.
+use Rattle.std.proofs.Common.{◌≡◌, ◌<◌, ◌≤◌, ◌+◌, ◌*◌, ℕ, Option, Some, None, length, refl, sym, ◌∙◌}
+use Rattle.ia32_code.specs.declared.instruction.Inst.{Inst}
+use Rattle.ia32_step.specs.declared.cpu.Cpu.{Cpu}
+use Rattle.stack_states.specs.StackTable.{OneRuns, current_of}
+use Rattle.tal_image.specs.Image.{ImageParts}
+use Rattle.typed_machine.specs.Values.{all_objects}
+use Rattle.typed_machine.specs.States.{State}
+use Rattle.typed_machine.specs.Effects.{EffectView, Moves, Faults, Calls, Ends, Effect}
+use Rattle.word_machine.specs.declared.step.Step.{Step}
+use Rattle.word_machine.specs.Memory.{MemoryView}
+use Rattle.word_machine.specs.Standing.{MemoryStands, WordsStand}
+use Rattle.word_machine.specs.Following.{StandsAt, Runs, Came}
+use Rattle.nucleus_calls.specs.Nucleus.{NucleusView, NucleusStands, IsKept}
+use Rattle.nucleus_calls.specs.Turning.{AtInstruction, MayStep, BothStand, Stepped}
+use Rattle.nucleus_calls.proofs.KeptParts.{KeepsRest, EffectKeeps, effect-keeps}
+use Rattle.nucleus_calls.proofs.Switched.{count-is, current-is}
+use Rattle.nucleus_calls.proofs.Led.{with_parts}
+
+-- the words stand for the state at whose place the instruction is
+words-stand : (image : ImageParts) (s : State) (i : Inst) (len : ℕ) (cpu : Cpu) (v : NucleusView) → AtInstruction image s i len cpu v → StandsAt image s cpu v.memory i len
+words-stand image s i len cpu v h = record {
+  grounds = record {
+    well_typed = h.before.well_typed;
+    typed = h.before.typed;
+    stand = record {
+      processor = record { regs = h.before.processor.regs; flags = h.before.processor.flags; place = h.before.processor.place };
+      memory = h.before.nucleus.memory;
+    };
+  };
+  here = h.here;
+}
+
+-- the instruction may run on the running stack
+pub may-run : (i : Inst) (len : ℕ) (cpu : Cpu) (v : NucleusView) → MayStep i len cpu v → OneRuns v.stacks → Runs (current_of v.stacks) i len cpu v.memory
+may-run i len cpu v (image, s, h) one =
+    (image, s, words-stand image s i len cpu v h, sym (current-is h.before.typed h.before.nucleus one))
+
+-- what `advance` ensures
+abbrev pub Advances : Inst → ℕ → ℕ → Cpu → MemoryView → Step → Cpu → MemoryView → Type 0
+Advances i len current cpu m r ran after =
+    (image : ImageParts) (s : State) → StandsAt image s cpu m i len → s.current ≡ current → Came r ran after image s (Effect image s i len)
+
+-- the same stacks, starts and devices with the words that came of it
+same-stands : (image : ImageParts) (s : State) (v : NucleusView) (ran : Cpu) (after : MemoryView) → NucleusStands image all_objects s v
+    → WordsStand image all_objects s ran after → BothStand image s ran (with_parts v after v.stacks v.devices)
+same-stands image s v ran after h words = record {
+  processor = words.processor;
+  nucleus = record { memory = words.memory; stacks = h.stacks; starts = h.starts; devices = h.devices };
+}
+
+-- so it is with a state that kept the rest
+rest-stands : (image : ImageParts) (s t : State) (v : NucleusView) (ran : Cpu) (after : MemoryView) → NucleusStands image all_objects s v → KeepsRest s t
+    → WordsStand image all_objects t ran after → BothStand image t ran (with_parts v after v.stacks v.devices)
+rest-stands image s t v ran after h keeps words = record {
+  processor = words.processor;
+  nucleus = record {
+    memory = words.memory;
+    stacks = rw (keeps.places, keeps.stacks) h.stacks;
+    starts = h.starts;
+    devices = rw keeps.devices h.devices;
+  };
+}
+
+came-stands : (image : ImageParts) (s : State) (v : NucleusView) (r : Step) (ran : Cpu) (after : MemoryView) → NucleusStands image all_objects s v
+    → (o : Option EffectView) → EffectKeeps s o → Came r ran after image s o → Stepped r ran (with_parts v after v.stacks v.devices) image s o
+came-stands image s v r ran after h None keeps came = came
+came-stands image s v r ran after h (Some (Moves t)) keeps (is, words) =
+    (is, rest-stands image s t v ran after h keeps words, record { turns = keeps.turns; ending = keeps.ending })
+came-stands image s v r ran after h (Some (Faults vector)) keeps (is, words) = (is, same-stands image s v ran after h words)
+came-stands image s v r ran after h (Some (Calls k)) keeps (is, words) = (is, same-stands image s v ran after h words)
+came-stands image s v r ran after h (Some Ends) keeps (is, words) = (is, same-stands image s v ran after h words)
+
+-- the instruction leads them as it leads the state
+pub step-leads : (i : Inst) (len : ℕ) (cpu : Cpu) (v : NucleusView) (r : Step) (ran : Cpu) (after : MemoryView) → OneRuns v.stacks
+    → Advances i len (current_of v.stacks) cpu v.memory r ran after
+    → (image : ImageParts) (s : State) → AtInstruction image s i len cpu v
+    → Stepped r ran (with_parts v after v.stacks v.devices) image s (Effect image s i len)
+step-leads i len cpu v r ran after one advances image s h =
+    came-stands image s v r ran after h.before.nucleus (Effect image s i len) (effect-keeps image s i len)
+    (advances image s (words-stand image s i len cpu v h) (sym (current-is h.before.typed h.before.nucleus one)))
+
+-- the words still stand for some state
+came-memory : (image : ImageParts) (s : State) (r : Step) (ran : Cpu) (after : MemoryView) (o : Option EffectView) → Came r ran after image s o
+    → (t : State) × MemoryStands image all_objects t after
+came-memory image s r ran after None came = absurd came
+came-memory image s r ran after (Some (Moves t)) (is, words) = (t, words.memory)
+came-memory image s r ran after (Some (Faults vector)) (is, words) = (s, words.memory)
+came-memory image s r ran after (Some (Calls k)) (is, words) = (s, words.memory)
+came-memory image s r ran after (Some Ends) (is, words) = (s, words.memory)
+
+-- so each stack has all of its words
+pub step-kept : (i : Inst) (len : ℕ) (cpu : Cpu) (v : NucleusView) (r : Step) (ran : Cpu) (after : MemoryView) → IsKept v → OneRuns v.stacks
+    → MayStep i len cpu v → Advances i len (current_of v.stacks) cpu v.memory r ran after → IsKept (with_parts v after v.stacks v.devices)
+step-kept i len cpu v r ran after kept one (image, s, h) advances =
+    let t = came-memory image s r ran after _ (advances image s (words-stand image s i len cpu v h) (sym (current-is h.before.typed h.before.nucleus one))) in
+    let count = count-is h.before.typed h.before.nucleus in
+    record { room = λ a low high aligned. t.1.room a low (rw count at high) aligned; starts = kept.starts }
