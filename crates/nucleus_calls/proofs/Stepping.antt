@@ -13,7 +13,7 @@ use Rattle.word_machine.specs.Standing.{MemoryStands, WordsStand}
 use Rattle.word_machine.specs.Following.{StandsAt, Runs, Came}
 use Rattle.nucleus_calls.specs.Nucleus.{NucleusView, NucleusStands, IsKept}
 use Rattle.nucleus_calls.specs.Turning.{AtInstruction, MayStep, BothStand, Stepped}
-use Rattle.nucleus_calls.proofs.KeptParts.{KeepsRest, EffectKeeps, effect-keeps}
+use Rattle.nucleus_calls.proofs.KeptParts.{KeepsRest, EffectLeaves, effect-leaves}
 use Rattle.nucleus_calls.proofs.Switched.{count-is, current-is}
 use Rattle.nucleus_calls.proofs.Led.{with_parts}
 
@@ -63,13 +63,13 @@ rest-stands image s t v ran after h keeps words = record {
 }
 
 came-stands : (image : ImageParts) (s : State) (v : NucleusView) (r : Step) (ran : Cpu) (after : MemoryView) → NucleusStands image all_objects s v
-    → (o : Option EffectView) → EffectKeeps s o → Came r ran after image s o → Stepped r ran (with_parts v after v.stacks v.devices) image s o
-came-stands image s v r ran after h None keeps came = came
-came-stands image s v r ran after h (Some (Moves t)) keeps (is, words) =
+    → (called : Option ℕ) (o : Option EffectView) → EffectLeaves called s o → Came r ran after image s o → Stepped r ran (with_parts v after v.stacks v.devices) image s o
+came-stands image s v r ran after h called None keeps came = came
+came-stands image s v r ran after h called (Some (Moves t)) keeps (is, words) =
     (is, rest-stands image s t v ran after h keeps words, record { turns = keeps.turns; ending = keeps.ending })
-came-stands image s v r ran after h (Some (Faults vector)) keeps (is, words) = (is, same-stands image s v ran after h words)
-came-stands image s v r ran after h (Some (Calls k)) keeps (is, words) = (is, same-stands image s v ran after h words)
-came-stands image s v r ran after h (Some Ends) keeps (is, words) = (is, same-stands image s v ran after h words)
+came-stands image s v r ran after h called (Some (Faults vector)) keeps (is, words) = (is, same-stands image s v ran after h words)
+came-stands image s v r ran after h called (Some (Calls k)) keeps (is, words) = (is, same-stands image s v ran after h words)
+came-stands image s v r ran after h called (Some Ends) keeps (is, words) = (is, same-stands image s v ran after h words)
 
 -- the instruction leads them as it leads the state
 pub step-leads : (i : Inst) (len : ℕ) (cpu : Cpu) (v : NucleusView) (r : Step) (ran : Cpu) (after : MemoryView) → OneRuns v.stacks
@@ -77,7 +77,7 @@ pub step-leads : (i : Inst) (len : ℕ) (cpu : Cpu) (v : NucleusView) (r : Step)
     → (image : ImageParts) (s : State) → AtInstruction image s i len cpu v
     → Stepped r ran (with_parts v after v.stacks v.devices) image s (Effect image s i len)
 step-leads i len cpu v r ran after one advances image s h =
-    came-stands image s v r ran after h.before.nucleus (Effect image s i len) (effect-keeps image s i len)
+    came-stands image s v r ran after h.before.nucleus _ (Effect image s i len) (effect-leaves image s i len)
     (advances image s (words-stand image s i len cpu v h) (sym (current-is h.before.typed h.before.nucleus one)))
 
 -- the words still stand for some state

@@ -4,7 +4,6 @@ use Rattle.std.specs.Option.{option_to_list}
 use Rattle.ia32_code.specs.declared.instruction.Inst.{Inst}
 use Rattle.ia32_step.specs.declared.cpu.Cpu.{Cpu}
 use Rattle.stack_states.specs.declared.journal_entry.Entry.{Entry}
-use Rattle.stack_states.specs.StackTable.{current_of}
 use Rattle.tal_image.specs.Image.{ImageParts}
 use Rattle.tal_checker.specs.WellTyped.{WellTyped}
 use Rattle.typed_machine.specs.Values.{all_objects}
@@ -77,7 +76,3 @@ Leads image live s answers before after cpu v o = (r : Turned) × (o ≡ Some r)
 abbrev pub effect_of : Leaving → EffectView
 effect_of (leaving.Fault vector) = Faults vector
 effect_of leaving.Ended = Ends
-
--- the Nucleus's running stack is the state's
-abbrev pub IsRunning : NucleusView → State → Type 0
-IsRunning v s = current_of v.stacks ≡ s.current

@@ -10,6 +10,7 @@
 
 mod calls;
 mod journal;
+pub mod laws;
 mod nucleus;
 mod outcome;
 mod switching;

@@ -1,11 +1,12 @@
 ghost use Rattle.std.specs.Prelude.{◌≡◌, ◌≢◌, ℕ, ◌+◌, ◌≤◌, ◌<◌, ◌∷◌, Bool, List, Option, IfOk, IsTrue, IsFalse, is_some, length, slice_get, Some};
 ghost use Rattle.stack_states.specs.StackTable.{OneRuns, current_of};
-ghost use Rattle.device_model.specs.Devices.{item_of, StandsFor};
+ghost use Rattle.device_model.specs.Devices.{item_of};
 ghost use Rattle.tal_image.specs.Image.{ImageParts};
 ghost use Rattle.typed_machine.specs.States.{State, first_state, entry_place};
 ghost use Rattle.typed_machine.specs.Turns.{Answer, after_effect, interrupted, line_granted};
+ghost use Rattle.typed_machine.specs.Typing.{TypedAmong};
 ghost use Rattle.nucleus_calls.specs.Nucleus.{NucleusStands};
-ghost use Rattle.nucleus_calls.specs.Turning.{StandsBefore, Leads, effect_of, IsRunning};
+ghost use Rattle.nucleus_calls.specs.Turning.{StandsBefore, Leads, effect_of};
 ghost use Rattle.nucleus_calls.specs.Calling.{kind_of, value_of, reply_of};
 
 use crate::journal::Journal;
@@ -147,7 +148,8 @@ impl Nucleus {
     /// the state. False exactly where stack 0 runs or no line can be granted; then nothing changes.
     pub fn accept(&mut self, turn: u32, cpu: &mut Cpu, journal: &mut Journal) -> bool
         requires room { 1 ≤ journal.old.spare }
-        ensures grants { (s : State) → IsRunning self.old s → StandsFor self.old.devices s.devices → result ≡ is_some (line_granted s) }
+        ensures grants { (image : ImageParts) (live : ℕ → Bool) (s : State) → TypedAmong image live s → NucleusStands image live s self.old
+            → result ≡ is_some (line_granted s) }
         ensures turn { (image : ImageParts) (live : ℕ → Bool) (s : State) → StandsBefore image live s s.thread.place cpu.old self.old → s.turns ≡ turn
             → (line : ℕ) → line_granted s ≡ Some line → (answers : List Answer)
             → Leads image live s answers journal.old.entries journal.new.entries cpu.new self.new (interrupted image answers line s) }
@@ -212,8 +214,10 @@ impl Nucleus {
         });
     }
 
-    // The stack that runs.
-    pub(crate) fn running(&self) -> u32
+    /// The stack that runs.
+    pub fn running(&self) -> u32
+        ensures state { (image : ImageParts) (live : ℕ → Bool) (s : State) → TypedAmong image live s → NucleusStands image live s self.now
+            → result ≡ s.current }
         ensures current { result ≡ current_of self.now.stacks }
         ensures one { OneRuns self.now.stacks }
         ensures few { result < 64 }

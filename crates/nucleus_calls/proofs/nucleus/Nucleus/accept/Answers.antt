@@ -20,11 +20,16 @@ invariant_of-self-2 c =
     (kept-after _ _ 0 _ _ _ c.go_on.new.memory _ c.grant.new.self c.self.invariant c.go_on.ensures
     (handed-count c.self.inside.stacks (Interrupted c.args.cpu.now.regs c.args.cpu.now.flags c.args.cpu.now.pc) 0))
 
+pub returns-then-stack-eq-KERNEL-clause-grants : goal.returns-then-stack-eq-KERNEL-clause-grants
+returns-then-stack-eq-KERNEL-clause-grants c = λ image live s typed h.
+    rw (none-on-kernel s (sym (c.running-stack.ensures.state image live s typed h) ∙ c.if-stack-eq-KERNEL.true)) refl
+
 pub returns-clause-grants : goal.returns-clause-grants
-returns-clause-grants c = λ s running stand.
-    let can = c.in-Some.ensures.line s.devices (rw (← c.self.view_is) at stand) in
+returns-clause-grants c = λ image live s typed h.
+    let before = rw (← c.self.view_is) at h in
+    let can = c.in-Some.ensures.line s.devices before.devices in
     let granted : grantable s.devices ≡ Some c.in-Some.line.0 = sym (grant-is c.granted_line.ensures c.one_grant.ensures s.devices (Some c.in-Some.line) can) in
-    rw (granted-on-application s _ granted (λ z. c.if-stack-eq-KERNEL.false (c.running-stack.ensures.current ∙ (running ∙ z)))) refl
+    rw (granted-on-application s _ granted (λ z. c.if-stack-eq-KERNEL.false (c.running-stack.ensures.state image live s typed h ∙ z))) refl
 
 pub returns-clause-turn : goal.returns-clause-turn
 returns-clause-turn c = λ image live s h turns line granted answers.
