@@ -19,6 +19,8 @@ mod machine;
 #[cfg(test)]
 mod memory;
 #[cfg(test)]
+mod nucleus;
+#[cfg(test)]
 mod rules;
 #[cfg(test)]
 mod test_image;
