@@ -1,5 +1,5 @@
 pub mod Tables
-pub mod Words
+pub mod Stores
 pub mod Switched
 pub mod Led
 pub mod Keeping

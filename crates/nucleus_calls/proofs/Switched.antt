@@ -24,7 +24,7 @@ use Rattle.nucleus_calls.specs.Nucleus.{NucleusView, state_by, states_by, Nucleu
 use Rattle.nucleus_calls.specs.Turning.{SameTurn}
 use Rattle.nucleus_calls.specs.Calling.{fresh_cpu, GoesOn}
 use Rattle.nucleus_calls.proofs.Tables.{set-here, set-elsewhere, states-count, states-get, StackThere, stack-there, states-set}
-use Rattle.nucleus_calls.proofs.Words.{written-there}
+use Rattle.nucleus_calls.proofs.Stores.{written-there}
 
 -- a fresh thread's words
 pub fresh-stands : (t : State) (reply place esp : ℕ) → t.thread ≡ fresh_thread (Number reply) place → esp ≡ esp_of t → CpuStands t (fresh_cpu reply esp place)

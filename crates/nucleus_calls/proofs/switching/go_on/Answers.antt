@@ -1,4 +1,4 @@
-use Rattle.nucleus_calls.proofs.Words.{store-written}
+use Rattle.nucleus_calls.proofs.Stores.{store-written}
 use Rattle.nucleus_calls.proofs.switching.go_on.Goals as goal
 
 pub returns-in-Empty : goal.returns-in-Empty
