@@ -1,26 +1,20 @@
 -- A machine before its first turn stands for the first state.
-use Rattle.std.specs.Prelude.{replicate}
-use Rattle.std.proofs.Common.{◌≡◌, ℕ, ◌-◌, Bool, List, [], ◌∷◌, None, refl, ap}
-use Rattle.device_model.specs.declared.screen.TheConstants.{CELLS, BLANK}
+use Rattle.std.proofs.Common.{◌≡◌, ℕ, Bool, List, [], None, refl}
 use Rattle.device_model.specs.declared.events.Event.{Event}
-use Rattle.stack_states.specs.declared.stack_state.StackState.{StackState}
-use Rattle.stack_states.specs.declared.stack_state.StackState.TheVariants.{Running}
+use Rattle.device_model.specs.EventFile.{InOrder}
 use Rattle.tal_types.specs.Contexts.{same}
 use Rattle.tal_image.specs.Image.{ImageParts}
 use Rattle.tal_checker.specs.WellTyped.{WellTyped}
 use Rattle.typed_machine.specs.Values.{Word, all_objects}
-use Rattle.typed_machine.specs.States.{places_of, first_state}
+use Rattle.typed_machine.specs.States.{first_state}
 use Rattle.typed_machine.specs.Turns.{Run, RunOf}
 use Rattle.typed_safety.specs.Laws.{RunsAreTyped}
-use Rattle.word_machine.specs.Memory.{MemoryView}
-use Rattle.word_machine.specs.Standing.{CpuStands, MemoryStands}
+use Rattle.word_machine.specs.Standing.{CpuStands}
 use Rattle.word_machine.specs.Following.{first_cpu}
+use Rattle.nucleus_calls.specs.Nucleus.{NucleusView, NucleusStands}
 use Rattle.kernel_machine.specs.Built.{IsBuilt}
-use Rattle.kernel_machine.specs.Shown.{states_by}
-use Rattle.kernel_machine.specs.Machine.{Stands, Follows, Lawful, one_runs}
+use Rattle.kernel_machine.specs.Machine.{Stands, Follows, Lawful}
 use Rattle.kernel_machine.specs.Stepping.{viewed}
-use Rattle.kernel_machine.proofs.Screen.{blank-screen}
-use Rattle.kernel_machine.proofs.Stacks.{none-started}
 
 -- the run of no turns
 abbrev first_run : ImageParts → Run
@@ -31,42 +25,27 @@ first-cpu : (image : ImageParts) → CpuStands (first_state image) (first_cpu im
 unfolding first_state Word same
 first-cpu image = record { regs = refl; flags = refl; place = refl }
 
--- the stacks
-first-states : (image : ImageParts) → one_runs image.stacks ≡ states_by (places_of (first_state image)) 0 (first_state image).stacks
-unfolding first_state states_by
-first-states image = ap (λ (xs : List StackState). Running ∷ xs) (none-started _ 1 (image.stacks - 1))
-
-first-stands : (image : ImageParts) (events : List Event) (m : MemoryView) (cells : List ℕ) → ((live : ℕ → Bool) → MemoryStands image live (first_state image) m)
-    → cells ≡ replicate CELLS BLANK → Stands (viewed image events (first_cpu image) m cells 0 None) (first_state image)
+first-stands : (image : ImageParts) (events : List Event) (v : NucleusView) → ((live : ℕ → Bool) → NucleusStands image live (first_state image) v)
+    → Stands (viewed image events (first_cpu image) v 0 None) (first_state image)
 unfolding first_state
-first-stands image events m cells memory blank = record {
-  words = record { processor = first-cpu image; memory = memory all_objects };
-  stacks = first-states image;
-  cells = rw blank blank-screen;
-  turns = refl;
-  ending = refl;
-}
+first-stands image events v nucleus = record { processor = first-cpu image; nucleus = nucleus all_objects; turns = refl; ending = refl }
 
 -- it is lawful
-pub first-lawful : RunsAreTyped → (image : ImageParts) (events : List Event) (m : MemoryView) (cells : List ℕ) → WellTyped image → IsBuilt image
-    → ((live : ℕ → Bool) → MemoryStands image live (first_state image) m) → cells ≡ replicate CELLS BLANK → Lawful (viewed image events (first_cpu image) m cells 0 None)
+pub first-lawful : RunsAreTyped → (image : ImageParts) (events : List Event) (v : NucleusView) → WellTyped image → IsBuilt image → InOrder events
+    → ((live : ℕ → Bool) → NucleusStands image live (first_state image) v) → Lawful (viewed image events (first_cpu image) v 0 None) 0
 unfolding RunOf
-first-lawful law image events m cells w built memory blank = record {
+first-lawful law image events v w built ordered nucleus = record {
   well_typed = w;
   built = built;
   state = first_state image;
   typed = (law image w events 0 [] (first_run image) refl).typed;
-  stands = first-stands image events m cells memory blank;
-  alone = refl;
+  stands = first-stands image events v nucleus;
+  next = record { rest = λ later low. refl; in_order = ordered };
 }
 
 -- and follows the empty journal
-pub first-follows : (image : ImageParts) (events : List Event) (m : MemoryView) (cells : List ℕ) → ((live : ℕ → Bool) → MemoryStands image live (first_state image) m)
-    → cells ≡ replicate CELLS BLANK → Follows (viewed image events (first_cpu image) m cells 0 None) []
+pub first-follows : (image : ImageParts) (events : List Event) (v : NucleusView) → ((live : ℕ → Bool) → NucleusStands image live (first_state image) v)
+    → Follows (viewed image events (first_cpu image) v 0 None) []
 unfolding RunOf
-first-follows image events m cells memory blank = record {
-  run = first_run image;
-  legal = record { reached = refl; used = refl };
-  entries_are = refl;
-  stands = first-stands image events m cells memory blank;
-}
+first-follows image events v nucleus =
+    record { run = first_run image; legal = record { reached = refl; used = refl }; entries_are = refl; stands = first-stands image events v nucleus }

@@ -1,8 +1,9 @@
 pub mod Lines
+pub mod Cells
 pub mod UnbuiltCalls
-pub mod KeptParts
-pub mod Screen
-pub mod Stacks
+pub mod EventsCome
+pub mod NoAnswers
 pub mod Showing
 pub mod Beginning
+pub mod EffectsLead
 pub mod Turning

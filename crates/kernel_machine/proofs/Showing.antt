@@ -1,15 +1,14 @@
 -- A machine that stands for a typed state shows that state's words.
-use Rattle.std.specs.Prelude.{zero, suc, replicate, slice_index}
-use Rattle.std.specs.Option.{option_map_or}
+use Rattle.std.specs.Prelude.{zero, suc, slice_index}
+use Rattle.std.specs.Option.{option_map, option_map_or}
 use Rattle.std.proofs.Common.{◌≡◌, ℕ, ◌+◌, ◌-◌, ◌*◌, ◌/◌, ◌%◌, ◌<◌, ◌≤◌, ◌==◌, Bool, true, false, if◌then◌else◌, List, [], ◌∷◌, length, map, Some, slice_get, refl, sym, ◌∙◌, ap, ap₂, arith}
 use Rattle.std.proofs.lemmas.Bool.Decides.{nat_tests}
-use Rattle.std.proofs.lemmas.List.{length-replicate}
 use Rattle.ia32_step.specs.declared.cpu.Cpu.{Cpu}
 use Rattle.object_layout.specs.Areas.{statics_start, stacks_start}
-use Rattle.device_model.specs.declared.screen.TheConstants.{CELLS}
-use Rattle.stack_states.specs.declared.stack_state.StackState.{StackState}
-use Rattle.stack_states.specs.declared.stack_state.StackState.TheVariants.{Empty, Running}
+use Rattle.device_model.specs.History.{History}
+use Rattle.device_model.specs.Devices.{StandsFor}
 use Rattle.object_layout.specs.declared.rows.FieldTy.{FieldTy}
+use Rattle.stack_states.specs.declared.stack_state.StackState.{StackState}
 use Rattle.tal_image.specs.Image.{ImageParts}
 use Rattle.tal_image.specs.Conditions.{statics_fit}
 use Rattle.tal_image.specs.Shown.{shown}
@@ -19,12 +18,12 @@ use Rattle.typed_machine.specs.Typing.{Typed}
 use Rattle.typed_machine.specs.Words.{upper_end, stack_pointer, esp_of}
 use Rattle.typed_safety.specs.Laws.{RunsAreTyped}
 use Rattle.word_machine.specs.Memory.{MemoryView, word_of, word_at, is_mapped}
-use Rattle.word_machine.specs.Standing.{kept_values, values_at, HoldsValues, WordsStand}
-use Rattle.kernel_machine.specs.Shown.{ShownStack, ShownWords, words_from, esp_by, stack_by, stacks_by, state_by, states_by, shown_stacks, shown_of}
-use Rattle.kernel_machine.specs.Machine.{MachineView, shown_by, Stands, one_runs, Lawful}
+use Rattle.word_machine.specs.Standing.{kept_values, values_at, Holds, CpuStands, MemoryStands}
+use Rattle.nucleus_calls.specs.Nucleus.{state_by, states_by}
+use Rattle.kernel_machine.specs.Shown.{ShownStack, ShownWords, words_from, esp_by, stack_by, stacks_by, shown_stacks, shown_of}
+use Rattle.kernel_machine.specs.Machine.{MachineView, shown_by, Stands, Lawful}
 use Rattle.kernel_machine.specs.Laws.{MachinesShowTheirRuns}
-use Rattle.kernel_machine.proofs.Screen.{screen-count}
-use Rattle.kernel_machine.proofs.Stacks.{first-is-current}
+use Rattle.kernel_machine.proofs.Cells.{screen-same}
 
 -- ---- words one after another
 
@@ -47,7 +46,7 @@ words-are m a (suc n) (w ∷ ws) e each =
     (λ k low. let next : a + 4 * suc k ≡ a + 4 + 4 * k = omega arith in rw next at (each (suc k) (omega (arith, low)))))
 
 -- the words of values that stand from an address up
-pub words-of-values : (m : MemoryView) (places : List ℕ) (a : ℕ) (values : List Value) → HoldsValues m places a values → words_from m a (length values) ≡ map (Word places) values
+pub words-of-values : (m : MemoryView) (places : List ℕ) (a : ℕ) (values : List Value) → Holds m places a values → words_from m a (length values) ≡ map (Word places) values
 unfolding words_from
 words-of-values m places a [] h = refl
 words-of-values m places a (v ∷ vs) h =
@@ -82,21 +81,20 @@ record EspIs (s : State) (cpu : Cpu) (n : ℕ) (stack : Stack) : Type 0 where
   esp : esp_by cpu n (state_by (places_of s) n stack) ≡ stack_pointer n (length (values_at s n))
   few : length (values_at s n) ≤ most_values
 
-esp-is : (image : ImageParts) (s : State) (cpu : Cpu) (m : MemoryView) → Typed image s → WordsStand image all_objects s cpu m → (n : ℕ) (stack : Stack)
-    → slice_get s.stacks n ≡ Some stack → EspIs s cpu n stack
+esp-is : (image : ImageParts) (s : State) (cpu : Cpu) → Typed image s → CpuStands s cpu → (n : ℕ) (stack : Stack) → slice_get s.stacks n ≡ Some stack → EspIs s cpu n stack
 unfolding kept_values
-esp-is image s cpu m typed h n RunningStack here =
+esp-is image s cpu typed h n RunningStack here =
     let values = running-values image s n typed here in
     let current = typed.only n here in
-    let top : slice_index cpu.regs 4 ≡ esp_of s = ap (λ rs. slice_index rs 4) h.processor.regs in
+    let top : slice_index cpu.regs 4 ≡ esp_of s = ap (λ rs. slice_index rs 4) h.regs in
     record { esp = rw (values, current) top; few = rw values typed.thread.room }
-esp-is image s cpu m typed h n EmptyStack here =
+esp-is image s cpu typed h n EmptyStack here =
     let values = other-values image s n EmptyStack typed here (λ e. cc e) in
     record { esp = rw values (omega arith); few = rw values (omega arith) }
-esp-is image s cpu m typed h n (YieldedStack place kept) here =
+esp-is image s cpu typed h n (YieldedStack place kept) here =
     let values = other-values image s n (YieldedStack place kept) typed here (λ e. cc e) in
     record { esp = rw values refl; few = rw values (typed.others n (YieldedStack place kept) here).room }
-esp-is image s cpu m typed h n (InterruptedStack thread kept) here =
+esp-is image s cpu typed h n (InterruptedStack thread kept) here =
     let values = other-values image s n (InterruptedStack thread kept) typed here (λ e. cc e) in
     record { esp = rw values refl; few = rw values (typed.others n (InterruptedStack thread kept) here).room }
 
@@ -111,28 +109,28 @@ place-inside (y ∷ ys) zero x e = omega arith
 place-inside (y ∷ ys) (suc n) x e = let later = place-inside ys n x e in omega (arith, later)
 
 -- a stack's words are those of its values
-stack-shows : (image : ImageParts) (s : State) (cpu : Cpu) (m : MemoryView) → Typed image s → WordsStand image all_objects s cpu m → (n : ℕ) (stack : Stack)
+stack-shows : (image : ImageParts) (s : State) (cpu : Cpu) (m : MemoryView) → Typed image s → CpuStands s cpu → MemoryStands image all_objects s m → (n : ℕ) (stack : Stack)
     → slice_get s.stacks n ≡ Some stack
     → stack_by cpu m n (state_by (places_of s) n stack) ≡ record { state = state_by (places_of s) n stack; words = map (Word (places_of s)) (values_at s n) }
-stack-shows image s cpu m typed h n stack here =
-    let at = esp-is image s cpu m typed h n stack here in
+stack-shows image s cpu m typed h memory n stack here =
+    let at = esp-is image s cpu typed h n stack here in
     let inside : n < image.stacks = rw typed.count at (place-inside s.stacks n stack here) in
     let depth = depth-is n (length (values_at s n)) at.few in
-    let words = words-of-values m (places_of s) (stack_pointer n (length (values_at s n))) (values_at s n) (h.memory.stacks n inside) in
+    let words = words-of-values m (places_of s) (stack_pointer n (length (values_at s n))) (values_at s n) (memory.stacks n inside) in
     ap (λ ws. record { state = state_by (places_of s) n stack; words = ws })
     (ap₂ (λ a k. words_from m a ((upper_end n - k) / 4)) at.esp at.esp ∙ (ap (words_from m (stack_pointer n (length (values_at s n)))) depth ∙ words))
 
 -- and so it is with all stacks from one on
-stacks-show : (image : ImageParts) (s : State) (cpu : Cpu) (m : MemoryView) → Typed image s → WordsStand image all_objects s cpu m → (n : ℕ) (stacks : List Stack)
+stacks-show : (image : ImageParts) (s : State) (cpu : Cpu) (m : MemoryView) → Typed image s → CpuStands s cpu → MemoryStands image all_objects s m → (n : ℕ) (stacks : List Stack)
     → ((k : ℕ) (stack : Stack) → slice_get stacks k ≡ Some stack → slice_get s.stacks (n + k) ≡ Some stack)
     → stacks_by cpu m n (states_by (places_of s) n stacks) ≡ shown_stacks s n stacks
 unfolding stacks_by states_by shown_stacks
-stacks-show image s cpu m typed h n [] there = refl
-stacks-show image s cpu m typed h n (stack ∷ stacks) there =
+stacks-show image s cpu m typed h memory n [] there = refl
+stacks-show image s cpu m typed h memory n (stack ∷ stacks) there =
     let none : n + 0 ≡ n = omega arith in
     let here : slice_get s.stacks n ≡ Some stack = rw none at (there 0 stack refl) in
-    ap₂ (λ (x : ShownStack) xs. x ∷ xs) (stack-shows image s cpu m typed h n stack here)
-    (stacks-show image s cpu m typed h (n + 1) stacks
+    ap₂ (λ (x : ShownStack) xs. x ∷ xs) (stack-shows image s cpu m typed h memory n stack here)
+    (stacks-show image s cpu m typed h memory (n + 1) stacks
     (λ k x e. let next : n + suc k ≡ n + 1 + k = omega arith in rw next at (there (suc k) x e)))
 
 -- ---- all that is shown
@@ -147,19 +145,20 @@ unfolding shown_of
 stands-shows machine s typed h =
     let all : (k : ℕ) (stack : Stack) → slice_get s.stacks k ≡ Some stack → slice_get s.stacks (0 + k) ≡ Some stack =
     λ k stack e. let none : 0 + k ≡ k = omega arith in rw none e in
-    let stacks = stacks-show machine.image s machine.cpu machine.memory typed h.words 0 s.stacks all in
-    let statics = words-of-values machine.memory (places_of s) statics_start s.statics h.words.memory.statics in
-    shown-same (shown_by machine) (shown_of s) h.words.processor.regs h.words.processor.flags h.words.processor.place
-    (ap (stacks_by machine.cpu machine.memory 0) h.stacks ∙ stacks)
-    (ap (words_from machine.memory statics_start) (sym typed.statics.count) ∙ statics)
-    h.cells
+    let memory = machine.nucleus.memory in
+    let stacks = stacks-show machine.image s machine.cpu memory typed h.processor h.nucleus.memory 0 s.stacks all in
+    let statics = words-of-values memory (places_of s) statics_start s.statics h.nucleus.memory.statics in
+    shown-same (shown_by machine) (shown_of s) h.processor.regs h.processor.flags h.processor.place
+    (ap (stacks_by machine.cpu memory 0) h.nucleus.stacks ∙ stacks)
+    (ap (words_from memory statics_start) (sym typed.statics.count) ∙ statics)
+    (screen-same machine.nucleus.devices s.devices h.nucleus.devices)
 
 -- the law: the state that a run comes to is typed
 pub follows-shows : RunsAreTyped → MachinesShowTheirRuns
 follows-shows law machine entries w f =
     stands-shows machine f.run.state (law machine.image w machine.events machine.turns _ f.run f.legal.reached).typed f.stands
 
--- ---- of a machine whose stack 0 runs alone
+-- ---- what is looked up of a machine
 
 -- stack k of those from number n on
 record IsBy (cpu : Cpu) (m : MemoryView) (n k : ℕ) (states : List StackState) (t : ShownStack) : Type 0 where
@@ -176,40 +175,55 @@ stacks-read cpu m n (suc k) (x ∷ xs) t e =
     let next : n + 1 + k ≡ n + suc k = omega arith in
     record { state = r.state; here = r.here; is = rw next at r.is }
 
--- the first runs
-pub first-shown : (cpu : Cpu) (m : MemoryView) (count k : ℕ) (t : ShownStack) → k ≡ 0 → slice_get (stacks_by cpu m 0 (one_runs count)) k ≡ Some t → t ≡ stack_by cpu m 0 Running
-first-shown cpu m count zero t first e =
-    let r = stacks-read cpu m 0 0 (one_runs count) t e in
-    let same : Running ≡ r.state = cc in r.is ∙ ap (stack_by cpu m 0) (sym same)
-first-shown cpu m count (suc k) t first e = absurd (cc)
-
--- what several are alike
-alike : (count k : ℕ) (x : StackState) → slice_get (replicate count Empty) k ≡ Some x → x ≡ Empty
-alike zero k x e = absurd (cc)
-alike (suc count) zero x e = cc
-alike (suc count) (suc k) x e = alike count k x e
-
--- no other has started
-pub other-shown : (cpu : Cpu) (m : MemoryView) (count k : ℕ) (t : ShownStack) → (k ≡ 0 → ⊥) → slice_get (stacks_by cpu m 0 (one_runs count)) k ≡ Some t
-    → t ≡ record { state = Empty; words = [] }
-unfolding words_from
-other-shown cpu m count zero t other e = absurd (other refl)
-other-shown cpu m count (suc k) t other e =
-    let r = stacks-read cpu m 0 (suc k) (one_runs count) t e in
-    let empty : r.state ≡ Empty = alike (count - 1) k r.state r.here in
-    let none : (upper_end (0 + suc k) - upper_end (0 + suc k)) / 4 ≡ 0 = omega arith in
-    r.is ∙ ap (stack_by cpu m (0 + suc k)) empty ∙ ap (λ n. record { state = Empty; words = words_from m (upper_end (0 + suc k)) n }) none
+-- a stack that does this is shown so
+pub stack-shown : (cpu : Cpu) (m : MemoryView) (k : ℕ) (states : List StackState) (state : StackState) (t : ShownStack) → slice_get states k ≡ Some state
+    → slice_get (stacks_by cpu m 0 states) k ≡ Some t → t ≡ stack_by cpu m k state
+stack-shown cpu m k states state t here e =
+    let r = stacks-read cpu m 0 k states t e in
+    let read = r.here in
+    let same : r.state ≡ state = cc in
+    let none : 0 + k ≡ k = omega arith in
+    rw none at r.is ∙ ap (stack_by cpu m k) same
 
 -- there are as many as the machine has
-stacks-count : (cpu : Cpu) (m : MemoryView) (n : ℕ) (states : List StackState) → length (stacks_by cpu m n states) ≡ length states
+pub stacks-count : (cpu : Cpu) (m : MemoryView) (n : ℕ) (states : List StackState) → length (stacks_by cpu m n states) ≡ length states
 unfolding stacks_by
 stacks-count cpu m n [] = refl
 stacks-count cpu m n (x ∷ xs) = ap suc (stacks-count cpu m (n + 1) xs)
 
-pub shown-count : (cpu : Cpu) (m : MemoryView) (count : ℕ) → 0 < count → count ≡ length (stacks_by cpu m 0 (one_runs count))
-shown-count cpu m count some =
-    let others : length (replicate (count - 1) Empty) ≡ count - 1 = length-replicate {A = StackState} (count - 1) Empty in
-    omega (arith, some, stacks-count cpu m 0 (one_runs count), others)
+-- a stack that is shown is one of the machine's
+pub stack-inside : (cpu : Cpu) (m : MemoryView) (k : ℕ) (states : List StackState) → k < length (stacks_by cpu m 0 states) → k < length states
+stack-inside cpu m k states low = rw stacks-count at low
+
+-- the state of stack k of those from number n on
+record IsStateBy (places : List ℕ) (n k : ℕ) (stacks : List Stack) (state : StackState) : Type 0 where
+  stack : Stack
+  here : slice_get stacks k ≡ Some stack
+  is : state ≡ state_by places (n + k) stack
+
+states-read : (places : List ℕ) (n k : ℕ) (stacks : List Stack) (state : StackState) → slice_get (states_by places n stacks) k ≡ Some state → IsStateBy places n k stacks state
+unfolding states_by
+states-read places n k [] state e = absurd (cc)
+states-read places n zero (x ∷ xs) state e = let none : n + 0 ≡ n = omega arith in record { stack = x; here = refl; is = rw none cc }
+states-read places n (suc k) (x ∷ xs) state e =
+    let r = states-read places (n + 1) k xs state e in
+    let next : n + 1 + k ≡ n + suc k = omega arith in
+    record { stack = r.stack; here = r.here; is = rw next at r.is }
+
+-- ESP of a stack tells its depth
+pub record TellsDepth (cpu : Cpu) (k : ℕ) (state : StackState) : Type 0 where
+  pub depth : ℕ
+  pub esp : esp_by cpu k state ≡ stack_pointer k depth
+  pub few : depth ≤ most_values
+
+pub tells-depth : (machine : MachineView) (index : ℕ) → Lawful machine index → (k : ℕ) (state : StackState) → slice_get machine.nucleus.stacks k ≡ Some state
+    → TellsDepth machine.cpu k state
+tells-depth machine index h k state here =
+    let r = states-read (places_of h.state) 0 k h.state.stacks state (rw h.stands.nucleus.stacks at here) in
+    let at = esp-is machine.image h.state machine.cpu h.typed h.stands.processor k r.stack r.here in
+    let none : 0 + k ≡ k = omega arith in
+    let is : state ≡ state_by (places_of h.state) k r.stack = rw none at r.is in
+    record { depth = length (values_at h.state k); esp = ap (esp_by machine.cpu k) is ∙ at.esp; few = at.few }
 
 -- what an image shows of its statics, which are few
 pub statics-shown : (image : ImageParts) (statics : List FieldTy) → statics ≡ (shown image).statics → length statics ≡ length image.statics
@@ -218,17 +232,6 @@ statics-shown image statics e = ap length e
 
 pub statics-few : (n : ℕ) → statics_fit n ≡ true → n ≤ 65536
 statics-few n e = grind (arith, nat_tests, e)
-
--- what a lawful machine's look-ups rest on: ESP tells a depth of stack 0, whose words are there, and so are the statics; the
--- cells are all there
-pub record LooksUp (machine : MachineView) : Type 0 where
-  pub depth : ℕ
-  pub esp : slice_index machine.cpu.regs 4 ≡ stack_pointer 0 depth
-  pub few : depth ≤ most_values
-  pub some : 0 < machine.image.stacks
-  pub room : (a : ℕ) → stacks_start ≤ a → a < upper_end 0 → a % 4 ≡ 0 → is_mapped machine.memory a ≡ true
-  pub statics : (k : ℕ) → k < length machine.image.statics → is_mapped machine.memory (statics_start + 4 * k) ≡ true
-  pub cells : length machine.cells ≡ CELLS
 
 -- a value of a list below its length
 value-there : (vs : List Value) (k : ℕ) → k < length vs → (v : Value) × (slice_get vs k ≡ Some v)
@@ -241,20 +244,13 @@ there-mapped : (m : MemoryView) (a w : ℕ) → word_of m a ≡ Some w → is_ma
 unfolding is_mapped
 there-mapped m a w e = rw e refl
 
-pub looks-up : (machine : MachineView) → Lawful machine → LooksUp machine
-looks-up machine h =
-    let s = h.state in
-    let current = first-is-current machine.image s machine.image.stacks h.typed (sym h.alone ∙ h.stands.stacks) in
-    let regs : slice_index machine.cpu.regs 4 ≡ esp_of s = ap (λ rs. slice_index rs 4) h.stands.words.processor.regs in
-    let inside = place-inside s.stacks 0 RunningStack (rw current at h.typed.one) in
-    let some : 0 < machine.image.stacks = rw h.typed.count at inside in
-    record {
-      depth = length s.values;
-      esp = rw current at regs;
-      few = h.typed.thread.room;
-      some = some;
-      room = λ a low high aligned. h.stands.words.memory.room a low (omega (arith, high, some)) aligned;
-      statics = λ k low. let v = value-there s.statics k (rw (← h.typed.statics.count) at low) in
-          there-mapped machine.memory _ _ (h.stands.words.memory.statics k v.0 v.1);
-      cells = ap length h.stands.cells ∙ screen-count s.devices;
-    }
+-- the words of a lawful machine's statics are there
+pub statics-there : (machine : MachineView) (index : ℕ) → Lawful machine index → (k : ℕ) → k < length machine.image.statics
+    → is_mapped machine.nucleus.memory (statics_start + 4 * k) ≡ true
+statics-there machine index h k low =
+    let v = value-there h.state.statics k (rw (← h.typed.statics.count) at low) in
+    there-mapped machine.nucleus.memory _ _ (h.stands.nucleus.memory.statics k v.0 v.1)
+
+-- the devices of a lawful machine stand for a history
+pub history-there : (machine : MachineView) (index : ℕ) → Lawful machine index → (history : History) × StandsFor machine.nucleus.devices history
+history-there machine index h = (h.state.devices, h.stands.nucleus.devices)

@@ -4,8 +4,6 @@ pub mod Built
 pub mod Shown
 -- The text of a report.
 pub mod Report
--- A journal.
-pub mod Journal
 -- A machine: when it stands for a state and follows a journal.
 pub mod Machine
 -- How a machine is made and takes a turn.

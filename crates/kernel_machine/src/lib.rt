@@ -1,16 +1,16 @@
-// The machine over an accepted image: its turns and runs, the journal of a run, and the report of what it shows.
+// The machine over an accepted image: its turns and runs, and the report of what it shows.
 //
-// A `Machine` is made over a `Checked` image and recorded events. `turn` takes one turn, `run` takes many, and `report` gives
-// the text of what a machine (anything that is `Shown`) shows at its end. The `Journal` holds what a run did, and the room
-// that its turns need. So far stack 0 alone runs, and no call of the Nucleus; `first_unbuilt_call` tells where an image's code
-// has one.
+// A `Machine` is made over a `Checked` image and recorded events; it has the processor, and the Nucleus with memory, stacks and
+// devices. `turn` takes one turn, `run` takes many, and `report` gives the text of what a machine (anything that is `Shown`)
+// shows at its end. Calls of the Nucleus's heap are not built yet: `first_unbuilt_call` tells where an image's code has one.
 //
 // `Stands` (in specs/) says that the machine's words are those of a state of the typed machine, and `Follows` that this state
 // is that of the run that the journal tells; each turn keeps it. `ReportText` is the report.
 #![tactic(auto)]
 
+mod acting;
 mod calls;
-mod journal;
+mod events;
 pub mod laws;
 mod machine;
 mod number_text;
@@ -22,7 +22,6 @@ mod shown;
 mod turn;
 
 pub use calls::first_unbuilt_call;
-pub use journal::Journal;
 pub use machine::Machine;
 pub use number_text::word_digits;
 pub use report_text::report;

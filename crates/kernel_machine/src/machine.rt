@@ -1,24 +1,30 @@
-ghost use Rattle.std.specs.Prelude.{◌≡◌, ◌≢◌, ◌≤◌, ◌<◌, ◌+◌, [], Some, None, IsSome, IfOk, is_some, length};
+ghost use Rattle.std.specs.Prelude.{◌≡◌, ◌≢◌, ◌≤◌, ◌<◌, ◌+◌, ◌++◌, [], Some, None, IsSome, IfOk, is_some, length, slice_get, Option};
+ghost use Rattle.std.specs.Option.{option_to_list};
 ghost use Rattle.ia32_code.specs.Canonical.{Canonical};
 ghost use Rattle.device_model.specs.EventFile.{InOrder};
 ghost use Rattle.object_layout.specs.Areas.{code_start};
+ghost use Rattle.stack_states.specs.declared.journal_entry.Entry.{Entry};
+ghost use Rattle.stack_states.specs.declared.stack_state.StackState.{StackState};
 ghost use Rattle.tal_checker.specs.WellTyped.{WellTyped};
 ghost use Rattle.typed_machine.specs.States.{entry_place};
 ghost use Rattle.typed_machine.specs.Code.{inst_at};
 ghost use Rattle.kernel_machine.specs.Built.{IsBuilt};
-ghost use Rattle.kernel_machine.specs.Machine.{MachineView, Follows, turn_of, end_of};
-ghost use Rattle.kernel_machine.specs.Stepping.{TakesTurn, CalledNone, ending_by};
+ghost use Rattle.kernel_machine.specs.Shown.{esp_by};
+ghost use Rattle.kernel_machine.specs.Machine.{Follows, turn_of, end_of};
+ghost use Rattle.kernel_machine.specs.Stepping.{TakesTurn};
 
-use crate::journal::Journal;
+use crate::acting::act;
+use crate::events::enter_events;
 use crate::run_end::RunEnd;
 use crate::running::MOST_TURNS;
 use crate::shown::Shown;
 use crate::turn::Turn;
-use device_model::{BLANK, CELLS, Event};
+use device_model::Event;
 use ia32_code::laws::canonical_is_none;
 use ia32_code::{Decoded, Inst, decode};
 use ia32_step::Cpu;
 use no_memory::NoMemory;
+use nucleus_calls::{Journal, Nucleus};
 use object_layout::areas::{CODE_START, STACKS_START};
 use stack_states::{FlagBits, StackState};
 use std::alloc::Global;
@@ -29,14 +35,9 @@ use tal_image::Image;
 use tal_types::ImageView;
 use typed_machine::Ending;
 use typed_safety::laws::{runs_are_typed, turns_keep_typing, well_typed_images_keep_typing};
-use word_machine::{Memory, STACK_WORDS, Step, advance};
-
-const EAX: usize = 0;
+use word_machine::STACK_WORDS;
 
 const ESP: usize = 4;
-
-/// The stack that runs, alone so far.
-const KERNEL: u32 = 0;
 
 /// ESP of stack 0 with its end word alone.
 const FIRST_ESP: u32 = STACKS_START + 4 * (STACK_WORDS as u32 - 1);
@@ -48,9 +49,10 @@ const FIRST_ESP: u32 = STACKS_START + 4 * (STACK_WORDS as u32 - 1);
 pub struct Machine {
     checked: Checked,
     events: Vec<Event>,
+    /// The index of the first event that has not come.
+    next_event: usize,
     cpu: Cpu,
-    memory: Memory,
-    cells: Vec<u16>,
+    nucleus: Nucleus,
     turns: u32,
     ending: Option<Ending>,
 }
@@ -61,9 +63,9 @@ impl Model for Machine {
 
     ghost Value = { MachineView };
 
-    ghost view = { λ m. viewed m.checked.image m.events.items m.cpu m.memory m.cells.items m.turns m.ending };
+    ghost view = { λ m. viewed m.checked.image m.events.items m.cpu m.nucleus m.turns m.ending };
 
-    ghost invariant = { λ m. Lawful (viewed m.checked.image m.events.items m.cpu m.memory m.cells.items m.turns m.ending) };
+    ghost invariant = { λ m. Lawful (viewed m.checked.image m.events.items m.cpu m.nucleus m.turns m.ending) m.next_event };
 }
 
 // Where stack 0 begins.
@@ -95,19 +97,6 @@ fn inst_in(image: &Image, pc: u32) -> (Inst, u8)
     }
 }
 
-// The end that an instruction of stack 0 came to, with this number in EAX.
-fn ending_by(step: Step, eax: u32) -> Option<Ending>
-    requires { CalledNone step }
-    ensures { result ≡ ending_by step eax }
-{
-    match step {
-        Step::Moves => None,
-        Step::Faults(vector) => Some(Ending::KernelFault(vector)),
-        Step::Calls(_) => unreachable!(),
-        Step::Ends => Some(Ending::Halted(eax)),
-    }
-}
-
 // What a turn answers after which there is this end.
 fn turn_of(ending: Option<Ending>) -> Turn
     ensures { result ≡ turn_of ending }
@@ -122,8 +111,8 @@ fn turn_of(ending: Option<Ending>) -> Turn
 impl Machine {
     /// A machine before its first turn: stack 0 runs at its function, with all registers 0 and all flags clear.
     ///
-    /// The events' turns are 1 to [`crate::MOST_TURNS`] and do not fall, and the image's code calls no entry of the Nucleus, for
-    /// which [`crate::first_unbuilt_call`] is the test. After `NoMemory` the image and the events are given up.
+    /// The events' turns are 1 to [`crate::MOST_TURNS`] and do not fall, and the image's code calls no entry of the heap, for which
+    /// [`crate::first_unbuilt_call`] is the test. After `NoMemory` the image and the events are given up.
     pub fn new(alloc: Global, checked: Checked, events: Vec<Event>) -> Result<Machine, NoMemory>
         requires ordered { InOrder events.items }
         requires built { IsBuilt checked.image }
@@ -136,8 +125,7 @@ impl Machine {
         runs_are_typed();
         let image = checked.image();
         let pc = entry_place(image);
-        let memory = Memory::new(alloc, image)?;
-        let cells = vec![in alloc; BLANK; CELLS]?;
+        let nucleus = Nucleus::new(alloc, image)?;
         let flags = FlagBits {
             carry: false,
             zero: false,
@@ -152,17 +140,18 @@ impl Machine {
         Ok(Machine {
             checked,
             events,
+            next_event: 0,
             cpu,
-            memory,
-            cells,
+            nucleus,
             turns: 0,
             ending: None,
         })
     }
 
-    /// One turn. On a machine that has ended it changes nothing and answers the end again.
+    /// One turn: its events enter the devices; then an interrupt of the running application is accepted, or the instruction at
+    /// the running place has its effect. On a machine that has ended it changes nothing and answers the end again.
     ///
-    /// It takes no memory, and always succeeds.
+    /// It takes no memory, and always succeeds. The journal gains the turn's entry, if it has one.
     pub fn turn(&mut self, journal: &mut Journal) -> Turn
         requires room { 1 ≤ journal.old.spare }
         requires turns { self.old.turns < MOST_TURNS }
@@ -171,14 +160,15 @@ impl Machine {
         ensures events { self.new.events ≡ self.old.events }
         ensures more { self.old.ending ≡ None → self.new.turns ≡ self.old.turns + 1 }
         ensures ended { IsSome self.old.ending → self.new ≡ self.old }
-
-        // No instruction makes an entry yet.
-        ensures journal { journal.new ≡ journal.old }
+        ensures entries { (entry : Option Entry) × (journal.new.entries ≡ journal.old.entries ++ option_to_list entry) }
+        ensures spare { journal.old.spare ≤ journal.new.spare + 1 }
+        ensures idle { IsSome self.old.ending → journal.new ≡ journal.old }
         ensures answer { result ≡ turn_of self.new.ending }
     {
         runs_are_typed();
+        turns_keep_typing();
         if !self.has_ended() {
-            self.step();
+            self.step(journal);
         }
         turn_of(self.ending)
     }
@@ -209,20 +199,26 @@ impl Machine {
         }
     }
 
-    // One instruction of a machine that has not ended.
-    fn step(&mut self)
+    // A turn of a machine that has not ended.
+    fn step(&mut self, journal: &mut Journal)
         requires on { self.old.ending ≡ None }
         requires turns { self.old.turns < MOST_TURNS }
-        ensures { TakesTurn self.old self.new }
+        requires room { 1 ≤ journal.old.spare }
+        ensures takes { TakesTurn self.old self.new journal.old.entries journal.new.entries }
+        ensures spare { journal.old.spare ≤ journal.new.spare + 1 }
     {
         // In an accepted image an instruction stands at the place, and it is well typed.
         accepted_runs();
         well_typed_images_keep_typing();
         turns_keep_typing();
+        let turn = self.turns + 1;
+        self.turns = turn;
+        self.next_event = enter_events(&mut self.nucleus, &self.events, self.next_event, turn);
+        if self.nucleus.accept(turn, &mut self.cpu, journal) {
+            return;
+        }
         let (inst, len) = inst_in(self.checked.image(), self.cpu.pc);
-        self.turns += 1;
-        let step = advance(&mut self.cpu, &mut self.memory, KERNEL, &inst, len);
-        self.ending = ending_by(step, self.cpu.regs[EAX]);
+        self.ending = act(&mut self.nucleus, &mut self.cpu, turn, &inst, len, journal);
     }
 
     // Whether there is an end.
@@ -230,6 +226,19 @@ impl Machine {
         ensures { result ≡ is_some self.now.ending }
     {
         self.ending.is_some()
+    }
+}
+
+// ESP of a stack that does this.
+fn esp_of(cpu: &Cpu, stack: u32, state: StackState) -> u32
+    requires { stack < 64 }
+    ensures { result ≡ esp_by cpu.now stack state }
+{
+    match state {
+        StackState::Empty => STACKS_START + 4 * STACK_WORDS as u32 * (stack + 1),
+        StackState::Running => cpu.regs[ESP],
+        StackState::Yielded { sp, .. } => sp,
+        StackState::Interrupted { regs, .. } => regs[ESP],
     }
 }
 
@@ -251,34 +260,28 @@ impl Shown for Machine {
     }
 
     fn stacks(&self) -> u32 {
-        self.checked.image().stacks()
+        self.nucleus.stacks().count()
     }
 
     fn state(&self, stack: u32) -> StackState {
-        // The machine's invariant, for the proof, is known once it is looked into.
-        let _checked = &self.checked;
-        if stack == KERNEL {
-            StackState::Running
-        } else {
-            StackState::Empty
-        }
+        self.nucleus.stacks().state(stack).unwrap()
     }
 
     fn stack_words(&self, stack: u32) -> &[u32] {
-        if stack == KERNEL {
-            self.memory.stack_words(KERNEL, self.cpu.regs[ESP])
-        } else {
-            &[]
-        }
+        // There are no more than 64.
+        let _count = self.nucleus.stacks().count();
+        let state = self.nucleus.stacks().state(stack).unwrap();
+        self.nucleus
+            .stack_words(stack, esp_of(&self.cpu, stack, state))
     }
 
     fn statics(&self) -> &[u32] {
         let image = self.checked.image();
         image.formed();
-        self.memory.statics(image.statics().len() as u32)
+        self.nucleus.statics(image.statics().len() as u32)
     }
 
-    fn cells(&self) -> &[u16] {
-        &self.cells
+    fn cell(&self, position: u32) -> u16 {
+        self.nucleus.devices().cell(position).unwrap()
     }
 }

@@ -1,7 +1,8 @@
 // A case is played: the top call over files and sinks in memory.
 use crate::case::Case;
-use kernel_machine::{Journal, Machine};
+use kernel_machine::Machine;
 use no_memory::NoMemory;
+use nucleus_calls::Journal;
 use outside::{FailingFiles, FailingSink, FileRoom, Files};
 use std::alloc::{AllocError, Global};
 use verve_tool::verve;

@@ -1,8 +1,8 @@
 // The program: the top call over real files and the standard streams. Its exit status is the number of the call's status.
 #![tactic(auto)]
 
-use kernel_machine::Journal;
 use no_memory::NoMemory;
+use nucleus_calls::Journal;
 use outside::{Sink, StreamSink, SystemFiles};
 use std::alloc::Global;
 use std::process::ExitCode;

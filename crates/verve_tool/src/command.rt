@@ -19,7 +19,8 @@ use crate::runs::act_run;
 use crate::status::Status;
 use crate::stop::Stop;
 use crate::words::{Command, read_words};
-use kernel_machine::{Journal, Machine};
+use kernel_machine::Machine;
+use nucleus_calls::Journal;
 use outside::{Files, Sink};
 use std::alloc::Global;
 

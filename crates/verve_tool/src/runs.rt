@@ -11,7 +11,8 @@ use crate::status::Status;
 use crate::stop::Stop;
 use crate::words::RunCommand;
 use kernel_machine::laws::machines_show_their_runs;
-use kernel_machine::{Journal, MOST_TURNS, Machine, RunEnd, report, run as run_machine};
+use kernel_machine::{MOST_TURNS, Machine, RunEnd, report, run as run_machine};
+use nucleus_calls::Journal;
 use outside::{Files, Sink};
 use std::alloc::Global;
 

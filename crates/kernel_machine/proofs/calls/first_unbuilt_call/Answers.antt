@@ -9,16 +9,16 @@ pub loop-inst-init : goal.loop-inst-init
 unfolding instructions
 loop-inst-init c = rw c.code-rest.ensures.whole (record { low = omega arith; size = omega arith; short = rw c.code-rest.ensures.whole at c.code-rest.ensures.short; later = refl })
 
-pub returns-then-calls_entry-clause-first : goal.returns-then-calls_entry-clause-first
+pub returns-then-calls_heap-clause-first : goal.returns-then-calls_heap-clause-first
 unfolding first_unbuilt_call
-returns-then-calls_entry-clause-first c =
+returns-then-calls_heap-clause-first c =
     let a = c.in-One.ensures.answers in
     call-found c.loop-inst.pc c.in-One.len c.loop-inst.rest.now c.args.image.now.code c.in-One.inst (sym c.in-One.ensures.one) a.0 a.1
     (omega (arith, a.1, c.loop-inst.invariant.size, c.loop-inst.invariant.short)) c.loop-inst.invariant.later
-    (rw (← c.from.ensures) (sym c.calls_entry.ensures ∙ c.if-calls_entry.true))
+    (rw (← c.from.ensures) (sym c.calls_heap.ensures ∙ c.if-calls_heap.true))
 
-pub returns-then-calls_entry-clause-inside : goal.returns-then-calls_entry-clause-inside
-returns-then-calls_entry-clause-inside c =
+pub returns-then-calls_heap-clause-inside : goal.returns-then-calls_heap-clause-inside
+returns-then-calls_heap-clause-inside c =
     let a = c.in-One.ensures.answers in
     omega (arith, a.0, a.1, c.loop-inst.invariant.low, c.loop-inst.invariant.size)
 
@@ -32,7 +32,7 @@ loop-inst-preserved c =
       later = rw (c.from.ensures, c.split_at.ensures.back)
           (call-passed c.loop-inst.pc c.in-One.len c.loop-inst.rest.now c.args.image.now.code c.in-One.inst (sym c.in-One.ensures.one) a.0 a.1
           (omega (arith, a.1, c.loop-inst.invariant.size, c.loop-inst.invariant.short)) c.loop-inst.invariant.later
-          (rw (← c.from.ensures) (sym c.calls_entry.ensures ∙ c.if-calls_entry.false)));
+          (rw (← c.from.ensures) (sym c.calls_heap.ensures ∙ c.if-calls_heap.false)));
     }
 
 pub returns-clause-first : goal.returns-clause-first

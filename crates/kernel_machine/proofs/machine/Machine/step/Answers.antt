@@ -1,34 +1,48 @@
 use Rattle.std.proofs.Common.{refl, ap, ◌∙◌}
-use Rattle.kernel_machine.proofs.Turning.{inst-here, at-inst, may-run, called-none, takes-turn, turn-lawful}
+use Rattle.kernel_machine.proofs.Turning.{inst-here, begun-turn, may-act, accept-takes, act-takes, turn-lawful}
 use Rattle.kernel_machine.proofs.machine.Machine.step.Goals as goal
 
-pub inst_in-inst-requires-clause-low : goal.inst_in-inst-requires-clause-low
-inst_in-inst-requires-clause-low c = (inst-here c.well_typed_images_keep_typing.ensures c.accepted_runs.ensures _ c.self.invariant).low
-
-pub inst_in-inst-requires-clause-inside : goal.inst_in-inst-requires-clause-inside
-inst_in-inst-requires-clause-inside c = rw c.image.ensures.value (inst-here c.well_typed_images_keep_typing.ensures c.accepted_runs.ensures _ c.self.invariant).inside
-
-pub inst_in-inst-requires-clause-whole : goal.inst_in-inst-requires-clause-whole
-inst_in-inst-requires-clause-whole c = rw c.image.ensures.value (inst-here c.well_typed_images_keep_typing.ensures c.accepted_runs.ensures _ c.self.invariant).whole
-
-pub advance-step-requires-clause-runs : goal.advance-step-requires-clause-runs
-advance-step-requires-clause-runs c =
-    may-run (at-inst c.well_typed_images_keep_typing.ensures c.accepted_runs.ensures c.self.invariant (ap (λ v. v.ending) c.self.view_is ∙ c.requires.on)
-    (rw c.image.ensures.value at c.inst_in-inst.ensures.here))
-
-pub ending_by-self-inside-requires : goal.ending_by-self-inside-requires
-ending_by-self-inside-requires c =
-    called-none (at-inst c.well_typed_images_keep_typing.ensures c.accepted_runs.ensures c.self.invariant (ap (λ v. v.ending) c.self.view_is ∙ c.requires.on)
-    (rw c.image.ensures.value at c.inst_in-inst.ensures.here)) _ _ _ c.advance-step.ensures
+pub returns-then-accept-clause-takes : goal.returns-then-accept-clause-takes
+returns-then-accept-clause-takes c =
+    let begun = begun-turn c.self.invariant (ap (λ v. v.ending) c.self.view_is ∙ c.requires.on) (rw c.deref.ensures.value at c.enter_events-self-inside.ensures.come) in
+    rw (← c.self.view_is) (accept-takes begun c.if-accept.ensures.grants _ _ _ _ c.if-accept.ensures.turn)
 
 pub invariant_of-self : goal.invariant_of-self
 invariant_of-self c =
-    rw c.ending_by-self-inside.ensures (turn-lawful c.turns_keep_typing.ensures _ _ c.self.invariant
-    (takes-turn (at-inst c.well_typed_images_keep_typing.ensures c.accepted_runs.ensures c.self.invariant (ap (λ v. v.ending) c.self.view_is ∙ c.requires.on)
-    (rw c.image.ensures.value at c.inst_in-inst.ensures.here)) _ _ _ c.advance-step.ensures) refl)
+    let begun = begun-turn c.self.invariant (ap (λ v. v.ending) c.self.view_is ∙ c.requires.on) (rw c.deref.ensures.value at c.enter_events-self-inside.ensures.come) in
+    turn-lawful c.turns_keep_typing.ensures _ _ _ _ _ _ c.self.invariant (accept-takes begun c.if-accept.ensures.grants _ _ _ _ c.if-accept.ensures.turn)
+    (rw c.deref.ensures.value at c.enter_events-self-inside.ensures.next)
 
-pub returns : goal.returns
-returns c =
-    rw (← c.self.view_is, c.ending_by-self-inside.ensures)
-    (takes-turn (at-inst c.well_typed_images_keep_typing.ensures c.accepted_runs.ensures c.self.invariant (ap (λ v. v.ending) c.self.view_is ∙ c.requires.on)
-    (rw c.image.ensures.value at c.inst_in-inst.ensures.here)) _ _ _ c.advance-step.ensures)
+pub inst_in-inst-requires-clause-low : goal.inst_in-inst-requires-clause-low
+inst_in-inst-requires-clause-low c =
+    rw (c.if-accept.ensures.none refl).1 (inst-here c.well_typed_images_keep_typing.ensures c.accepted_runs.ensures _ _ c.self.invariant).low
+
+pub inst_in-inst-requires-clause-inside : goal.inst_in-inst-requires-clause-inside
+inst_in-inst-requires-clause-inside c =
+    rw ((c.if-accept.ensures.none refl).1, c.image.ensures.value) (inst-here c.well_typed_images_keep_typing.ensures c.accepted_runs.ensures _ _ c.self.invariant).inside
+
+pub inst_in-inst-requires-clause-whole : goal.inst_in-inst-requires-clause-whole
+inst_in-inst-requires-clause-whole c =
+    rw ((c.if-accept.ensures.none refl).1, c.image.ensures.value) (inst-here c.well_typed_images_keep_typing.ensures c.accepted_runs.ensures _ _ c.self.invariant).whole
+
+pub act-self-inside-requires-clause-acts : goal.act-self-inside-requires-clause-acts
+act-self-inside-requires-clause-acts c =
+    let begun = begun-turn c.self.invariant (ap (λ v. v.ending) c.self.view_is ∙ c.requires.on) (rw c.deref.ensures.value at c.enter_events-self-inside.ensures.come) in
+    let none = c.if-accept.ensures.none refl in
+    rw (none.0, none.1) (may-act begun _ _ (rw (none.1, c.image.ensures.value) at c.inst_in-inst.ensures.here))
+
+pub returns-clause-takes : goal.returns-clause-takes
+returns-clause-takes c =
+    let begun = begun-turn c.self.invariant (ap (λ v. v.ending) c.self.view_is ∙ c.requires.on) (rw c.deref.ensures.value at c.enter_events-self-inside.ensures.come) in
+    let none = c.if-accept.ensures.none refl in
+    rw (← c.self.view_is) (act-takes begun c.if-accept.ensures.grants _ _ (rw (none.1, c.image.ensures.value) at c.inst_in-inst.ensures.here) _ _ _ _ _
+    (rw (none.0, none.1, none.2) at c.act-self-inside.ensures.turn))
+
+pub invariant_of-self-2 : goal.invariant_of-self-2
+invariant_of-self-2 c =
+    let begun = begun-turn c.self.invariant (ap (λ v. v.ending) c.self.view_is ∙ c.requires.on) (rw c.deref.ensures.value at c.enter_events-self-inside.ensures.come) in
+    let none = c.if-accept.ensures.none refl in
+    turn-lawful c.turns_keep_typing.ensures _ _ _ _ _ _ c.self.invariant
+    (act-takes begun c.if-accept.ensures.grants _ _ (rw (none.1, c.image.ensures.value) at c.inst_in-inst.ensures.here) _ _ _ _ _
+    (rw (none.0, none.1, none.2) at c.act-self-inside.ensures.turn))
+    (rw c.deref.ensures.value at c.enter_events-self-inside.ensures.next)

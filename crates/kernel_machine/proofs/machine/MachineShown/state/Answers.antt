@@ -1,10 +1,12 @@
-use Rattle.std.proofs.Common.{sym, ap, arith}
+use Rattle.std.proofs.Common.{sym, ap, ◌∙◌}
 use Rattle.kernel_machine.specs.Shown.{ShownStack}
-use Rattle.kernel_machine.proofs.Showing.{first-shown, other-shown}
+use Rattle.kernel_machine.proofs.Showing.{stack-inside, stack-shown}
 use Rattle.kernel_machine.proofs.machine.MachineShown.state.Goals as goal
 
-pub returns-then-stack-eq-KERNEL : goal.returns-then-stack-eq-KERNEL
-returns-then-stack-eq-KERNEL c = λ t. rw (← c.self.view_is) (λ e. sym (ap (λ (x : ShownStack). x.state) (first-shown _ _ _ _ t (omega (arith, c.if-stack-eq-KERNEL.true)) e)))
+pub unwrap-requires : goal.unwrap-requires
+unwrap-requires c = c.state.ensures.exists.1 (rw c.stacks.ensures (stack-inside _ _ _ _ (rw (← c.self.view_is) at c.requires)))
 
-pub returns-else-stack-eq-KERNEL : goal.returns-else-stack-eq-KERNEL
-returns-else-stack-eq-KERNEL c = λ t. rw (← c.self.view_is) (λ e. sym (ap (λ (x : ShownStack). x.state) (other-shown _ _ _ _ t c.if-stack-eq-KERNEL.false e)))
+pub returns : goal.returns
+returns c = λ t. rw (← c.self.view_is) (λ e.
+    let here = rw c.stacks.ensures at (sym c.state.ensures.state ∙ c.unwrap.ensures) in
+    sym (ap (λ (x : ShownStack). x.state) (stack-shown _ _ _ _ c.unwrap.result t here e)))
