@@ -4,6 +4,7 @@ use kernel_machine::Machine;
 use no_memory::NoMemory;
 use nucleus_calls::Journal;
 use outside::{FailingFiles, FailingSink, FileRoom, Files};
+use stack_states::Entry;
 use std::alloc::{AllocError, Global};
 use verve_tool::verve;
 
@@ -19,8 +20,8 @@ pub struct Came {
     pub status: u8,
     /// How many turns the machine that is kept has taken, where one is kept.
     pub turns: Option<u32>,
-    /// How many entries the journal has.
-    pub entries: usize,
+    /// The entries of the journal.
+    pub entries: Vec<Entry>,
     /// How many reads, and how many calls of each sink, failed.
     pub read_faults: u64,
     pub out_faults: u64,
@@ -91,7 +92,7 @@ pub fn play(alloc: Global, case: &Case, command: &str) -> Result<Came, NoMemory>
     Ok(Came {
         status,
         turns: kept.as_ref().map(|machine| machine.turns_taken()),
-        entries: journal.entries().len(),
+        entries: journal.entries().to_vec(alloc)?,
         read_faults: files.read_faults(),
         out_faults: out.faults(),
         err_faults: err.faults(),

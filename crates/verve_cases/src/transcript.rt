@@ -1,5 +1,6 @@
 // What a command came to, as text.
 use crate::playing::Came;
+use stack_states::{Entry, EntryKind};
 use std::alloc::AllocError;
 
 // Adds a line that a sink took. One that stands there several times in a row is shown once, with how often. The bars show
@@ -39,7 +40,20 @@ fn show_lines(text: &mut String, name: &str, bytes: &[u8], most: usize) -> Resul
     Ok(())
 }
 
-/// Adds what a command came to: a line of numbers, and what the sinks took, of `out` so many lines at most.
+// Adds an entry of the journal: its turn, its stack, and what happened to it.
+fn show_entry(text: &mut String, entry: &Entry) -> Result<(), AllocError> {
+    write!(text, "  entry {} {} ", entry.turn, entry.stack)?;
+    match entry.kind {
+        EntryKind::Call(number) => write!(text, "call {number} {:08X}", entry.value)?,
+        EntryKind::Yield => write!(text, "yield {}", entry.value)?,
+        EntryKind::Interrupt => write!(text, "interrupt {}", entry.value)?,
+        EntryKind::Fault => write!(text, "fault {}", entry.value)?,
+        EntryKind::Ended => text.push_str("ended")?,
+    }
+    text.push('\n')
+}
+
+/// Adds what a command came to: a line of numbers, the journal, and what the sinks took, of `out` so many lines at most.
 pub fn show(text: &mut String, came: &Came, most: usize) -> Result<(), AllocError> {
     write!(text, "  status {}, ", came.status)?;
     match came.turns {
@@ -49,8 +63,14 @@ pub fn show(text: &mut String, came: &Came, most: usize) -> Result<(), AllocErro
     writeln!(
         text,
         ", entries {}, failed: read {}, out {}, err {}",
-        came.entries, came.read_faults, came.out_faults, came.err_faults
+        came.entries.len(),
+        came.read_faults,
+        came.out_faults,
+        came.err_faults
     )?;
+    for entry in &came.entries {
+        show_entry(text, entry)?;
+    }
     show_lines(text, "out", &came.out, most)?;
     show_lines(text, "err", &came.err, usize::MAX)
 }

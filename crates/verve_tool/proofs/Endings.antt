@@ -2,6 +2,7 @@
 use Rattle.std.specs.Prelude.{Option, Some, None, Result, Ok, Err, IsErrAnd}
 use Rattle.std.proofs.Common.{◌≡◌, ◌≤◌, ◌<◌, ℕ, List, [], inl, inr, refl, sym, ◌∙◌, ap, subst, arith}
 use Rattle.outside.specs.Sinks.{Gained, GainedFront}
+use Rattle.device_model.specs.declared.events.EventFault.TheVariants as event_fault
 use Rattle.tal_checker.specs.WellTyped.{WellTyped}
 use Rattle.file_fields.specs.declared.fault.ImageFault.TheVariants as fault
 use Rattle.kernel_machine.specs.Machine.{MachineView, shown_by, Follows, end_of}
@@ -12,7 +13,7 @@ use Rattle.kernel_machine.specs.declared.run_end.RunEnd.{RunEnd}
 use Rattle.kernel_machine.specs.declared.run_end.RunEnd.TheVariants as run_end
 use Rattle.stack_states.specs.declared.journal_entry.Entry.{Entry}
 use Rattle.verve_tool.specs.Commands.{RunWords, Request, Run, causes}
-use Rattle.verve_tool.specs.Causes.{Cause, Missing, Long, Malformed, IllTyped, Unbuilt, Eventful, status_of as status_of_cause}
+use Rattle.verve_tool.specs.Causes.{Cause, Missing, Long, Malformed, IllTyped, Unbuilt, BadEvents, status_of as status_of_cause}
 use Rattle.verve_tool.specs.Seen.{FilesSeen, SinkSeen, Call, OnlyReads, OnlyPuts, Leaves}
 use Rattle.verve_tool.specs.Runs.{IsOver, RanWithin, text_of, status_at}
 use Rattle.verve_tool.specs.Outcome.{Ends, Finished, Did, Written, PartWritten, Idle, MayHaveRun, Stopped}
@@ -73,7 +74,7 @@ never_wanting (Long name most) is = cc is
 never_wanting (Malformed name) is = cc is
 never_wanting (IllTyped name) is = cc is
 never_wanting (Unbuilt name) is = cc is
-never_wanting (Eventful name) is = cc is
+never_wanting (BadEvents name) is = cc is
 
 -- the first cause of a command stopped it
 stopped : (c : Call) (request : Request) (s : Stop) → Idle c → TellsFirst c.files.told (causes request) s → Stopped c request (status_of s) (line_of s)
@@ -95,7 +96,10 @@ ends_stopped c request (Image n (fault.Bad at condition)) idle left h = stopped 
 ends_stopped c request (LongFile n) idle left h = stopped c request _ idle h
 ends_stopped c request (Refused address rule) idle left h = stopped c request _ idle h
 ends_stopped c request (NucleusCall n at) idle left h = stopped c request _ idle h
-ends_stopped c request (Events n) idle left h = stopped c request _ idle h
+ends_stopped c request (Events event_fault.NoMemory) idle left h = absurd (never_wanting h.cause h.status)
+ends_stopped c request (Events (event_fault.Syntax line)) idle left h = stopped c request _ idle h
+ends_stopped c request (Events (event_fault.Range line)) idle left h = stopped c request _ idle h
+ends_stopped c request (Events (event_fault.TooMany line)) idle left h = stopped c request _ idle h
 
 -- the report of a machine is that of the run which it follows
 text_is : MachinesShowTheirRuns → (m : MachineView) → WellTyped m.image → (entries : List Entry) (f : Follows m entries)

@@ -14,7 +14,7 @@ use Rattle.verve_tool.specs.Seen.{Call}
 use Rattle.verve_tool.specs.Runs.{status_at}
 use Rattle.verve_tool.specs.Outcome.{Outcome, Ends, Finished, Did, PartWritten}
 use Rattle.verve_tool.specs.declared.status.Status.{Status}
-use Rattle.verve_tool.specs.declared.status.Status.TheVariants.{Done, Usage, ReadFault, WriteFault, Malformed, Refused, TooLong, KernelFault, NoMemory, NotBuilt}
+use Rattle.verve_tool.specs.declared.status.Status.TheVariants.{Done, Usage, ReadFault, WriteFault, Events, Malformed, Refused, TooLong, KernelFault, NoMemory, NotBuilt}
 
 -- equal lists of words have equal words
 same_words : (i j e f s t : List ℕ) → (codes "run" ∷ i ∷ e ∷ s ∷ []) ≡ (codes "run" ∷ j ∷ f ∷ t ∷ []) → (i ≡ j) × (e ≡ f) × (s ≡ t)
@@ -75,7 +75,7 @@ usage_status words c s line (inr asked) h = absurd (h asked.request asked.spelle
 
 -- the files of a command that did its work are such that it could
 did_serve : (c : Call) (request : Request) (s : Status) (text : List ℕ) → Did c request s text → Serves c.files.told request
-did_serve c (Run run) s text d = (d.0.machine.image, d.0.loaded)
+did_serve c (Run run) s text d = (d.0.machine.image, d.0.machine.events, d.0.loaded)
 did_serve c (Check name) s text d = (d.0, d.1)
 did_serve c (Listing name) s text d = (d.0, d.1)
 
@@ -115,6 +115,7 @@ ended c request WriteFault line e = worked (did_serve c request e.s e.text e.did
 ended c request ReadFault line e = unread refl e.fault
 ended c request NoMemory line e = short refl
 ended c request Usage line e = absurd e
+ended c request Events line e = stopped e.cause line e.first e.status
 ended c request Malformed line e = stopped e.cause line e.first e.status
 ended c request Refused line e = stopped e.cause line e.first e.status
 ended c request TooLong line e = stopped e.cause line e.first e.status

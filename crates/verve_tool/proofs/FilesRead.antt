@@ -2,6 +2,11 @@
 use Rattle.std.specs.Prelude.{Option, Some, None, IsSomeAnd, Result, Ok, Err, IfErr}
 use Rattle.std.proofs.Common.{◌≡◌, ◌≢◌, ◌⊎◌, ◌≤◌, ◌<◌, ℕ, ◌+◌, List, [], ◌∷◌, take, length, Bor, inl, inr, refl, sym, ◌∙◌, subst, arith}
 use Rattle.outside.specs.FileMaps.{FileMap, Gives}
+use Rattle.device_model.specs.EventFile.{IsFirstFault}
+use Rattle.device_model.specs.Laws.{ListOrFault}
+use Rattle.device_model.specs.declared.events.Event.{Event}
+use Rattle.device_model.specs.declared.events.EventFault.{EventFault}
+use Rattle.device_model.specs.declared.events.EventFault.TheVariants as event_fault
 use Rattle.tal_image.specs.Image.{ImageParts}
 use Rattle.tal_image.specs.Formed.{ImageOf}
 use Rattle.tal_image.specs.Laws.{OneMeaning}
@@ -12,15 +17,15 @@ use Rattle.tal_checker.specs.WellTyped.{WellTyped, FirstRefusal, OneRefusal}
 use Rattle.tal_checker.specs.declared.answer.CheckAnswer.{CheckAnswer}
 use Rattle.tal_checker.specs.declared.answer.CheckAnswer.TheVariants as answer
 use Rattle.kernel_machine.specs.Built.{first_unbuilt_call, IsBuilt}
-use Rattle.verve_tool.specs.Commands.{RunWords, Run, Check, Listing, causes, NothingStops}
-use Rattle.verve_tool.specs.Lines.{fault_line}
-use Rattle.verve_tool.specs.Causes.{Cause, Missing, Long, Malformed, IllTyped, Unbuilt, Eventful, Holds, Fails, NoneHolds, FileRead, HoldsImage, TypedImage, code_byte}
+use Rattle.verve_tool.specs.Commands.{RunWords, Run, Check, Listing, causes, HoldsEvents, NothingStops}
+use Rattle.verve_tool.specs.Lines.{fault_line, event_fault_line}
+use Rattle.verve_tool.specs.Causes.{Cause, Missing, Long, Malformed, IllTyped, Unbuilt, BadEvents, Holds, Fails, NoneHolds, FileRead, HoldsImage, TypedImage, code_byte}
 use Rattle.verve_tool.specs.Seen.{FilesSeen}
-use Rattle.verve_tool.specs.Stops.{StopsBy, StopsAt, stop_of_fault, stop_of_answer}
+use Rattle.verve_tool.specs.Stops.{StopsBy, StopsAt, stop_of_fault, stop_of_event_fault, stop_of_answer}
 use Rattle.verve_tool.proofs.CauseLists.{none_of_both, stops_more, stops_later, stops_by_bytes}
 use Rattle.verve_tool.specs.declared.load.TheConstants.{IMAGE_MOST, EVENTS_MOST}
 use Rattle.verve_tool.specs.declared.stop.Stop.{Stop}
-use Rattle.verve_tool.specs.declared.stop.Stop.TheVariants.{Image, NucleusCall, Events}
+use Rattle.verve_tool.specs.declared.stop.Stop.TheVariants.{Image, NucleusCall}
 
 -- a file has one front of a length
 one_front : (o : Option (List ℕ)) (n : ℕ) (a b : List ℕ) → IsSomeAnd o (λ whole. a ≡ take n whole) → IsSomeAnd o (λ whole. b ≡ take n whole) → a ≡ b
@@ -96,23 +101,24 @@ typed_stops_none meaning refusal told name image t =
 one-call : (first : Option ℕ) (offset : ℕ) → first ≡ None → first ≡ Some offset → ⊥
 one-call first offset none some = cc
 
--- an image that calls no entry of the Nucleus is built
+-- an image whose calls are built is not unbuilt
 pub not_unbuilt : OneMeaning → (told : Option FileMap) (name : List ℕ) (image : ImageParts) → TypedImage told name image → IsBuilt image
     → Fails told (Unbuilt name)
 not_unbuilt meaning None name image t built = tt
 not_unbuilt meaning (Some files) name image t built = λ line h. one-call (first_unbuilt_call image) h.1.offset built
     (subst (λ (i : ImageParts). first_unbuilt_call i ≡ Some h.1.offset) (same_image meaning files name h.1.image image h.1.typed.held t.held) h.1.first)
 
--- an event file that was read and is empty has no events
-pub not_eventful : (told : Option FileMap) (name : List ℕ) → FileRead told name EVENTS_MOST [] → Fails told (Eventful name)
-not_eventful None name f = tt
-not_eventful (Some files) name f = λ line h. h.0.some (gives_one files name EVENTS_MOST h.0.bytes [] h.0.file.read f.read)
+-- an event file for which a list stands has no fault
+pub not_bad_events : ListOrFault → (told : Option FileMap) (name : List ℕ) (events : List Event) → HoldsEvents told name events → Fails told (BadEvents name)
+not_bad_events either None name events held = tt
+not_bad_events either (Some files) name events held = λ line h. h.1.real (either held.bytes events h.0 held.list
+    (subst (λ (b : List ℕ). IsFirstFault b h.0) (gives_one files name EVENTS_MOST h.1.bytes held.bytes h.1.file.read held.file.read) h.1.first))
 
 -- nothing stops a command over files with which it does its work
-pub nothing_stops : OneMeaning → OneRefusal → NothingStops
-nothing_stops meaning refusal told (Run run) (image, l) =
+pub nothing_stops : OneMeaning → OneRefusal → ListOrFault → NothingStops
+nothing_stops meaning refusal either told (Run run) (image, events, l) =
     let image_file = read_stops_none told run.image IMAGE_MOST l.typed.held.bytes l.typed.held.file in
-    let event_file = read_stops_none told run.events EVENTS_MOST [] l.no_events in
+    let event_file = read_stops_none told run.events EVENTS_MOST l.recorded.bytes l.recorded.file in
     let typed = typed_stops_none meaning refusal told run.image image l.typed in (
       image_file.0,
       (
@@ -125,17 +131,17 @@ nothing_stops meaning refusal told (Run run) (image, l) =
               typed.0,
               (
                 typed.1.0,
-                (not_unbuilt meaning told run.image image l.typed l.built, (not_eventful told run.events l.no_events, tt)),
+                (not_unbuilt meaning told run.image image l.typed l.built, (not_bad_events either told run.events events l.recorded, tt)),
               ),
             ),
           ),
         ),
       ),
     )
-nothing_stops meaning refusal told (Check name) (image, t) =
+nothing_stops meaning refusal either told (Check name) (image, t) =
     let file = read_stops_none told name IMAGE_MOST t.held.bytes t.held.file in
     (file.0, (file.1.0, typed_stops_none meaning refusal told name image t))
-nothing_stops meaning refusal told (Listing name) (image, held) =
+nothing_stops meaning refusal either told (Listing name) (image, held) =
     let file = read_stops_none told name IMAGE_MOST held.bytes held.file in
     (file.0, (file.1.0, (not_malformed meaning told name image held, tt)))
 
@@ -179,23 +185,46 @@ answer_stops meaning told name image (answer.Refused address rule) held refused 
   status = refl;
 }
 
--- a call of the Nucleus stops a run
+-- a call of an entry that is not built stops a run
 pub call_stops : (told : Option FileMap) (name events : Bor (List ℕ)) (image : ImageParts) (offset at : ℕ) → TypedImage told name.now image
-    → first_unbuilt_call image ≡ Some offset → at ≡ code_byte image + offset → StopsBy told (Unbuilt name.now ∷ Eventful events.now ∷ []) (NucleusCall name at)
+    → first_unbuilt_call image ≡ Some offset → at ≡ code_byte image + offset → StopsBy told (Unbuilt name.now ∷ BadEvents events.now ∷ []) (NucleusCall name at)
 call_stops told name events image offset at typed first byte = record {
   cause = Unbuilt name.now;
   first = record { comes = inl refl; holds = (at, record { image = image; typed = typed; offset = offset; first = first; byte = byte }, refl) };
   status = refl;
 }
 
--- events stop a run
-pub events_stop : OneMeaning → (told : Option FileMap) (name events : Bor (List ℕ)) (image : ImageParts) (bytes : List ℕ) → TypedImage told name.now image
-    → IsBuilt image → FileRead told events.now EVENTS_MOST bytes → bytes ≢ [] → StopsBy told (Unbuilt name.now ∷ Eventful events.now ∷ []) (Events events)
-events_stop meaning told name events image bytes typed built file some = record {
-  cause = Eventful events.now;
+-- a fault of the event file is a cause of its bytes
+bad_events : (told : Option FileMap) (name : List ℕ) (bytes : List ℕ) (f : EventFault) → FileRead told name EVENTS_MOST bytes → f ≢ event_fault.NoMemory
+    → IsFirstFault bytes f → Holds told (BadEvents name) (event_fault_line f)
+bad_events told name bytes f file real first = (f, record { bytes = bytes; file = file; first = first; real = real }, refl)
+
+-- a fault of the event file stops a run
+pub event_fault_stops : OneMeaning → (told : Option FileMap) (name events : List ℕ) (image : ImageParts) (bytes : List ℕ) (f : EventFault)
+    → TypedImage told name image → IsBuilt image → FileRead told events EVENTS_MOST bytes → IsFirstFault bytes f
+    → StopsBy told (Unbuilt name ∷ BadEvents events ∷ []) (stop_of_event_fault f)
+event_fault_stops meaning told name events image bytes event_fault.NoMemory typed built file first = tt
+event_fault_stops meaning told name events image bytes (event_fault.Syntax line) typed built file first = record {
+  cause = BadEvents events;
   first = record {
-    comes = inr (not_unbuilt meaning told name.now image typed built, inl refl);
-    holds = (record { bytes = bytes; file = file; some = some }, refl);
+    comes = inr (not_unbuilt meaning told name image typed built, inl refl);
+    holds = bad_events told events bytes (event_fault.Syntax line) file (λ e. cc e) first;
+  };
+  status = refl;
+}
+event_fault_stops meaning told name events image bytes (event_fault.Range line) typed built file first = record {
+  cause = BadEvents events;
+  first = record {
+    comes = inr (not_unbuilt meaning told name image typed built, inl refl);
+    holds = bad_events told events bytes (event_fault.Range line) file (λ e. cc e) first;
+  };
+  status = refl;
+}
+event_fault_stops meaning told name events image bytes (event_fault.TooMany line) typed built file first = record {
+  cause = BadEvents events;
+  first = record {
+    comes = inr (not_unbuilt meaning told name image typed built, inl refl);
+    holds = bad_events told events bytes (event_fault.TooMany line) file (λ e. cc e) first;
   };
   status = refl;
 }
@@ -210,7 +239,7 @@ accept_stops_run before after run image_bytes event_bytes s image_file event_fil
     (read_stops_none before.told run.image IMAGE_MOST image_bytes image_file) (read_stops_none before.told run.events EVENTS_MOST event_bytes event_file) in
     stops_more before after
     (Missing run.image ∷ Long run.image IMAGE_MOST ∷ Missing run.events ∷ Long run.events EVENTS_MOST ∷ Malformed run.image ∷ IllTyped run.image ∷ [])
-    (Unbuilt run.image ∷ Eventful run.events ∷ []) s
+    (Unbuilt run.image ∷ BadEvents run.events ∷ []) s
     (stops_later before after (Missing run.image ∷ Long run.image IMAGE_MOST ∷ Missing run.events ∷ Long run.events EVENTS_MOST ∷ [])
     (Malformed run.image ∷ IllTyped run.image ∷ []) s none (stops_by_bytes before after (Malformed run.image ∷ IllTyped run.image ∷ []) s h))
 
@@ -219,7 +248,7 @@ pub form_stops_run : OneMeaning → OneRefusal → (before after : FilesSeen) (r
     → FileRead before.told run.image IMAGE_MOST image_bytes → FileRead before.told run.events EVENTS_MOST event_bytes
     → ImageOf image_bytes image → WellTyped image
     → (TypedImage before.told run.image image → FileRead before.told run.events EVENTS_MOST event_bytes
-    → StopsBy before.told (Unbuilt run.image ∷ Eventful run.events ∷ []) s) → StopsAt before after (causes (Run run)) s
+    → StopsBy before.told (Unbuilt run.image ∷ BadEvents run.events ∷ []) s) → StopsAt before after (causes (Run run)) s
 form_stops_run meaning refusal before after run image_bytes event_bytes image s image_file event_file stands well_typed h =
     let typed : TypedImage before.told run.image image =
     record { held = record { bytes = image_bytes; file = image_file; stands = stands }; well_typed = well_typed } in
@@ -231,4 +260,4 @@ form_stops_run meaning refusal before after run image_bytes event_bytes image s 
     (image_read.0, (image_read.1.0, (event_read.0, (event_read.1.0, both)))) in
     stops_later before after
     (Missing run.image ∷ Long run.image IMAGE_MOST ∷ Missing run.events ∷ Long run.events EVENTS_MOST ∷ Malformed run.image ∷ IllTyped run.image ∷ [])
-    (Unbuilt run.image ∷ Eventful run.events ∷ []) s none (stops_by_bytes before after (Unbuilt run.image ∷ Eventful run.events ∷ []) s (h typed event_file))
+    (Unbuilt run.image ∷ BadEvents run.events ∷ []) s none (stops_by_bytes before after (Unbuilt run.image ∷ BadEvents run.events ∷ []) s (h typed event_file))

@@ -2,6 +2,9 @@
 use Rattle.std.specs.Prelude.{◌≡◌, ◌≢◌, ◌⊎◌, ◌<◌, ◌≤◌, ℕ, ◌+◌, List, [], ◌∷◌, ◌++◌, length, Option, Some, None}
 use Rattle.std.specs.List.{flat_map}
 use Rattle.outside.specs.FileMaps.{FileMap, Gives, Lacks}
+use Rattle.device_model.specs.EventFile.{IsFirstFault}
+use Rattle.device_model.specs.declared.events.EventFault.{EventFault}
+use Rattle.device_model.specs.declared.events.EventFault.TheVariants as event_fault
 use Rattle.tal_image.specs.Image.{ImageParts, numbers, header, sig_bytes, function_bytes, class_bytes, kind_bytes, field_bytes, array_bytes}
 use Rattle.tal_image.specs.Formed.{ImageOf}
 use Rattle.tal_image.specs.Fields.{FirstFault}
@@ -9,7 +12,7 @@ use Rattle.file_fields.specs.declared.fault.ImageFault.{ImageFault}
 use Rattle.file_fields.specs.declared.fault.ImageFault.TheVariants.{NoMemory}
 use Rattle.tal_checker.specs.WellTyped.{WellTyped, FirstRefusal}
 use Rattle.kernel_machine.specs.Built.{first_unbuilt_call}
-use Rattle.verve_tool.specs.Lines.{read_line, long_line, fault_line, refused_line, not_built_line}
+use Rattle.verve_tool.specs.Lines.{read_line, long_line, fault_line, event_fault_line, refused_line, not_built_line}
 use Rattle.verve_tool.specs.declared.load.TheConstants.{IMAGE_MOST, EVENTS_MOST}
 use Rattle.verve_tool.specs.declared.status.Status.{Status}
 use Rattle.verve_tool.specs.declared.status.Status.TheVariants as status
@@ -24,10 +27,10 @@ pub data Cause : Type 0 where
   Malformed : List ℕ → Cause
   -- its image is not well typed
   IllTyped : List ℕ → Cause
-  -- its image calls an entry of the Nucleus, and no such call is built
+  -- its image calls an entry of the Nucleus that is not built
   Unbuilt : List ℕ → Cause
-  -- it has events, which are not built
-  Eventful : List ℕ → Cause
+  -- it is no event file
+  BadEvents : List ℕ → Cause
 
 -- the status by which a cause is told
 abbrev pub status_of : Cause → Status
@@ -36,7 +39,7 @@ status_of (Long name most) = status.TooLong
 status_of (Malformed name) = status.Malformed
 status_of (IllTyped name) = status.Refused
 status_of (Unbuilt name) = status.NotBuilt
-status_of (Eventful name) = status.NotBuilt
+status_of (BadEvents name) = status.Events
 
 -- a file was read, and has at most so many bytes
 pub record FileRead (told : Option FileMap) (name : List ℕ) (most : ℕ) (bytes : List ℕ) : Type 0 where
@@ -76,7 +79,7 @@ bytes_before_code i =
 unfoldable pub code_byte : ImageParts → ℕ
 code_byte i = length (bytes_before_code i)
 
--- a well typed image does, and at this byte of the file its first CALL of a Nucleus entry begins, so far behind the code's begin
+-- a well typed image does, and at this byte of the file its first CALL of an entry that is not built begins, so far behind the code's begin
 pub record IsUnbuilt (told : Option FileMap) (name : List ℕ) (at : ℕ) : Type 0 where
   pub image : ImageParts
   pub typed : TypedImage told name image
@@ -97,11 +100,12 @@ pub record HasFault (told : Option FileMap) (name : List ℕ) (fault : ImageFaul
   pub first : FirstFault bytes fault
   pub real : fault ≢ NoMemory
 
--- the file is not empty
-pub record HasEvents (told : Option FileMap) (name : List ℕ) : Type 0 where
+-- no list of events stands for the file, and this is its first fault
+pub record HasEventFault (told : Option FileMap) (name : List ℕ) (fault : EventFault) : Type 0 where
   pub bytes : List ℕ
   pub file : FileRead told name EVENTS_MOST bytes
-  pub some : bytes ≢ []
+  pub first : IsFirstFault bytes fault
+  pub real : fault ≢ event_fault.NoMemory
 
 -- The cause holds of the files, and this is its line. Of files that tell nothing it says that there are such bytes.
 abbrev pub Holds : Option FileMap → Cause → List ℕ → Type 0
@@ -110,7 +114,7 @@ Holds told (Long name most) line = IsLong told name most × (line ≡ long_line 
 Holds told (Malformed name) line = (fault : ImageFault) × HasFault told name fault × (line ≡ fault_line name fault)
 Holds told (IllTyped name) line = (address rule : ℕ) × IsIllTyped told name address rule × (line ≡ refused_line address rule)
 Holds told (Unbuilt name) line = (at : ℕ) × IsUnbuilt told name at × (line ≡ not_built_line name at)
-Holds told (Eventful name) line = HasEvents told name × (line ≡ not_built_line name 0)
+Holds told (BadEvents name) line = (fault : EventFault) × HasEventFault told name fault × (line ≡ event_fault_line fault)
 
 -- The cause does not hold. Of files that tell nothing nobody knows.
 abbrev pub Fails : Option FileMap → Cause → Type 0

@@ -2,10 +2,12 @@
 use Rattle.std.specs.Prelude.{◌≡◌, ◌≢◌, ◌≤◌, ◌⊎◌, ℕ, List, [], ◌∷◌, map, codes, decimal, String, string_bytes, Option}
 use Rattle.std.specs.declared.alloc.Global.{Global}
 use Rattle.outside.specs.FileMaps.{FileMap}
+use Rattle.device_model.specs.EventFile.{EventsOf}
+use Rattle.device_model.specs.declared.events.Event.{Event}
 use Rattle.tal_image.specs.Image.{ImageParts}
 use Rattle.kernel_machine.specs.Built.{IsBuilt}
 use Rattle.kernel_machine.specs.declared.running.TheConstants.{MOST_TURNS}
-use Rattle.verve_tool.specs.Causes.{Cause, Missing, Long, Malformed, IllTyped, Unbuilt, Eventful, FileRead, HoldsImage, TypedImage, NoneHolds}
+use Rattle.verve_tool.specs.Causes.{Cause, Missing, Long, Malformed, IllTyped, Unbuilt, BadEvents, FileRead, HoldsImage, TypedImage, NoneHolds}
 use Rattle.verve_tool.specs.declared.load.TheConstants.{IMAGE_MOST, EVENTS_MOST}
 use Rattle.verve_tool.specs.declared.status.Status.{Status}
 use Rattle.verve_tool.specs.declared.status.Status.TheVariants.{Done, KernelFault}
@@ -49,19 +51,25 @@ NoCommand words = (request : Request) → WordsOf words request → ⊥
 abbrev pub causes : Request → List Cause
 causes (Run run) =
     Missing run.image ∷ Long run.image IMAGE_MOST ∷ Missing run.events ∷ Long run.events EVENTS_MOST
-    ∷ Malformed run.image ∷ IllTyped run.image ∷ Unbuilt run.image ∷ Eventful run.events ∷ []
+    ∷ Malformed run.image ∷ IllTyped run.image ∷ Unbuilt run.image ∷ BadEvents run.events ∷ []
 causes (Check name) = Missing name ∷ Long name IMAGE_MOST ∷ Malformed name ∷ IllTyped name ∷ []
 causes (Listing name) = Missing name ∷ Long name IMAGE_MOST ∷ Malformed name ∷ []
 
--- the files of a run: a well typed image that calls no entry of the Nucleus, and no events
-pub record Loaded (told : Option FileMap) (run : RunWords) (image : ImageParts) : Type 0 where
+-- a list of events stands for the file
+pub record HoldsEvents (told : Option FileMap) (name : List ℕ) (events : List Event) : Type 0 where
+  pub bytes : List ℕ
+  pub file : FileRead told name EVENTS_MOST bytes
+  pub list : EventsOf bytes events
+
+-- the files of a run: a well typed image whose calls of the Nucleus are built, and a list of events
+pub record Loaded (told : Option FileMap) (run : RunWords) (image : ImageParts) (events : List Event) : Type 0 where
   pub typed : TypedImage told run.image image
   pub built : IsBuilt image
-  pub no_events : FileRead told run.events EVENTS_MOST []
+  pub recorded : HoldsEvents told run.events events
 
 -- the files are such that the command does its work
 abbrev pub Serves : Option FileMap → Request → Type 0
-Serves told (Run run) = (image : ImageParts) × Loaded told run image
+Serves told (Run run) = (image : ImageParts) × (events : List Event) × Loaded told run image events
 Serves told (Check name) = (image : ImageParts) × TypedImage told name image
 Serves told (Listing name) = (image : ImageParts) × HoldsImage told name image
 

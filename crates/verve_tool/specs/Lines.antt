@@ -2,6 +2,8 @@
 use Rattle.std.specs.Prelude.{◌≤◌, ℕ, List, ◌++◌, Option, codes, decimal}
 use Rattle.outside.specs.Faults.{Quiet}
 use Rattle.outside.specs.Sinks.{Gained, GainedFront}
+use Rattle.device_model.specs.declared.events.EventFault.{EventFault}
+use Rattle.device_model.specs.declared.events.EventFault.TheVariants as event_fault
 use Rattle.kernel_machine.specs.Report.{word_text}
 use Rattle.file_fields.specs.declared.fault.ImageFault.{ImageFault}
 use Rattle.file_fields.specs.declared.fault.ImageFault.TheVariants as fault
@@ -50,6 +52,17 @@ fault_line name (fault.Short at) = file_line name at (codes " short\n")
 fault_line name (fault.Rest at) = file_line name at (codes " rest\n")
 fault_line name (fault.Bad at condition) = bad_line name at condition
 fault_line name fault.NoMemory = no_memory_line
+
+-- a line of the event file, and what is wrong with it
+abbrev pub events_line : ℕ → List ℕ → List ℕ
+events_line number what = codes "events line " ++ decimal number ++ what
+
+-- the line of an event file's first fault
+abbrev pub event_fault_line : EventFault → List ℕ
+event_fault_line (event_fault.Syntax number) = events_line number (codes " syntax\n")
+event_fault_line (event_fault.Range number) = events_line number (codes " range\n")
+event_fault_line (event_fault.TooMany number) = events_line number (codes " many\n")
+event_fault_line event_fault.NoMemory = no_memory_line
 
 -- the first address at which a rule fails, and the least rule failing there
 abbrev pub refused_line : ℕ → ℕ → List ℕ

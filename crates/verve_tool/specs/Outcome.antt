@@ -13,7 +13,7 @@ use Rattle.verve_tool.specs.Seen.{Call}
 use Rattle.kernel_machine.specs.Machine.{end_of}
 use Rattle.verve_tool.specs.Runs.{RanWithin, IsOver, typed_run, text_of, status_at}
 use Rattle.verve_tool.specs.declared.status.Status.{Status}
-use Rattle.verve_tool.specs.declared.status.Status.TheVariants.{Done, Usage, ReadFault, WriteFault, Malformed, Refused, TooLong, KernelFault, NoMemory, NotBuilt}
+use Rattle.verve_tool.specs.declared.status.Status.TheVariants.{Done, Usage, ReadFault, WriteFault, Events, Malformed, Refused, TooLong, KernelFault, NoMemory, NotBuilt}
 
 -- no machine ran
 pub record Unrun (c : Call) : Type 0 where
@@ -115,6 +115,7 @@ exit_number Done = 0
 exit_number Usage = 1
 exit_number ReadFault = 2
 exit_number WriteFault = 3
+exit_number Events = 4
 exit_number Malformed = 5
 exit_number Refused = 6
 exit_number TooLong = 9

@@ -1,5 +1,5 @@
 -- What a run of a command did: the machine that is kept, the typed machine's run that it stands for, and its report.
-use Rattle.std.specs.Prelude.{◌≡◌, ◌≤◌, ◌⊎◌, ℕ, List, [], Some, IsSome}
+use Rattle.std.specs.Prelude.{◌≡◌, ◌≤◌, ◌⊎◌, ℕ, List, Some, IsSome}
 use Rattle.typed_machine.specs.Turns.{Run as RunView}
 use Rattle.kernel_machine.specs.Shown.{shown_of}
 use Rattle.kernel_machine.specs.Machine.{MachineView, Follows, end_of}
@@ -11,13 +11,13 @@ use Rattle.verve_tool.specs.declared.status.Status.TheVariants.{Done, KernelFaul
 use Rattle.verve_tool.specs.Commands.{RunWords, Loaded}
 use Rattle.verve_tool.specs.Seen.{Call}
 
--- The machine that is kept has run the image of the files, which is well typed and calls no entry of the Nucleus, without events
--- and for at most the turns that were asked for. The run is legal, the machine stands for its state, and its journal is the call's.
+-- The machine that is kept has run the image of the files, which is well typed and whose calls are built, over the events of the
+-- files and for at most the turns that were asked for. The run is legal, the machine stands for its state, and its journal is the
+-- call's.
 pub record RanWithin (c : Call) (run : RunWords) : Type 0 where
   pub machine : MachineView
   pub is : c.kept ≡ Some machine
-  pub loaded : Loaded c.files.told run machine.image
-  pub no_events : machine.events ≡ []
+  pub loaded : Loaded c.files.told run machine.image machine.events
   pub follows : Follows machine c.entries
   pub within : machine.turns ≤ run.turns
 

@@ -4,6 +4,8 @@ use Rattle.std.specs.Borrow.{Bor}
 use Rattle.outside.specs.FileMaps.{FileMap, Lacks}
 use Rattle.outside.specs.Faults.{Faulted}
 use Rattle.outside.specs.Sinks.{Gained, GainedFront}
+use Rattle.device_model.specs.declared.events.EventFault.{EventFault}
+use Rattle.device_model.specs.declared.events.EventFault.TheVariants as event_fault
 use Rattle.kernel_machine.specs.Machine.{MachineView, shown_by, end_of}
 use Rattle.kernel_machine.specs.Report.{ReportText}
 use Rattle.kernel_machine.specs.declared.run_end.RunEnd.{RunEnd}
@@ -12,7 +14,7 @@ use Rattle.file_fields.specs.declared.fault.ImageFault.TheVariants as fault
 use Rattle.tal_checker.specs.declared.answer.CheckAnswer.{CheckAnswer}
 use Rattle.tal_checker.specs.declared.answer.CheckAnswer.TheVariants as answer
 use Rattle.verve_tool.specs.Commands.{RunWords, Request, Run, Check, Listing}
-use Rattle.verve_tool.specs.Lines.{usage_line, read_line, write_line, long_line, no_memory_line, not_built_line, fault_line, refused_line}
+use Rattle.verve_tool.specs.Lines.{usage_line, read_line, write_line, long_line, no_memory_line, not_built_line, fault_line, event_fault_line, refused_line}
 use Rattle.verve_tool.specs.Causes.{Cause, Missing, ComesTo, IsFirst, status_of as status_of_cause}
 use Rattle.verve_tool.specs.Seen.{FilesSeen, SinkSeen, Call, Leaves}
 use Rattle.verve_tool.specs.Runs.{status_at}
@@ -40,6 +42,11 @@ abbrev pub fault_status : ImageFault → Status
 fault_status fault.NoMemory = status.NoMemory
 fault_status f = status.Malformed
 
+-- the status of an event file's fault
+abbrev pub event_fault_status : EventFault → Status
+event_fault_status event_fault.NoMemory = status.NoMemory
+event_fault_status f = status.Events
+
 -- the status of a command that stopped
 abbrev pub status_of : Stop → Status
 status_of Usage = status.Usage
@@ -49,7 +56,7 @@ status_of (Long name) = status.TooLong
 status_of (Image name f) = fault_status f
 status_of (Refused address rule) = status.Refused
 status_of (NucleusCall name at) = status.NotBuilt
-status_of (Events name) = status.NotBuilt
+status_of (Events f) = event_fault_status f
 status_of NoMemory = status.NoMemory
 
 -- its line on the error stream
@@ -61,13 +68,18 @@ line_of (Long name) = long_line name.now
 line_of (Image name f) = fault_line name.now f
 line_of (Refused address rule) = refused_line address rule
 line_of (NucleusCall name at) = not_built_line name.now at
-line_of (Events name) = not_built_line name.now 0
+line_of (Events f) = event_fault_line f
 line_of NoMemory = no_memory_line
 
 -- what stops a command whose image file has this fault
 abbrev pub stop_of_fault : Bor (List ℕ) → ImageFault → Stop
 stop_of_fault name fault.NoMemory = NoMemory
 stop_of_fault name f = Image name f
+
+-- what stops a run whose event file has this fault
+abbrev pub stop_of_event_fault : EventFault → Stop
+stop_of_event_fault event_fault.NoMemory = NoMemory
+stop_of_event_fault f = Events f
 
 -- what stops a command whose image is not accepted
 abbrev pub stop_of_answer : CheckAnswer → Stop

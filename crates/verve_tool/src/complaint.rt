@@ -1,12 +1,14 @@
 // What a stopped command tells on the error stream: one line, put in pieces, for which no memory is taken.
 ghost use Rattle.std.specs.Prelude.{◌≡◌, ◌<◌, [], ◌∷◌, ◌++◌};
 ghost use Rattle.std.specs.List.{flat_map};
+ghost use Rattle.device_model.specs.declared.events.EventFault.{EventFault};
 ghost use Rattle.kernel_machine.specs.Report.{word_text};
 ghost use Rattle.file_fields.specs.declared.fault.ImageFault.{ImageFault};
-ghost use Rattle.verve_tool.specs.Lines.{Says, file_line, bad_line, not_built_line, fault_line, refused_line};
+ghost use Rattle.verve_tool.specs.Lines.{Says, file_line, bad_line, not_built_line, fault_line, events_line, event_fault_line, refused_line};
 ghost use Rattle.verve_tool.specs.Stops.{line_of};
 
 use crate::stop::Stop;
+use device_model::EventFault;
 use itoa::Buffer;
 use kernel_machine::word_digits;
 use outside::Sink;
@@ -85,6 +87,25 @@ fn say_fault<E: Sink>(err: &mut E, name: &str, fault: ImageFault)
     }
 }
 
+fn say_events<E: Sink>(err: &mut E, line: u32, what: &[u8])
+    ensures { Says (E.faults err.old) (E.faults err.new) (E.told err.old) (E.told err.new) (events_line line what.now) }
+{
+    let mut number = Buffer::new();
+    let line = number.format(line);
+    say(err, &[b"events line ", line.as_bytes(), what]);
+}
+
+fn say_event_fault<E: Sink>(err: &mut E, fault: EventFault)
+    ensures { Says (E.faults err.old) (E.faults err.new) (E.told err.old) (E.told err.new) (event_fault_line fault) }
+{
+    match fault {
+        EventFault::Syntax { line } => say_events(err, line, b" syntax\n"),
+        EventFault::Range { line } => say_events(err, line, b" range\n"),
+        EventFault::TooMany { line } => say_events(err, line, b" many\n"),
+        EventFault::NoMemory => say(err, &[b"no memory\n"]),
+    }
+}
+
 fn say_refused<E: Sink>(err: &mut E, address: u32, rule: u8)
     ensures { Says (E.faults err.old) (E.faults err.new) (E.told err.old) (E.told err.new) (refused_line address rule) }
 {
@@ -114,7 +135,7 @@ pub(crate) fn complain<E: Sink>(err: &mut E, stop: &Stop<'_>)
         Stop::Image(name, fault) => say_fault(err, name, fault),
         Stop::Refused { address, rule } => say_refused(err, address, rule),
         Stop::NucleusCall { name, at } => say_not_built(err, name, at),
-        Stop::Events(name) => say_not_built(err, name, 0),
+        Stop::Events(fault) => say_event_fault(err, fault),
         Stop::NoMemory => say(err, &[b"no memory\n"]),
     }
 }

@@ -4,6 +4,7 @@ ghost use Rattle.outside.specs.FileMaps.{FileMap};
 ghost use Rattle.verve_tool.specs.Causes.{Cause, OneCause};
 ghost use Rattle.verve_tool.specs.Commands.{NothingStops};
 
+use device_model::laws::one_outcome;
 use tal_checker::laws::one_refusal;
 use tal_image::laws::one_meaning;
 
@@ -18,4 +19,5 @@ pub fn nothing_stops()
 {
     one_meaning();
     one_refusal();
+    one_outcome();
 }

@@ -1,17 +1,19 @@
 // The files of a command: read whole, each once, and then accepted or not.
-ghost use Rattle.std.specs.Prelude.{◌≡◌, ◌≤◌, length, ◌∷◌, [], Option, IfOk, IfErr, OnOk, IsErrAnd};
+ghost use Rattle.std.specs.Prelude.{◌≤◌, length, ◌∷◌, [], Option, IfOk, IfErr, OnOk, IsErrAnd};
 ghost use Rattle.outside.specs.FileMaps.{FileMap};
+ghost use Rattle.device_model.specs.EventFile.{EventsOf, InOrder};
 ghost use Rattle.tal_image.specs.Formed.{ImageOf};
 ghost use Rattle.tal_checker.specs.WellTyped.{WellTyped};
 ghost use Rattle.kernel_machine.specs.Built.{IsBuilt};
 ghost use Rattle.verve_tool.specs.Commands.{Run, Check, Listing, causes, Loaded};
-ghost use Rattle.verve_tool.specs.Causes.{Missing, Long, Malformed, IllTyped, Unbuilt, Eventful, FileRead, HoldsImage, TypedImage};
+ghost use Rattle.verve_tool.specs.Causes.{Missing, Long, Malformed, IllTyped, Unbuilt, BadEvents, FileRead, HoldsImage, TypedImage};
 ghost use Rattle.verve_tool.specs.Seen.{files_seen, OnlyReads};
 ghost use Rattle.verve_tool.specs.Stops.{StopsBy, StopsAt, IsUnread, run_of};
 
 use crate::code_place::code_byte;
 use crate::stop::Stop;
 use crate::words::RunCommand;
+use device_model::{Event, read_events};
 use kernel_machine::first_unbuilt_call;
 use outside::{Files, ReadAnswer};
 use std::alloc::Global;
@@ -76,20 +78,23 @@ fn accept<'a>(alloc: Global, name: &'a str, bytes: &[u8]) -> Result<Checked, Sto
     Ok(check(alloc, image)?)
 }
 
-// Whether an accepted image, which these bytes stand for, calls no entry of the Nucleus, and there are no events.
-fn runs<'a>(
+// The events of a run that the bytes of its event file record, where the calls of its accepted image are built.
+fn read_run_events<'a>(
+    alloc: Global,
     image: &Image,
     run: RunCommand<'a>,
     image_bytes: &[u8],
     event_bytes: &[u8],
-) -> Result<(), Stop<'a>>
+) -> Result<Vec<Event>, Stop<'a>>
     requires stands { ImageOf image_bytes.now image.now }
-    requires within { length image_bytes.now ≤ IMAGE_MOST }
+    requires image_within { length image_bytes.now ≤ IMAGE_MOST }
+    requires events_within { length event_bytes.now ≤ EVENTS_MOST }
     ensures built { OnOk result (IsBuilt image.now) }
-    ensures no_events { OnOk result (event_bytes.now ≡ []) }
+    ensures recorded { IfOk result (λ events. EventsOf event_bytes.now events.items) }
+    ensures in_order { IfOk result (λ events. InOrder events.items) }
     ensures stopped { (told : Option FileMap) → TypedImage told run.entry.image.now image.now
         → FileRead told run.entry.events.now EVENTS_MOST event_bytes.now
-        → IfErr result (λ s. StopsBy told (Unbuilt run.entry.image.now ∷ Eventful run.entry.events.now ∷ []) s) }
+        → IfErr result (λ s. StopsBy told (Unbuilt run.entry.image.now ∷ BadEvents run.entry.events.now ∷ []) s) }
 {
     one_meaning();
     if let Some(offset) = first_unbuilt_call(image) {
@@ -98,10 +103,7 @@ fn runs<'a>(
             at: code_byte(image, image_bytes) + offset,
         });
     }
-    if !event_bytes.is_empty() {
-        return Err(Stop::Events(run.events));
-    }
-    Ok(())
+    Ok(read_events(alloc, event_bytes)?)
 }
 
 // Reads the image's file, and the image that its bytes stand for.
@@ -141,8 +143,9 @@ pub(crate) fn load_run<'a, F: Files>(
     alloc: Global,
     files: &mut F,
     run: RunCommand<'a>,
-) -> Result<Checked, Stop<'a>>
-    ensures loaded { IfOk result (λ c. Loaded (F.told files.old) (run_of run.entry) c.image) }
+) -> Result<(Checked, Vec<Event>), Stop<'a>>
+    ensures loaded { IfOk result (λ l. Loaded (F.told files.old) (run_of run.entry) l.0.image l.1.items) }
+    ensures in_order { IfOk result (λ l. InOrder l.1.items) }
     ensures stopped { let seen = files_seen F.told F.steady F.read_faults F.write_faults in
         IfErr result (λ s. StopsAt (seen files.old) (seen files.new) (causes (Run (run_of run.entry))) s) }
     ensures reads { let seen = files_seen F.told F.steady F.read_faults F.write_faults in
@@ -153,6 +156,6 @@ pub(crate) fn load_run<'a, F: Files>(
     let image_bytes = read_file(alloc, files, run.image, IMAGE_MOST)?;
     let event_bytes = read_file(alloc, files, run.events, EVENTS_MOST)?;
     let checked = accept(alloc, run.image, &image_bytes)?;
-    runs(checked.image(), run, &image_bytes, &event_bytes)?;
-    Ok(checked)
+    let events = read_run_events(alloc, checked.image(), run, &image_bytes, &event_bytes)?;
+    Ok((checked, events))
 }

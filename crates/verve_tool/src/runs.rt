@@ -61,8 +61,8 @@ pub(crate) fn act_run<'a, F: Files, K: Sink>(
         files.old files.new out.old out.new journal.new.entries kept.new) result }
 {
     machines_show_their_runs();
-    let checked = load_run(alloc, files, run)?;
-    let mut machine = Machine::new(alloc, checked, Vec::new(alloc))?;
+    let (checked, events) = load_run(alloc, files, run)?;
+    let mut machine = Machine::new(alloc, checked, events)?;
     let end = run_machine(&mut machine, journal, run.turns);
     let told = tell(alloc, out, &machine, end);
     *kept = Some(machine);

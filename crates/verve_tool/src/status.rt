@@ -3,7 +3,7 @@ ghost use Rattle.std.specs.Prelude.{◌≡◌};
 ghost use Rattle.verve_tool.specs.Outcome.{exit_number};
 
 /// How a command ended. Of several causes the first in the command's list is told: the image file is read before the event
-/// file, and both before what they hold is looked at.
+/// file, both before what they hold is looked at, and the image is judged before the events.
 #[derive(Clone, Copy, Debug, PartialEq, Eq)]
 pub enum Status {
     /// The command did its work: the image is accepted, or the run was made and its report written.
@@ -14,6 +14,8 @@ pub enum Status {
     ReadFault,
     /// The work was done, and its text was not written whole.
     WriteFault,
+    /// No list of events stands for the event file.
+    Events,
     /// No image stands for the image file.
     Malformed,
     /// The image is not well typed.
@@ -24,7 +26,7 @@ pub enum Status {
     KernelFault,
     /// Memory was wanting; nothing was written.
     NoMemory,
-    /// The image of a run calls an entry of the Nucleus, or there are events; neither is built.
+    /// The image of a run calls an entry of the Nucleus that is not built.
     NotBuilt,
 }
 
@@ -38,6 +40,7 @@ impl Status {
             Status::Usage => 1,
             Status::ReadFault => 2,
             Status::WriteFault => 3,
+            Status::Events => 4,
             Status::Malformed => 5,
             Status::Refused => 6,
             Status::TooLong => 9,

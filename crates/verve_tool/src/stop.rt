@@ -3,6 +3,7 @@ ghost use Rattle.std.specs.Prelude.{◌≡◌};
 ghost use Rattle.verve_tool.specs.Stops.{status_of, stop_of_fault};
 
 use crate::status::Status;
+use device_model::EventFault;
 use no_memory::NoMemory;
 use outside::PutFailed;
 use tal_checker::CheckAnswer;
@@ -25,8 +26,8 @@ pub(crate) enum Stop<'a> {
     Refused { address: u32, rule: u8 },
     // The image of the file of this name has a CALL at this byte of the file, of an entry of the Nucleus that is not built.
     NucleusCall { name: &'a str, at: u32 },
-    // The file of this name has events, which are not built.
-    Events(&'a str),
+    // No list of events stands for the event file.
+    Events(EventFault),
     // Memory was wanting.
     NoMemory,
 }
@@ -52,10 +53,13 @@ impl Stop<'_> {
             Stop::Read(_) => Status::ReadFault,
             Stop::Write => Status::WriteFault,
             Stop::Long(_) => Status::TooLong,
-            Stop::Image(_, ImageFault::NoMemory) | Stop::NoMemory => Status::NoMemory,
+            Stop::Image(_, ImageFault::NoMemory)
+            | Stop::Events(EventFault::NoMemory)
+            | Stop::NoMemory => Status::NoMemory,
             Stop::Image(..) => Status::Malformed,
             Stop::Refused { .. } => Status::Refused,
-            Stop::NucleusCall { .. } | Stop::Events(_) => Status::NotBuilt,
+            Stop::NucleusCall { .. } => Status::NotBuilt,
+            Stop::Events(_) => Status::Events,
         }
     }
 }
@@ -79,6 +83,20 @@ impl From<PutFailed> for Stop<'_> {
 
     fn from(_failure: PutFailed) -> Self {
         Stop::Write
+    }
+}
+
+impl From<EventFault> for Stop<'_> {
+    ghost use Rattle.std.specs.Prelude.{◌≡◌};
+    ghost use Rattle.verve_tool.specs.Stops.{stop_of_event_fault};
+
+    ghost from_gives = { λ fault stop. stop ≡ stop_of_event_fault fault };
+
+    fn from(fault: EventFault) -> Self {
+        match fault {
+            EventFault::NoMemory => Stop::NoMemory,
+            _ => Stop::Events(fault),
+        }
     }
 }
 

@@ -14,18 +14,18 @@ returns-in_err-checked-clause-stopped g c =
     (rw c.in_ok-image_bytes.ensures.reads.told at c.in_ok-event_bytes.ensures.read)
     (c.in_err-checked.ensures.stopped _ (rw c.deref.ensures.value c.in_ok-image_bytes.ensures.read)))
 
-pub returns-in_err-runs-clause-stopped : goal.returns-in_err-runs-clause-stopped
-returns-in_err-runs-clause-stopped g c =
-    let p = err_from_is_err_and c.from_residual-in_err-runs.result c.from_residual-in_err-runs.ensures.1 in
+pub returns-in_err-events-clause-stopped : goal.returns-in_err-events-clause-stopped
+returns-in_err-events-clause-stopped g c =
+    let p = err_from_is_err_and c.from_residual-in_err-events.result c.from_residual-in_err-events.ensures.1 in
     let seen = files_seen g.F.Files.told g.F.Files.steady g.F.Files.read_faults g.F.Files.write_faults in
     rw (p.1, p.2) (form_stops_run c.one_meaning.ensures c.one_refusal.ensures (seen c.args.files.now) (seen c.read_file-2.new.files) (run_of c.args.run)
     c.deref.result.now c.deref-3.result.now c.image.result.now _ (rw c.deref.ensures.value c.in_ok-image_bytes.ensures.read)
     (rw (c.deref-3.ensures.value, ← c.in_ok-image_bytes.ensures.reads.told) c.in_ok-event_bytes.ensures.read)
     (rw c.image.ensures.value c.in_ok-checked.ensures.stands) (rw c.image.ensures.value c.in_ok-checked.ensures.well_typed)
-    (c.in_err-runs.ensures.stopped _))
+    (c.in_err-events.ensures.stopped _))
 
-pub returns-in_err-runs-clause-reads : goal.returns-in_err-runs-clause-reads
-returns-in_err-runs-clause-reads g c = reads_both _ _ _ _ c.in_ok-image_bytes.ensures.reads c.in_ok-event_bytes.ensures.reads
+pub returns-in_err-events-clause-reads : goal.returns-in_err-events-clause-reads
+returns-in_err-events-clause-reads g c = reads_both _ _ _ _ c.in_ok-image_bytes.ensures.reads c.in_ok-event_bytes.ensures.reads
 
 pub returns-clause-reads : goal.returns-clause-reads
 returns-clause-reads g c = reads_both _ _ _ _ c.in_ok-image_bytes.ensures.reads c.in_ok-event_bytes.ensures.reads

@@ -1,4 +1,4 @@
-use Rattle.std.proofs.Common.{refl, ◌∙◌, arith, inl}
+use Rattle.std.proofs.Common.{refl, arith, inl}
 use Rattle.std.proofs.lemmas.Result.{err_from_is_err_and}
 use Rattle.verve_tool.specs.Commands.{Run}
 use Rattle.verve_tool.specs.Stops.{run_of}
@@ -24,8 +24,8 @@ returns g c =
     acted_run c.machines_show_their_runs.ensures _ (run_of c.args.run) (record {
       machine = c.run-end.new.machine;
       is = refl;
-      loaded = rw (c.run-end.ensures.image, c.in_ok-machine.ensures.image) c.in_ok-checked.ensures.loaded;
-      no_events = c.run-end.ensures.events ∙ c.in_ok-machine.ensures.events ∙ c.new.ensures.items;
+      loaded = rw (c.run-end.ensures.image, c.in_ok-machine.ensures.image, c.run-end.ensures.events, c.in_ok-machine.ensures.events)
+          c.in_ok-checked.ensures.loaded;
       follows = c.run-end.ensures.follows (rw c.requires.clear c.in_ok-machine.ensures.follows);
       within = omega (arith, c.run-end.ensures.most, c.in_ok-machine.ensures.turns);
     }) c.run-end.result c.tell-told.result (λ h. omega (arith, (c.run-end.ensures.all.0 h).1, c.in_ok-machine.ensures.turns))
