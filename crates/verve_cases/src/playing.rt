@@ -72,26 +72,19 @@ fn call(
     verve(alloc, words, files, out, err, journal, kept).number()
 }
 
-/// Plays a command of a case.
-pub fn play(alloc: Global, case: &Case, command: &str) -> Result<Came, NoMemory> {
-    let words = split_words(alloc, command)?;
-    let mut files = make_files(alloc, case)?;
-    let mut out = FailingSink::new(alloc, OUT_ROOM, &case.failing_out)?;
-    let mut err = FailingSink::new(alloc, ERR_ROOM, &case.failing_err)?;
-    let mut journal = Journal::new(alloc);
-    let mut kept = None;
-    let status = call(
-        alloc,
-        &words,
-        &mut files,
-        &mut out,
-        &mut err,
-        &mut journal,
-        &mut kept,
-    );
+// What was told of a call, in buffers of its own.
+fn came_to(
+    alloc: Global,
+    status: u8,
+    turns: Option<u32>,
+    journal: &Journal,
+    files: &FailingFiles,
+    out: &FailingSink,
+    err: &FailingSink,
+) -> Result<Came, NoMemory> {
     Ok(Came {
         status,
-        turns: kept.as_ref().map(|machine| machine.turns_taken()),
+        turns,
         entries: journal.entries().to_vec(alloc)?,
         read_faults: files.read_faults(),
         out_faults: out.faults(),
@@ -99,4 +92,28 @@ pub fn play(alloc: Global, case: &Case, command: &str) -> Result<Came, NoMemory>
         out: out.bytes().to_vec(alloc)?,
         err: err.bytes().to_vec(alloc)?,
     })
+}
+
+// Plays words over files and sinks.
+fn play_over(
+    alloc: Global,
+    words: &[String],
+    files: &mut FailingFiles,
+    out: &mut FailingSink,
+    err: &mut FailingSink,
+) -> Result<Came, NoMemory> {
+    let mut journal = Journal::new(alloc);
+    let mut kept = None;
+    let status = call(alloc, words, files, out, err, &mut journal, &mut kept);
+    let turns = kept.as_ref().map(|machine| machine.turns_taken());
+    came_to(alloc, status, turns, &journal, files, out, err)
+}
+
+/// Plays a command of a case.
+pub fn play(alloc: Global, case: &Case, command: &str) -> Result<Came, NoMemory> {
+    let words = split_words(alloc, command)?;
+    let mut files = make_files(alloc, case)?;
+    let mut out = FailingSink::new(alloc, OUT_ROOM, &case.failing_out)?;
+    let mut err = FailingSink::new(alloc, ERR_ROOM, &case.failing_err)?;
+    play_over(alloc, &words, &mut files, &mut out, &mut err)
 }
