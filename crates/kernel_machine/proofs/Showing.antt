@@ -18,7 +18,7 @@ use Rattle.typed_machine.specs.Typing.{Typed}
 use Rattle.typed_machine.specs.Words.{upper_end, stack_pointer, esp_of}
 use Rattle.typed_safety.specs.Laws.{RunsAreTyped}
 use Rattle.word_machine.specs.Memory.{MemoryView, word_of, word_at, is_mapped}
-use Rattle.word_machine.specs.Standing.{kept_values, values_at, Holds, CpuStands, MemoryStands}
+use Rattle.word_machine.specs.Standing.{kept_values, values_at, HoldsValues, CpuStands, MemoryStands}
 use Rattle.nucleus_calls.specs.Nucleus.{state_by, states_by}
 use Rattle.kernel_machine.specs.Shown.{ShownStack, ShownWords, words_from, esp_by, stack_by, stacks_by, shown_stacks, shown_of}
 use Rattle.kernel_machine.specs.Machine.{MachineView, shown_by, Stands, Lawful}
@@ -46,7 +46,7 @@ words-are m a (suc n) (w ∷ ws) e each =
     (λ k low. let next : a + 4 * suc k ≡ a + 4 + 4 * k = omega arith in rw next at (each (suc k) (omega (arith, low)))))
 
 -- the words of values that stand from an address up
-pub words-of-values : (m : MemoryView) (places : List ℕ) (a : ℕ) (values : List Value) → Holds m places a values → words_from m a (length values) ≡ map (Word places) values
+pub words-of-values : (m : MemoryView) (places : List ℕ) (a : ℕ) (values : List Value) → HoldsValues m places a values → words_from m a (length values) ≡ map (Word places) values
 unfolding words_from
 words-of-values m places a [] h = refl
 words-of-values m places a (v ∷ vs) h =

@@ -13,7 +13,7 @@ use Rattle.tal_flow.specs.declared.calls.Arguments.{Arguments}
 use Rattle.tal_flow.specs.Forms.{address_at}
 use Rattle.tal_flow.specs.Calls.{nucleus_arguments, entry_number}
 use Rattle.tal_flow.specs.Rules.{next_address}
-use Rattle.tal_flow.specs.Strongest.{Placed, placed_at}
+use Rattle.tal_flow.specs.Strongest.{PlacedInst, placed_at}
 use Rattle.tal_image.specs.Image.{ImageParts}
 use Rattle.tal_checker.specs.Instructions.{placed_from, instructions}
 use Rattle.nucleus_calls.specs.Laws.{entry_called}
@@ -76,7 +76,7 @@ not-one Unknown h = refl
 -- ---- the entries that a built image calls
 
 -- an instruction of a list in which none calls an entry of the heap
-listed-calls-none : (xs : List Placed) (pc : ℕ) (x : Placed) → first_call xs ≡ None → placed_at xs pc ≡ Some x → calls_heap (next_address x.pc x.len) x.inst ≡ false
+listed-calls-none : (xs : List PlacedInst) (pc : ℕ) (x : PlacedInst) → first_call xs ≡ None → placed_at xs pc ≡ Some x → calls_heap (next_address x.pc x.len) x.inst ≡ false
 unfolding placed_at
 listed-calls-none [] pc x e h = absurd (cc)
 listed-calls-none (y ∷ ys) pc x e h = go (listed-calls-none ys pc x) (calls_heap (next_address y.pc y.len) y.inst) refl e (y.pc == pc) h
@@ -89,7 +89,7 @@ listed-calls-none (y ∷ ys) pc x e h = go (listed-calls-none ys pc x) (calls_he
     go later false f e false h = later e h
 
 -- so it is with each instruction of a built image
-pub built-calls-none : (image : ImageParts) (pc : ℕ) (x : Placed) → IsBuilt image → placed_at (instructions image.code) pc ≡ Some x
+pub built-calls-none : (image : ImageParts) (pc : ℕ) (x : PlacedInst) → IsBuilt image → placed_at (instructions image.code) pc ≡ Some x
     → calls_heap (next_address x.pc x.len) x.inst ≡ false
 unfolding first_unbuilt_call
 built-calls-none image pc x built here = listed-calls-none (instructions image.code) pc x built here

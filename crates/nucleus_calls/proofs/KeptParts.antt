@@ -16,7 +16,7 @@ use Rattle.ia32_code.specs.declared.instruction.Inst.TheVariants as inst
 use Rattle.ia32_step.specs.declared.effect.Effect.{Effect as StepEffect}
 use Rattle.ia32_step.specs.declared.effect.Effect.TheVariants as step
 use Rattle.ia32_step.specs.Operands.{WordState}
-use Rattle.ia32_step.specs.Effects.{done, effect_of}
+use Rattle.ia32_step.specs.Effects.{executed, effect_of}
 use Rattle.tal_types.specs.declared.types.FlagKind.{FlagKind}
 use Rattle.tal_types.specs.declared.signatures.Sig.{Sig}
 use Rattle.tal_types.specs.Contexts.{same}
@@ -140,7 +140,7 @@ computes-keep : (v : ShownImage) (s : State) (i : Inst) (len next : ℕ) (source
 unfolding computes
 computes-keep v s i len next sources d wide k =
     tested-keeps s (list_all (is_number v s) sources) _ (fault-keeps s (effect_of i (words_of s (word_among v s (d ∷ sources))) len) _
-    (result-keeps s next wide k (done i (words_of s (word_among v s (d ∷ sources)))) _ (operand-keeps v s d _)))
+    (result-keeps s next wide k (executed i (words_of s (word_among v s (d ∷ sources)))) _ (operand-keeps v s d _)))
 
 -- a value is moved
 moved-keeps : (s : State) (next : ℕ) (o : Option State) → StateKeeps s o → EffectKeeps s (option_map (goes_on next) o)

@@ -23,7 +23,7 @@ use Rattle.typed_machine.specs.Operands.{number_in}
 use Rattle.typed_machine.specs.Replies.{ReplyView, Replies, YieldsTo, Reply, is_stack, is_application, yield_to, state_number, get_stack_state, emptied, reset_stack, current_stack, happened, vga_text_write, code_taken, try_read_keyboard, count_items, start_timer, send_eoi}
 use Rattle.typed_machine.specs.Typing.{TypedAmong}
 use Rattle.typed_machine.specs.Words.{stack_pointer}
-use Rattle.word_machine.specs.Standing.{Holds, values_at, kept_values, ObjectsLie}
+use Rattle.word_machine.specs.Standing.{HoldsValues, values_at, kept_values, ObjectsLie}
 use Rattle.nucleus_calls.specs.Nucleus.{NucleusView, state_by, states_by, NucleusStands}
 use Rattle.nucleus_calls.specs.Calling.{number_of, yield_refusal, KeepsCaller, RepliesAt, AsksOf}
 use Rattle.nucleus_calls.proofs.Tables.{set-here, set-elsewhere, states-get, states-set, StackThere}
@@ -155,7 +155,7 @@ emptied-stands image live s v h n inside =
         statics = memory.statics;
         objects = memory.objects;
         stacks = λ k there.
-            values-emptied s n inside (λ xs. Holds v.memory (places_of s) (stack_pointer k (length xs)) xs) k (λ j w e. absurd (cc)) (memory.stacks k there);
+            values-emptied s n inside (λ xs. HoldsValues v.memory (places_of s) (stack_pointer k (length xs)) xs) k (λ j w e. absurd (cc)) (memory.stacks k there);
         room = memory.room;
         lie = lie;
       };

@@ -18,7 +18,7 @@ use Rattle.typed_machine.specs.Switches.{runs, handed_over, switched}
 use Rattle.typed_machine.specs.Typing.{TypedAmong}
 use Rattle.typed_machine.specs.Words.{stack_pointer, esp_of}
 use Rattle.word_machine.specs.Memory.{MemoryView, word_of}
-use Rattle.word_machine.specs.Standing.{Holds, kept_values, values_at, CpuStands, ObjectsLie, MemoryStands}
+use Rattle.word_machine.specs.Standing.{HoldsValues, kept_values, values_at, CpuStands, ObjectsLie, MemoryStands}
 use Rattle.word_machine.specs.Laws.{Written, EmptyStacksAreFree}
 use Rattle.nucleus_calls.specs.Nucleus.{NucleusView, state_by, states_by, NucleusStands}
 use Rattle.nucleus_calls.specs.Turning.{SameTurn}
@@ -90,7 +90,7 @@ module _ {image : ImageParts} {live : ℕ → Bool} {s : State} {v : NucleusView
 
     -- the Nucleus stands for the state after it, where the words of what goes on are there
     moved : current_of v.stacks ≡ s.current → (after : MemoryView) (thread : Thread) (values : List Value) → MemoryStands image live s after
-        → Holds after (places_of s) (stack_pointer to (length values)) values
+        → HoldsValues after (places_of s) (stack_pointer to (length values)) values
         → NucleusStands image live (next_state s left to thread values)
         (record { memory = after; stacks = table.handed_over v.stacks (state_by (places_of s) s.current left) to; starts = v.starts; devices = v.devices })
     moved current after thread values memory holds =
@@ -103,7 +103,7 @@ module _ {image : ImageParts} {live : ℕ → Bool} {s : State} {v : NucleusView
             statics = memory.statics;
             objects = memory.objects;
             stacks = λ n there.
-                values-switched (λ xs. Holds after (places_of s) (stack_pointer n (length xs)) xs) thread values n (λ is. rw is holds) (λ k w h. absurd (cc))
+                values-switched (λ xs. HoldsValues after (places_of s) (stack_pointer n (length xs)) xs) thread values n (λ is. rw is holds) (λ k w h. absurd (cc))
                 (memory.stacks n there);
             room = memory.room;
             lie = lie;
@@ -155,7 +155,7 @@ switch-stands law image live s v well_typed typed stands one to differs was wait
     kept stack here = let e : (to == s.current) ≡ false = grind (arith, nat_tests, other) in rw (e, here) refl
 
     holds : (stack : Stack) → slice_get s.stacks to ≡ Some stack
-        → Holds v.memory (places_of s) (stack_pointer to (length (kept_values stack))) (kept_values stack)
+        → HoldsValues v.memory (places_of s) (stack_pointer to (length (kept_values stack))) (kept_values stack)
     holds stack here = rw (kept stack here) at (stands.memory.stacks to there)
 
     go : (stack : Stack) → slice_get s.stacks to ≡ Some stack → GoesOn start to reply (state_by (places_of s) to stack) v.memory cpu after
@@ -170,7 +170,7 @@ switch-stands law image live s v well_typed typed stands one to differs was wait
           (law image live s v.memory well_typed typed stands.memory to here 0 after written) (end-word written);
     }
       where
-        end-word : Written v.memory after (stack_pointer to 1) 0 → Holds after (places_of s) (stack_pointer to 1) (Ret 0 ∷ [])
+        end-word : Written v.memory after (stack_pointer to 1) 0 → HoldsValues after (places_of s) (stack_pointer to 1) (Ret 0 ∷ [])
         end-word written zero w e =
             let same : Ret 0 ≡ w = cc in rw (← same) (written-there v.memory after (stack_pointer to 1) 0 _ written (omega arith))
         end-word written (suc k) w e = absurd (cc)

@@ -5,7 +5,7 @@ use Rattle.stack_states.specs.declared.stack_state.StackState.{StackState}
 use Rattle.stack_states.specs.declared.stack_state.StackState.TheVariants.{Empty, Running, Yielded, Interrupted}
 use Rattle.device_model.specs.Devices.{DevicesView, StandsFor}
 use Rattle.tal_image.specs.Image.{ImageParts}
-use Rattle.typed_machine.specs.States.{State, Stack, EmptyStack, RunningStack, YieldedStack, InterruptedStack, places_of, entry_place}
+use Rattle.typed_machine.specs.States.{State, Stack, stack_bytes, EmptyStack, RunningStack, YieldedStack, InterruptedStack, places_of, entry_place}
 use Rattle.typed_machine.specs.Words.{stack_pointer, register_words}
 use Rattle.word_machine.specs.Memory.{MemoryView, is_mapped, word_at}
 use Rattle.word_machine.specs.Standing.{MemoryStands}
@@ -47,5 +47,5 @@ pub record NucleusStands (image : ImageParts) (live : ℕ → Bool) (s : State) 
 
 -- What every Nucleus keeps: each stack has all of its words, and an address at which it starts.
 pub record IsKept (v : NucleusView) : Type 0 where
-  pub room : (a : ℕ) → stacks_start ≤ a → a < stacks_start + 16384 * length v.stacks → a % 4 ≡ 0 → is_mapped v.memory a ≡ true
+  pub room : (a : ℕ) → stacks_start ≤ a → a < stacks_start + stack_bytes * length v.stacks → a % 4 ≡ 0 → is_mapped v.memory a ≡ true
   pub starts : length v.starts ≡ length v.stacks

@@ -4,7 +4,7 @@ ghost use Rattle.ia32_code.specs.Canonical.{Canonical};
 ghost use Rattle.object_layout.specs.Areas.{statics_start, stacks_start};
 ghost use Rattle.stack_states.specs.StackTable.{current_of};
 ghost use Rattle.tal_image.specs.Image.{ImageParts};
-ghost use Rattle.typed_machine.specs.States.{State};
+ghost use Rattle.typed_machine.specs.States.{State, stack_bytes};
 ghost use Rattle.typed_machine.specs.Effects.{Effect};
 ghost use Rattle.typed_machine.specs.Words.{upper_end};
 ghost use Rattle.word_machine.specs.Memory.{word_of, is_mapped};
@@ -33,7 +33,7 @@ impl Nucleus {
     /// The words of a stack from its top, which ESP tells, to its bottom.
     pub fn stack_words(&self, stack: u32, esp: u32) -> &[u32]
         requires there { stack < length self.now.stacks }
-        requires low { stacks_start + 16384 * stack ≤ esp }
+        requires low { stacks_start + stack_bytes * stack ≤ esp }
         requires high { esp ≤ upper_end stack }
         requires aligned { esp % 4 ≡ 0 }
         ensures count { 4 * length result.now + esp ≡ upper_end stack }

@@ -19,25 +19,25 @@ use Rattle.word_machine.specs.Stepping.{Left}
 use Rattle.word_machine.proofs.Grounding.{words_over, told-same, thread-stands, same-stands, Begins}
 
 -- the processor and the memory after an instruction on these words
-pub record Ran (i : Inst) (len : ℕ) (before : WordState) (m : MemoryView) (cpu : Cpu) (after_instruction : MemoryView) : Type 0 where
+pub record Ran (i : Inst) (len : ℕ) (before : WordState) (m : MemoryView) (cpu : Cpu) (after : MemoryView) : Type 0 where
   pub regs : cpu.regs ≡ (ran_to i len before).regs
   pub flags : cpu.flags ≡ (ran_to i len before).flags
   pub place : cpu.pc ≡ (ran_to i len before).pc
-  pub words : (a : ℕ) → word_at after_instruction a ≡ (ran_to i len before).memory a
-  pub mapped : (a : ℕ) → is_mapped after_instruction a ≡ is_mapped m a
+  pub words : (a : ℕ) → word_at after a ≡ (ran_to i len before).memory a
+  pub mapped : (a : ℕ) → is_mapped after a ≡ is_mapped m a
 
 -- the same where nothing is left to the caller
-pub record RanOn (i : Inst) (len : ℕ) (before : WordState) (m : MemoryView) (cpu : Cpu) (after_instruction : MemoryView) : Type 0 where
+pub record RanOn (i : Inst) (len : ℕ) (before : WordState) (m : MemoryView) (cpu : Cpu) (after : MemoryView) : Type 0 where
   pub regs : cpu.regs ≡ (executed i before).regs
   pub flags : cpu.flags ≡ (executed i before).flags
   pub place : cpu.pc ≡ next_of i before len
-  pub words : (a : ℕ) → word_at after_instruction a ≡ (executed i before).memory a
-  pub mapped : (a : ℕ) → is_mapped after_instruction a ≡ is_mapped m a
+  pub words : (a : ℕ) → word_at after a ≡ (executed i before).memory a
+  pub mapped : (a : ℕ) → is_mapped after a ≡ is_mapped m a
 
 -- an instruction that leaves nothing to the caller has run on
-pub ran-on : (i : Inst) (len : ℕ) (before : WordState) (m : MemoryView) (cpu : Cpu) (after_instruction : MemoryView) → effect_of i before len ≡ step.Next
-    → Ran i len before m cpu after_instruction → RanOn i len before m cpu after_instruction
-ran-on i len before m cpu after_instruction is r = record {
+pub ran-on : (i : Inst) (len : ℕ) (before : WordState) (m : MemoryView) (cpu : Cpu) (after : MemoryView) → effect_of i before len ≡ step.Next
+    → Ran i len before m cpu after → RanOn i len before m cpu after
+ran-on i len before m cpu after is r = record {
   regs = rw is at r.regs;
   flags = rw is at r.flags;
   place = rw is at r.place;
@@ -49,28 +49,28 @@ ran-on i len before m cpu after_instruction is r = record {
 pub record StepOf (image : ImageParts) (s : State) (m : MemoryView) (i : Inst) (len : ℕ) (e : Option EffectView) : Type 0 where
   pub reaches : Reaches i (words_over s m) (is_mapped m)
   pub runs : is_system i ≡ false
-  pub leaves : (cpu : Cpu) (after_instruction : MemoryView) → Ran i len (words_over s m) m cpu after_instruction
-      → Left image s (next_address s.thread.place len) (effect_of i (words_over s m) len) e cpu after_instruction
+  pub leaves : (cpu : Cpu) (after : MemoryView) → Ran i len (words_over s m) m cpu after
+      → Left image s (next_address s.thread.place len) (effect_of i (words_over s m) len) e cpu after
 
 module _ {image : ImageParts} {s : State} {cpu : Cpu} {m : MemoryView} {i : Inst} {len : ℕ} (b : Begins image s cpu m i len) where
   -- where something is left to the caller, the words stand where they stood
-  pub stays : (e : StepEffect) (ran : Cpu) (after_instruction : MemoryView) → effect_of i (words_over s m) len ≡ e
+  pub stays : (e : StepEffect) (ran : Cpu) (after : MemoryView) → effect_of i (words_over s m) len ≡ e
       → moved e (words_over s m) (record (executed i (words_over s m)) { pc = next_of i (words_over s m) len }) ≡ words_over s m
-      → Ran i len (words_over s m) m ran after_instruction → WordsStand image all_objects s ran after_instruction
+      → Ran i len (words_over s m) m ran after → WordsStand image all_objects s ran after
   unfolding words_of
-  stays e ran after_instruction is same r =
+  stays e ran after is same r =
       let all : ran_to i len (words_over s m) ≡ words_over s m = rw is same in
       record {
         processor = record { regs = r.regs ∙ ap (λ k. k.regs) all; flags = r.flags ∙ ap (λ k. k.flags) all; place = r.place ∙ ap (λ k. k.pc) all };
-        memory = same-stands b.grounds.stand.memory after_instruction
-            (λ a. told-same m after_instruction a (r.mapped a) (r.words a ∙ ap (λ k. k.memory a) all));
+        memory = same-stands b.grounds.stand.memory after
+            (λ a. told-same m after a (r.mapped a) (r.words a ∙ ap (λ k. k.memory a) all));
       }
 
   -- where no word of the memory changes, it stands for the state with another thread
-  pub memory-stays : (t : Thread) (after_instruction : MemoryView) → ((a : ℕ) → word_at after_instruction a ≡ word_at m a) → ((a : ℕ) → is_mapped after_instruction a ≡ is_mapped m a)
-      → MemoryStands image all_objects (record s { thread = t }) after_instruction
-  memory-stays t after_instruction words mapped =
-      thread-stands (same-stands b.grounds.stand.memory after_instruction (λ a. told-same m after_instruction a (mapped a) (words a))) t
+  pub memory-stays : (t : Thread) (after : MemoryView) → ((a : ℕ) → word_at after a ≡ word_at m a) → ((a : ℕ) → is_mapped after a ≡ is_mapped m a)
+      → MemoryStands image all_objects (record s { thread = t }) after
+  memory-stays t after words mapped =
+      thread-stands (same-stands b.grounds.stand.memory after (λ a. told-same m after a (mapped a) (words a))) t
 
   -- an instruction that changes the thread alone
   pub thread-step : (t : Thread) (before : WordState) → before ≡ words_over s m → effect_of i before len ≡ step.Next → (executed i before).memory ≡ before.memory
@@ -81,14 +81,14 @@ module _ {image : ImageParts} {s : State} {cpu : Cpu} {m : MemoryView} {i : Inst
       record {
         reaches = rw is at reaches;
         runs = runs;
-        leaves = λ ran after_instruction r.
-            let on = ran-on i len (words_over s m) m ran after_instruction goes r in
+        leaves = λ ran after r.
+            let on = ran-on i len (words_over s m) m ran after goes r in
             rw goes (
               record s { thread = t },
               refl,
               record {
                 processor = record { regs = on.regs ∙ rw is at regs; flags = on.flags ∙ rw is at flags; place = on.place ∙ rw is at place };
-                memory = memory-stays t after_instruction (λ a. on.words a ∙ ap (λ f. f a) (rw is at memory)) on.mapped;
+                memory = memory-stays t after (λ a. on.words a ∙ ap (λ f. f a) (rw is at memory)) on.mapped;
               },
             );
       }
