@@ -1,15 +1,17 @@
 -- Reading the code, and what is said of it: for each byte of the code it is kept what begins there, and whether a function
 -- does.
-use Rattle.std.specs.Prelude.{ℕ, zero, suc, Bool, true, false, not, ◌&&◌, ◌==◌, nat_lt, nat_le, is_some, List, [], ◌∷◌, ◌++◌, length, replicate, Option, Some, None, slice_get, slice_index_or, Result, Ok, if◌then◌else◌}
+use Rattle.std.specs.Prelude.{◌≡◌, ℕ, zero, suc, ◌+◌, ◌<◌, Bool, true, false, not, ◌&&◌, ◌==◌, nat_lt, nat_le, is_some, List, [], ◌∷◌, ◌++◌, length, take, drop, replicate, Option, Some, None, slice_get, slice_index_or, Result, Ok, if◌then◌else◌}
 use Rattle.std.specs.List.{flat_map}
 use Rattle.ia32_code.specs.declared.instruction.Inst.{Inst}
+use Rattle.ia32_code.specs.Spells.{Spells}
 use Rattle.object_layout.specs.Areas.{table_address, descriptor_address}
 use Rattle.file_fields.specs.declared.fault.ImageFault.{ImageFault}
 use Rattle.tal_image.specs.declared.parts.FunctionPart.{FunctionPart}
 use Rattle.tal_image.specs.declared.start.Start.{Start}
 use Rattle.tal_image.specs.declared.start.Start.TheVariants.{Nothing, Instruction, Immediate}
-use Rattle.tal_image.specs.Conditions.{Tables, Spelled, marked_number, same_number}
-use Rattle.tal_image.specs.Fields.{instructions, bodies, all_instructions}
+use Rattle.tal_image.specs.Conditions.{Tables, Spelled, block_fits, mark_fits, marked_number, marked_number_at, same_number}
+use Rattle.tal_image.specs.Fields.{instructions, bodies, all_instructions, code_bytes}
+use Rattle.file_fields.specs.Grammar.{AreBytes}
 use Rattle.file_fields.specs.Reading.{◌▸◌, Reads, run}
 
 -- so many, of which the first is this one and the others are that
@@ -92,3 +94,28 @@ mark_word_by t addresses places tag index =
 -- whether a mark at an offset may have a tag and an index
 abbrev pub mark_says : Tables → List ℕ → List ℕ → List Start → ℕ → ℕ → ℕ → Bool
 mark_says t addresses places starts offset tag index = same_number (mark_word_by t addresses places tag index) (start_number (start_at starts offset))
+
+-- ---- what was read
+
+-- each function has a byte at least
+abbrev pub AllPositive : List FunctionPart → Type 0
+AllPositive [] = Unit {0}
+AllPositive (f ∷ functions) = (0 < f.length) × AllPositive functions
+
+-- these instructions stand one after another in a file from a place on, each with a spelling of its own
+abbrev pub StandAt : List ℕ → ℕ → List Spelled → Type 0
+StandAt file at [] = Unit {0}
+StandAt file at (s ∷ more) = (0 < length s.text) × (s.text ≡ take (length s.text) (drop at file)) × Spells s.text s.means × StandAt file (at + length s.text) more
+
+-- What is read of the code of functions is instructions that stand in the file, up to the place where the reader then is. What
+-- a condition asks of an offset in them is looked up in what is kept.
+pub record CodeLaws : Type 0 where
+  pub stand : (file : List ℕ) → AreBytes file → (functions : List FunctionPart) (at : ℕ) (xs : List (List Spelled)) (end : ℕ)
+      → run (bodies functions) file at ≡ Ok (xs, end) → StandAt file at (all_instructions xs) × (end ≡ at + length (code_bytes (all_instructions xs)))
+  pub bytes : (file : List ℕ) (at : ℕ) (code : List Spelled) → StandAt file at code → code_bytes code ≡ take (length (code_bytes code)) (drop at file)
+  pub block : (file : List ℕ) (at : ℕ) (code : List Spelled) → StandAt file at code → (functions : List FunctionPart) → AllPositive functions
+      → (least offset : ℕ) → block_fits functions code least offset ≡ place_fits (instruction_starts code) (function_starts functions) least offset
+  pub mark : (file : List ℕ) (at : ℕ) (code : List Spelled) → StandAt file at code
+      → (least offset : ℕ) → mark_fits code least offset ≡ offset_fits (instruction_starts code) least offset
+  pub number : (file : List ℕ) (at : ℕ) (code : List Spelled) → StandAt file at code
+      → (offset : ℕ) → marked_number_at offset code ≡ start_number (start_at (instruction_starts code) offset)

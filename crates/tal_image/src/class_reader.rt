@@ -16,14 +16,14 @@ use std::alloc::Global;
 
 /// How many classes stand from the root down to a class, and how many fields it has with theirs.
 #[derive(Clone, Copy, Debug, PartialEq, Eq)]
-pub(crate) struct ClassSize {
+pub struct ClassSize {
     pub lineage: u32,
     pub fields: u32,
 }
 
 /// A class and its size.
 #[derive(Drop)]
-pub(crate) struct SizedClass {
+pub struct SizedClass {
     pub row: ClassRow,
     pub size: ClassSize,
 }
@@ -192,7 +192,7 @@ fn behind_parent(
 }
 
 /// The next class, after these, whose sizes are these.
-fn class(
+pub fn class(
     alloc: Global,
     reader: &mut Reader<'_>,
     tables: &Tables,

@@ -29,10 +29,7 @@ fn put_span(starts: &mut Vec<bool>, length: u32) -> Result<(), NoMemory>
 }
 
 /// For each byte of the code, whether a function begins there.
-pub(crate) fn function_starts(
-    alloc: Global,
-    functions: &[FunctionPart],
-) -> Result<Vec<bool>, NoMemory>
+pub fn function_starts(alloc: Global, functions: &[FunctionPart]) -> Result<Vec<bool>, NoMemory>
     ensures { IfOk result (λ starts. starts.items ≡ function_starts functions.now) }
 {
     let mut starts = Vec::new(alloc);
@@ -93,7 +90,7 @@ fn body(reader: &mut Reader<'_>, starts: &mut Vec<Start>, size: u32) -> Result<(
 }
 
 /// The instructions of the functions: for each byte what begins there.
-pub(crate) fn code(
+pub fn code(
     alloc: Global,
     reader: &mut Reader<'_>,
     functions: &[FunctionPart],
@@ -111,7 +108,7 @@ pub(crate) fn code(
 
 /// Where blocks may begin: for each byte of the code what begins there, and whether a function does.
 #[derive(Drop)]
-pub(crate) struct BlockPlaces<'a> {
+pub struct BlockPlaces<'a> {
     pub tables: Tables,
     pub instructions: &'a [Start],
     pub functions: &'a [bool],

@@ -2,7 +2,8 @@
 ghost use Rattle.std.specs.Prelude.{◌^◌};
 ghost use Rattle.file_fields.specs.Laws.{EndsBy};
 ghost use Rattle.tal_image.specs.Fields.{image_fields};
-ghost use Rattle.tal_image.specs.Rows.{RowMeanings};
+ghost use Rattle.tal_image.specs.Rows.{RowMeanings, RowReaches};
+ghost use Rattle.tal_image.specs.CodeReading.{CodeLaws};
 ghost use Rattle.tal_image.specs.Laws.{OneMeaning, ReadAsFields, EachIsOne, FormedShapes};
 
 use crate::image_reader::PlacedRows;
@@ -48,9 +49,21 @@ pub fn row_meanings()
     file_fields::laws::number_meanings();
 }
 
+/// How far the rows of a file reach: for files of another kind with the same rows.
+pub fn row_reaches()
+    ensures { RowReaches }
+{}
+
+/// What is read of the code of functions, and how a condition on an offset in it is looked up.
+pub fn code_laws()
+    ensures { CodeLaws }
+{
+    ia32_code::laws::decoded_law();
+}
+
 /// A file that ends inside a field of an image has no more than 64 MiB.
 pub(crate) fn image_ends()
     ensures { EndsBy image_fields (2 ^ 31) }
 {
-    ia32_code::laws::spelling_length();
+    file_fields::laws::ends_by_most::<PlacedRows>();
 }

@@ -10,8 +10,9 @@
 // `class_reader`, `code_reader`) and in its writer (`writing`), and nowhere else.
 //
 // A file of another kind may have the same rows. Where its conditions differ, the grammar takes the tests from it
-// (`header_where`, `function_where`, `array_where`, `block_where`, `mark_where`), and `header`, `function` and `array` read
-// by them; `laws::row_meanings` says what each row stands for.
+// (`header_where`, `function_where`, `array_where`, `block_where`, `mark_where`), and `header`, `function`, `class`, `array`
+// and `code` read by them, as does the reader of a block at `BlockPlaces`. `laws::row_meanings` says what each row stands
+// for, `laws::row_reaches` how many bytes it has at most, `laws::code_laws` what begins where in the code.
 #![tactic(auto)]
 
 mod class_reader;
@@ -32,6 +33,8 @@ mod start;
 mod type_codes;
 mod writing;
 
+pub use class_reader::{ClassSize, SizedClass, class};
+pub use code_reader::{BlockPlaces, code, function_starts};
 pub use file_fields::ImageFault;
 pub use header_reader::header;
 pub use image::Image;
@@ -40,4 +43,5 @@ pub use parts::{
     ArrayPart, BlockPart, DataRow, FunctionPart, Header, MarkPart, NumberList, Tables, TypeList,
 };
 pub use row_reader::{Kinds, array, function};
+pub use start::{Start, start_at};
 pub use writing::ImageFile;

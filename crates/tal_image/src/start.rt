@@ -10,7 +10,7 @@ use no_memory::NoMemory;
 /// What begins at a byte of the code: nothing, or an instruction, with its immediate number where it is a MOV, a PUSH or a
 /// CMP that has one.
 #[derive(Clone, Copy)]
-pub(crate) enum Start {
+pub enum Start {
     Nothing,
     Instruction,
     Immediate(u32),
@@ -55,7 +55,7 @@ impl Start {
     }
 
     /// Whether an instruction begins.
-    pub(crate) fn is_start(self) -> bool
+    pub fn is_start(self) -> bool
         ensures { result ≡ is_start self }
     {
         match self {
@@ -65,7 +65,7 @@ impl Start {
     }
 
     /// The immediate number of the instruction that begins, if one with such a number does.
-    pub(crate) fn number(self) -> Option<u32>
+    pub fn number(self) -> Option<u32>
         ensures { result ≡ start_number self }
     {
         match self {
@@ -93,7 +93,7 @@ pub(crate) fn put_instruction(
 }
 
 /// What begins at a byte.
-pub(crate) fn start_at(starts: &[Start], offset: u32) -> Start
+pub fn start_at(starts: &[Start], offset: u32) -> Start
     ensures { result ≡ start_at starts.now offset }
 {
     starts

@@ -1,115 +1,25 @@
 -- How far the fields of an image reach: no image file has more than 64 MiB.
-use Rattle.std.proofs.Common.{◌≡◌, ℕ, zero, suc, ◌+◌, ◌-◌, ◌*◌, ◌≤◌, Bool, true, false, List, [], ◌∷◌, ◌++◌, length, refl, sym, subst, arith}
+use Rattle.std.proofs.Common.{◌≡◌, ℕ, zero, suc, ◌+◌, ◌-◌, ◌*◌, ◌≤◌, Bool, true, false, List, [], ◌∷◌, length, refl, subst, arith}
 use Rattle.std.specs.Prelude.{◌==◌, slice_get, if◌then◌else◌}
 use Rattle.std.specs.Option.{option_map_or}
 use Rattle.std.proofs.Math.Nat.{suc-mul}
 use Rattle.std.proofs.lemmas.Bool.Decides.{nat_tests}
-use Rattle.std.proofs.lemmas.List.{length-append}
-use Rattle.ia32_code.specs.declared.instruction.Inst.{Inst}
-use Rattle.ia32_code.specs.Spells.{Spells}
+use Rattle.std.specs.List.{sum_by}
 use Rattle.object_layout.specs.declared.rows.ClassRow.{ClassRow}
 use Rattle.object_layout.specs.declared.rows.KindRow.{KindRow}
 use Rattle.tal_types.specs.Types.{of_field}
 use Rattle.tal_image.specs.declared.parts.FunctionPart.{FunctionPart}
-use Rattle.tal_image.specs.Image.{ImageParts, ArrayPart, type_tag, magic_number}
-use Rattle.tal_image.specs.Conditions.{Tables, Spelled, class_view, inherited_methods, entry_fits, numbers_given, with_array, between}
-use Rattle.file_fields.specs.Grammar.{Grammar, done, chunk, instruction, checked, each, then_with, many, bytes_number, Field, Chunk, Instruction, fields_text, Sound, EndsInside}
-use Rattle.file_fields.specs.Composed.{and_then}
-use Rattle.tal_image.specs.Fields.{type_field, field_type_field, sig_fields, function_where, function_fields, after_function, method_list, class_fields, kind_fields, array_where, array_fields, block_where, block_fields, mark_where, mark_fields, instructions, bodies, all_instructions, tables_of, header_where, header_fields, sigs_part, functions_part, entries_part, classes_part, kinds_part, statics_part, arrays_part, blocks_part, marks_part, coded_fields, image_fields}
+use Rattle.tal_image.specs.Image.{ArrayPart, type_tag, magic_number}
+use Rattle.tal_image.specs.Conditions.{Tables, class_view, inherited_methods, length_fits, entry_fits, numbers_given, part_numbers, with_array, block_fits, between}
+use Rattle.file_fields.specs.Grammar.{done, checked, each, then_with, many, bytes_number}
+use Rattle.file_fields.specs.Reach.{Most, MostAny, most_then, most_next, most_last, most_many, most_each}
+use Rattle.tal_image.specs.Fields.{type_field, field_type_field, sig_fields, function_where, function_fields, after_function, method_list, class_fields, kind_fields, array_where, array_fields, block_where, mark_where, instructions, bodies, all_instructions, tables_of, header_where, header_fields, sigs_part, functions_part, entries_part, classes_part, kinds_part, statics_part, arrays_part, blocks_part, marks_part, coded_fields, image_fields}
 use Rattle.tal_image.proofs.Reading.Lengths.{code_length}
 use Rattle.tal_image.specs.Formed.{IsHeader}
+use Rattle.tal_image.specs.Rows.{RowReaches}
+use Rattle.tal_image.proofs.Finding.Spans.{code_length-sum}
 use Rattle.tal_image.proofs.Meaning.Header.{Test, tested, TestsMet, tests, header_of, header_is}
 use Rattle.tal_image.proofs.Meaning.Rows.{after_params, after_types}
-
--- ---- what a grammar reads at most
-
--- sound fields have no more than so many bytes, and what they stand for is so
-abbrev pub Most : {A : Type 0} → (A → Type 0) → Grammar A → ℕ → Type 0
-Most Is (done x) n = Is x
-Most Is (chunk m ok fault next) n = (m ≤ n) × ((t : List ℕ) → ok t ≡ true → Most Is (next t) (n - m))
-Most Is (instruction room next) n = (text : List ℕ) (i : Inst) → length text ≤ room → (length text ≤ n) × Most Is (next text i) (n - length text)
-
--- whatever they stand for
-abbrev MostAny : {A : Type 0} → Grammar A → ℕ → Type 0
-MostAny {A} g n = Most (λ (x : A). Unit {0}) g n
-
--- no spelling has more than eleven bytes
-abbrev pub FewBytes : Type 0
-FewBytes = (text : List ℕ) (i : Inst) → Spells text i → length text ≤ 11
-
--- what is left where a file ends inside the field that comes next
-ends_here : {A : Type 0} (few : FewBytes) (Is : A → Type 0) (g : Grammar A) (n : ℕ) (bytes : List ℕ) → Most Is g n → EndsInside g bytes → length bytes ≤ n + 11
-ends_here few Is (done x) n bytes m h = absurd h
-ends_here few Is (chunk k ok fault next) n bytes m h = let enough = m.0 in omega arith
-ends_here few Is (instruction room next) n bytes m h = let l = length-append bytes h.1 in let f = few (bytes ++ h.1) h.0 h.3 in omega arith
-
--- how many bytes a file has that ends inside a field
-ends_inside : {A : Type 0} (few : FewBytes) (Is : A → Type 0) (g : Grammar A) (n : ℕ) (fs : List Field) (after : Grammar A) (bytes : List ℕ)
-    → Most Is g n → Sound g fs after → EndsInside after bytes → length (fields_text fs ++ bytes) ≤ n + 11
-ends_inside {A} few Is g n [] after bytes m s h = ends_here few Is g n bytes m (subst (λ (z : Grammar A). EndsInside z bytes) (sym s) h)
-ends_inside {A} few Is (chunk k ok fault next) n (Chunk t ∷ fs) after bytes m s h =
-    let more = ends_inside few Is (next t) (n - k) fs after bytes (m.1 t s.1.2) (subst (λ (z : Grammar A). Sound z fs after) s.1.3 s.2) h in
-    let l = length-append t (fields_text fs) in
-    let l2 = length-append (t ++ fields_text fs) bytes in
-    let l3 = length-append (fields_text fs) bytes in
-    let long = s.1.0 in
-    let enough = m.0 in
-    omega arith
-ends_inside {A} few Is (instruction room next) n (Instruction text i ∷ fs) after bytes m s h =
-    let one = m text i s.1.1 in
-    let more = ends_inside few Is (next text i) (n - length text) fs after bytes one.1 (subst (λ (z : Grammar A). Sound z fs after) s.1.2 s.2) h in
-    let l = length-append text (fields_text fs) in
-    let l2 = length-append (text ++ fields_text fs) bytes in
-    let l3 = length-append (fields_text fs) bytes in
-    let enough = one.0 in
-    omega arith
-ends_inside few Is (done x) n (f ∷ fs) after bytes m s h = absurd s.1
-ends_inside few Is (chunk k ok fault next) n (Instruction text i ∷ fs) after bytes m s h = absurd s.1
-ends_inside few Is (instruction room next) n (Chunk t ∷ fs) after bytes m s h = absurd s.1
-
--- more will do
-most_more : {A : Type 0} (Is : A → Type 0) (g : Grammar A) (n m : ℕ) → n ≤ m → Most Is g n → Most Is g m
-most_more Is (done x) n m le h = h
-most_more Is (chunk k ok fault next) n m le h = (let enough = h.0 in omega arith, λ t c. most_more Is (next t) (n - k) (m - k) (omega arith) (h.1 t c))
-most_more Is (instruction room next) n m le h = λ text i fit.
-    let one = h text i fit in
-    let enough = one.0 in
-    (omega arith, most_more Is (next text i) (n - length text) (m - length text) (omega arith) one.1)
-
--- one part, and what comes then
-most_then : {A B : Type 0} (Is : A → Type 0) (Then : B → Type 0) (g : Grammar A) (f : A → Grammar B) (n m limit : ℕ) → n + m ≤ limit
-    → Most Is g n → ((x : A) → Is x → Most Then (f x) m) → Most Then (then_with g f) limit
-unfolding then_with
-most_then Is Then (done x) f n m limit le h more = most_more Then (f x) m limit (omega arith) (more x h)
-most_then Is Then (chunk k ok fault next) f n m limit le h more =
-    let enough = h.0 in
-    (omega arith, λ t c. most_then Is Then (next t) f (n - k) m (limit - k) (omega arith) (h.1 t c) more)
-most_then Is Then (instruction room next) f n m limit le h more = λ text i fit.
-    let one = h text i fit in
-    let enough = one.0 in
-    (omega arith, most_then Is Then (next text i) f (n - length text) m (limit - length text) (omega arith) one.1 more)
-
--- the same, whatever they stand for
-most_next : {A B : Type 0} (g : Grammar A) (f : A → Grammar B) (n m limit : ℕ) → n + m ≤ limit
-    → MostAny g n → ((x : A) → MostAny (f x) m) → MostAny (then_with g f) limit
-most_next {A} {B} g f n m limit le h more = most_then (λ (x : A). Unit {0}) (λ (y : B). Unit {0}) g f n m limit le h (λ x i. more x)
-
--- the last part
-most_last : {A B : Type 0} (g : Grammar A) (make : A → B) (n : ℕ) → MostAny g n → MostAny (then_with g (λ x. done (make x))) n
-most_last g make n h = most_next g (λ x. done (make x)) n 0 n (omega arith) h (λ x. tt)
-
--- so many rows of so many bytes at most
-most_many : {S A : Type 0} (row : ℕ → S → Grammar A) (step : S → A → S) (size : ℕ) → ((later : ℕ) (kept : S) → MostAny (row later kept) size)
-    → (n : ℕ) (kept : S) → MostAny (many n row step kept) (n * size)
-most_many row step size one zero kept = tt
-most_many row step size one (suc n) kept =
-    let m = suc-mul n size in
-    most_next (row n kept) _ size (n * size) (suc n * size) (omega arith) (one n kept) (λ x.
-    most_last (many n row step (step kept x)) (λ xs. x ∷ xs) (n * size) (most_many row step size one n (step kept x)))
-
--- the same, where rows look at nothing but themselves
-most_each : {A : Type 0} (row : Grammar A) (size : ℕ) → MostAny row size → (n : ℕ) → MostAny (each n row) (n * size)
-most_each row size one n = most_many (λ later kept. row) (λ kept x. kept) size (λ later kept. one) n 0
 
 -- ---- the header
 
@@ -117,11 +27,14 @@ most_each row size one n = most_many (λ later kept. row) (λ kept x. kept) size
 most_tested : (ts : List Test) (n : ℕ) → length ts * 4 ≤ n → Most (TestsMet ts) (tested ts) n
 unfolding then_with
 most_tested [] n le = tt
-most_tested (t ∷ ts) n le =
-    and_then (omega arith) (λ four c.
-    let k = bytes_number four in
-    let rest = most_tested ts (n - 4) (omega arith) in
-    most_then (TestsMet ts) (TestsMet (t ∷ ts)) (tested ts) (λ ns. done (k, ns)) (n - 4) 0 (n - 4) (omega arith) rest (λ ns all. (c, all)))
+most_tested (t ∷ ts) n le = (
+  n - 4,
+  omega arith,
+  λ four c.
+      let k = bytes_number four in
+      let rest = most_tested ts (n - 4) (omega arith) in
+      most_then (TestsMet ts) (TestsMet (t ∷ ts)) (tested ts) (λ ns. done (k, ns)) (n - 4) 0 (n - 4) (omega arith) rest (λ ns all. (c, all)),
+)
 
 -- a header, and its limits
 header_most : (letters : ℕ) (partial : Bool) → Most (IsHeader partial) (header_where letters partial) 52
@@ -132,58 +45,74 @@ header_most letters partial =
 
 -- ---- rows
 
--- so many types, and so many types of fields or of statics
+-- so many types, one of a field or of a static, and so many of those
 types_most : (t : Tables) (n : ℕ) → MostAny (each n (type_field t)) (n * 8)
 unfolding type_field
-types_most t n = most_each (type_field t) 8 (omega arith, λ t c. tt) n
+types_most t n = most_each (type_field t) 8 (0, omega arith, λ t c. tt) n
+
+field_type_most : (t : Tables) → MostAny (field_type_field t) 8
+unfolding field_type_field
+field_type_most t = (0, omega arith, λ t c. tt)
 
 field_types_most : (t : Tables) (n : ℕ) → MostAny (each n (field_type_field t)) (n * 8)
-unfolding field_type_field
-field_types_most t n = most_each (field_type_field t) 8 (omega arith, λ t c. tt) n
+field_types_most t n = most_each (field_type_field t) 8 (field_type_most t) n
 
 -- so many numbers under a condition
 numbers_most : (ok : ℕ → Bool) (condition n : ℕ) → MostAny (each n (checked ok condition)) (n * 4)
-numbers_most ok condition n = most_each (checked ok condition) 4 (omega arith, λ t c. tt) n
+numbers_most ok condition n = most_each (checked ok condition) 4 (0, omega arith, λ t c. tt) n
 
 -- a signature: eight types
 sig_most : (t : Tables) → MostAny (sig_fields t) 64
 unfolding sig_fields type_field then_with
-sig_most t = most_next (each 7 (type_field t)) (after_params t) 56 8 64 (omega arith) (types_most t 7) (λ params. (omega arith, λ t c. tt))
+sig_most t = most_next (each 7 (type_field t)) (after_params t) 56 8 64 (omega arith) (types_most t 7) (λ params. (0, omega arith, λ t c. tt))
+
+-- a function, whose length meets the test
+function_most : (t : Tables) (long : ℕ → Bool) → Most (λ (f : FunctionPart). long f.length ≡ true) (function_where t long) 8
+unfolding function_where then_with
+function_most t long = (4, omega arith, λ four test. (0, omega arith, λ sig test2. test))
 
 -- functions, which have no more bytes than the code
 functions_most : (t : Tables) (n left limit : ℕ) → n * 8 ≤ limit
     → Most (λ (fs : List FunctionPart). code_length fs ≤ left) (many n (function_fields t) after_function left) limit
-unfolding function_where code_length then_with
+unfolding code_length
 functions_most t zero left limit le = omega arith
 functions_most t (suc n) left limit le =
     let m = suc-mul n 8 in
-    and_then (omega arith) (λ four test.
-    let len = bytes_number four in
-    and_then (omega arith) (λ sig test2.
+    most_then _ _ (function_fields t n left) _ 8 (limit - 8) limit (omega arith) (function_most t (length_fits n left)) (λ f test.
+    let len = f.length in
     let fits : len ≤ left = grind (arith, nat_tests) in
     let others = functions_most t n (left - len) (n * 8) (omega arith) in
-    most_then _ _ (many n (function_fields t) after_function (left - len)) _ (n * 8) 0 (limit - 4 - 4) (omega arith) others (λ fs few. omega arith)))
+    most_then _ _ (many n (function_fields t) after_function (left - len)) _ (n * 8) 0 (limit - 8) (omega arith) others (λ fs few. omega arith))
 
 -- an array kind
 kind_most : (t : Tables) → MostAny (kind_fields t) 8
 unfolding kind_fields field_type_field then_with
-kind_most t = (omega arith, λ t c. tt)
+kind_most t = (0, omega arith, λ t c. tt)
 
 -- a class: 256 fields at most, and 53 methods
 class_most : (t : Tables) (functions : List FunctionPart) (classes : List ClassRow) → MostAny (class_fields t functions classes) 2272
 unfolding class_fields then_with
-class_most t functions classes =
-    and_then (omega arith) (λ first above.
-    let m = bytes_number first in
-    and_then (omega arith) (λ second test.
-    let own = bytes_number second in
-    let few : own ≤ 256 = grind (arith, nat_tests) in
-    most_next (each own (field_type_field t)) _ (own * 8) 216 2264 (omega arith) (field_types_most t own) (λ fields.
-    and_then (omega arith) (λ third test2.
-    let n = bytes_number third in
-    let few2 : n ≤ 53 = grind (arith, nat_tests) in
-    let slots = inherited_methods (class_view functions classes) m in
-    most_next (method_list functions n slots) _ (n * 4) 0 212 (omega arith) (most_many _ _ 4 (λ later kept. (omega arith, λ t c. tt)) n slots) (λ methods. tt)))))
+class_most t functions classes = (
+  2268,
+  omega arith,
+  λ first above.
+      let m = bytes_number first in (
+        2264,
+        omega arith,
+        λ second test.
+            let own = bytes_number second in
+            let few : own ≤ 256 = grind (arith, nat_tests) in
+            most_next (each own (field_type_field t)) _ (own * 8) 216 2264 (omega arith) (field_types_most t own) (λ fields. (
+              212,
+              omega arith,
+              λ third test2.
+                  let n = bytes_number third in
+                  let few2 : n ≤ 53 = grind (arith, nat_tests) in
+                  let slots = inherited_methods (class_view functions classes) m in
+                  most_next (method_list functions n slots) _ (n * 4) 0 212 (omega arith) (most_many _ _ 4 (λ later kept. (0, omega arith, λ t c. tt)) n slots) (λ methods. tt),
+            )),
+      ),
+)
 
 -- the numbers of a data array are not more than its elements
 given_few : (kinds : List KindRow) (kind n : ℕ) → numbers_given kinds kind n ≤ n
@@ -194,45 +123,62 @@ given_few kinds kind n = go (option_map_or (λ (row : KindRow). type_tag (of_fie
     go true = omega arith
     go false = omega arith
 
+-- the same, where an extern data array has none
+part_few : (ext : Bool) (kinds : List KindRow) (kind n : ℕ) → part_numbers ext kinds kind n ≤ n
+unfolding part_numbers
+part_few true kinds kind n = omega arith
+part_few false kinds kind n = given_few kinds kind n
+
 -- data arrays, which have 65536 words at most in all
 arrays_most : (t : Tables) (kinds : List KindRow) (n used limit : ℕ) → n * 8 + (65536 - used) * 4 ≤ limit
     → MostAny (many n (λ later kept. array_fields t kinds kept) with_array used) limit
 unfolding array_where then_with
 arrays_most t kinds zero used limit le = tt
 arrays_most t kinds (suc n) used limit le =
-    let m = suc-mul n 8 in
-    and_then (omega arith) (λ first there.
-    let kind = bytes_number first in
-    and_then (omega arith) (λ second test.
-    let size = bytes_number second in
-    let room : used + 2 + size ≤ 65536 = grind (arith, nat_tests) in
-    let count = numbers_given kinds kind size in
-    let few = given_few kinds kind size in
-    let rest = n * 8 + (65536 - (used + 2 + size)) * 4 in
-    let given = each count (checked (λ n. true) 22) in
-    let array = λ (ns : List ℕ). (let a : ArrayPart = record { kind = kind; size = size; numbers = ns } in a) in
-    most_then (λ (a : ArrayPart). a.size ≡ size) _ (then_with given (λ ns. done (array ns))) _ (size * 4) rest (limit - 4 - 4) (omega arith)
-    (most_then _ _ given _ (count * 4) 0 (size * 4) (omega arith) (numbers_most (λ n. true) 22 count) (λ ns i. refl)) (λ a e.
-    most_last (many n (λ later kept. array_fields t kinds kept) with_array (used + 2 + a.size)) (λ more. a ∷ more) rest
-    (arrays_most t kinds n (used + 2 + a.size) rest (omega arith)))))
+    let m = suc-mul n 8 in (
+      limit - 4,
+      omega arith,
+      λ first there.
+          let kind = bytes_number first in (
+            limit - 4 - 4,
+            omega arith,
+            λ second test.
+                let size = bytes_number second in
+                let room : used + 2 + size ≤ 65536 = grind (arith, nat_tests) in
+                let count = numbers_given kinds kind size in
+                let few = given_few kinds kind size in
+                let rest = n * 8 + (65536 - (used + 2 + size)) * 4 in
+                let given = each count (checked (λ n. true) 22) in
+                let array = λ (ns : List ℕ). (let a : ArrayPart = record { kind = kind; size = size; numbers = ns } in a) in
+                most_then (λ (a : ArrayPart). a.size ≡ size) _ (then_with given (λ ns. done (array ns))) _ (size * 4) rest (limit - 4 - 4) (omega arith)
+                (most_then _ _ given _ (count * 4) 0 (size * 4) (omega arith) (numbers_most (λ n. true) 22 count) (λ ns i. refl)) (λ a e.
+                most_last (many n (λ later kept. array_fields t kinds kept) with_array (used + 2 + a.size)) (λ more. a ∷ more) rest
+                (arrays_most t kinds n (used + 2 + a.size) rest (omega arith))),
+          ),
+    )
 
 -- a block: 64 slots at most
-block_most : (t : Tables) (functions : List FunctionPart) (code : List Spelled) (least : ℕ) → MostAny (block_fields t functions code least) 576
+block_most : (t : Tables) (place : ℕ → Bool) → MostAny (block_where t place) 576
 unfolding block_where then_with
-block_most t functions code least =
-    and_then (omega arith) (λ first placed.
-    let offset = bytes_number first in
-    most_next (each 7 (type_field t)) (after_types t offset) 56 516 572 (omega arith) (types_most t 7) (λ types.
-    and_then (omega arith) (λ second test.
-    let n = bytes_number second in
-    let few : n ≤ 64 = grind (arith, nat_tests) in
-    most_next (each n (type_field t)) _ (n * 8) 0 512 (omega arith) (types_most t n) (λ slots. tt))))
+block_most t place = (
+  572,
+  omega arith,
+  λ first placed.
+      let offset = bytes_number first in
+      most_next (each 7 (type_field t)) (after_types t offset) 56 516 572 (omega arith) (types_most t 7) (λ types. (
+        512,
+        omega arith,
+        λ second test.
+            let n = bytes_number second in
+            let few : n ≤ 64 = grind (arith, nat_tests) in
+            most_next (each n (type_field t)) _ (n * 8) 0 512 (omega arith) (types_most t n) (λ slots. tt),
+      )),
+)
 
 -- a mark
-mark_most : (t : Tables) (functions : List FunctionPart) (statics : ℕ) (arrays : List ArrayPart) (code : List Spelled) (least : ℕ)
-    → MostAny (mark_fields t functions statics arrays code least) 12
+mark_most : (place : ℕ → Bool) (word : ℕ → ℕ → ℕ → Bool) → MostAny (mark_where place word) 12
 unfolding mark_where then_with
-mark_most t functions statics arrays code least = (omega arith, λ offset placed. (omega arith, λ both c. tt))
+mark_most place word = (8, omega arith, λ offset placed. (0, omega arith, λ both c. tt))
 
 -- ---- the code
 
@@ -243,7 +189,7 @@ instructions_most zero room = tt
 instructions_most (suc n) zero = tt
 instructions_most (suc n) (suc r) = λ text i fit.
     let left = suc r - length text in
-    (fit, most_last (instructions n left) (λ more. record { text = text; means = i } ∷ more) left (instructions_most n left))
+    (left, omega arith, most_last (instructions n left) (λ more. record { text = text; means = i } ∷ more) left (instructions_most n left))
 
 -- those of all functions
 bodies_most : (functions : List FunctionPart) → MostAny (bodies functions) (code_length functions)
@@ -252,6 +198,10 @@ bodies_most [] = tt
 bodies_most (f ∷ functions) =
     most_next (instructions f.length f.length) _ f.length (code_length functions) (f.length + code_length functions) (omega arith) (instructions_most f.length f.length) (λ body.
     most_last (bodies functions) (λ more. body ∷ more) (code_length functions) (bodies_most functions))
+
+-- the same, by a sum
+bodies_reach : (functions : List FunctionPart) → MostAny (bodies functions) (sum_by (λ (f : FunctionPart). f.length) functions)
+bodies_reach functions = subst (λ (n : ℕ). MostAny (bodies functions) n) (code_length-sum functions) (bodies_most functions)
 
 -- ---- the whole file
 
@@ -286,14 +236,25 @@ coded_most =
     most_next (arrays_part h kinds) _ 786432 51000000 52000000 (omega arith) (arrays_most t kinds h.arrays h.statics 786432 (omega arith)) (λ arrays.
     most_next (bodies functions) _ (code_length functions) 49000000 51000000 (omega arith) (bodies_most functions) (λ code.
     most_next (blocks_part h functions (all_instructions code)) _ (h.blocks * 576) 11000000 49000000 (omega arith)
-    (most_many _ _ 576 (λ later least. block_most t functions (all_instructions code) least) h.blocks 0) (λ blocks.
+    (most_many _ _ 576 (λ later least. block_most t (block_fits functions (all_instructions code) least)) h.blocks 0) (λ blocks.
     most_next (marks_part h functions arrays (all_instructions code)) _ (h.marks * 12) 0 11000000 (omega arith)
-    (most_many _ _ 12 (λ later least. mark_most t functions h.statics arrays (all_instructions code) least) h.marks 0) (λ marks. tt)))))))))))
+    (most_many _ _ 12 (λ later least. mark_most _ _) h.marks 0) (λ marks. tt)))))))))))
 
--- a file that ends inside a field of an image has 64 MiB at most
-pub short_file : (few : FewBytes) (fs : List Field) (after : Grammar ImageParts) (bytes : List ℕ)
-    → Sound image_fields fs after → EndsInside after bytes → length (fields_text fs ++ bytes) ≤ 67108864
+-- the fields of an image have 64 MiB at most
+pub image_most : MostAny image_fields 67108853
 unfolding image_fields then_with
-short_file few fs after bytes s h =
-    let most = most_last coded_fields (λ coded. coded.image) 67108853 coded_most in
-    ends_inside few _ image_fields 67108853 fs after bytes most s h
+image_most = most_last coded_fields (λ coded. coded.image) 67108853 coded_most
+
+-- the rows of a file
+pub rows_reach : RowReaches
+rows_reach = record {
+  header = header_most;
+  sig = sig_most;
+  function = function_most;
+  class = class_most;
+  field_type = field_type_most;
+  numbers = part_few;
+  bodies = bodies_reach;
+  block = block_most;
+  mark = mark_most;
+}

@@ -1,6 +1,6 @@
 -- What is known of the instructions that were read: where each begins, its bytes, and what it is.
 use Rattle.std.proofs.Common.{◌≡◌, ℕ, zero, suc, ◌+◌, ◌-◌, ◌<◌, ◌≤◌, ◌⊎◌, inl, inr, Bool, true, false, cond, Option, Some, None, List, [], ◌∷◌, ◌++◌, length, take, drop, replicate, Result, Ok, Err, refl, sym, ap, subst, ◌∙◌, arith, ⊎_elim}
-use Rattle.std.specs.Prelude.{nat_le, nat_lt, ◌==◌, is_some, slice_index_or}
+use Rattle.std.specs.Prelude.{◌&&◌, nat_le, nat_lt, ◌==◌, is_some, slice_index_or}
 use Rattle.std.specs.Option.{option_map_or}
 use Rattle.std.proofs.lemmas.Bool.{cases_lt}
 use Rattle.std.proofs.lemmas.Bool.Decides.{nat_tests}
@@ -12,16 +12,16 @@ use Rattle.ia32_code.specs.Decoding.{Answers, DecodedLaw, decoded}
 use Rattle.file_fields.specs.declared.fault.ImageFault.{ImageFault}
 use Rattle.file_fields.specs.declared.fault.ImageFault.TheVariants.{Bad}
 use Rattle.tal_image.specs.declared.parts.FunctionPart.{FunctionPart}
-use Rattle.tal_image.specs.Conditions.{Spelled, begins_at, function_begins, marked_number_at, marked_number}
+use Rattle.tal_image.specs.Conditions.{Spelled, begins_at, function_begins, block_fits, mark_fits, marked_number_at, marked_number}
 use Rattle.file_fields.specs.Grammar.{done, then_with, AreBytes}
 use Rattle.tal_image.specs.Fields.{instructions, bodies, all_instructions, code_bytes}
 use Rattle.file_fields.specs.Reading.{after_decoding, run}
 use Rattle.tal_image.specs.declared.start.Start.{Start}
 use Rattle.tal_image.specs.declared.start.Start.TheVariants.{Nothing}
-use Rattle.tal_image.specs.CodeReading.{headed, start_with, start_of, start_at, is_start, start_number, instruction_starts, function_starts, starts_at}
+use Rattle.tal_image.specs.CodeReading.{headed, start_with, start_of, start_at, is_start, start_number, instruction_starts, function_starts, starts_at, place_fits, offset_fits, AllPositive, StandAt, CodeLaws}
 use Rattle.tal_image.proofs.Meaning.Bodies.{joined_bytes}
 use Rattle.file_fields.specs.Composed.{run-then_with}
-use Rattle.tal_image.proofs.Reading.Limits.{AllPositive, bind_inverse, ok_pair}
+use Rattle.tal_image.proofs.Reading.Limits.{bind_inverse, ok_pair}
 
 -- the bytes behind some are bytes
 bytes_after : (n : ℕ) (bytes : List ℕ) → AreBytes bytes → AreBytes (drop n bytes)
@@ -29,18 +29,13 @@ bytes_after zero bytes fits = fits
 bytes_after (suc n) [] fits = fits
 bytes_after (suc n) (b ∷ bytes) fits = bytes_after n bytes (λ i. fits (suc i))
 
--- These instructions stand one after another in a file from a place on.
-abbrev pub StandAt : List ℕ → ℕ → List Spelled → Type 0
-StandAt file at [] = Unit {0}
-StandAt file at (s ∷ more) = (0 < length s.text) × (s.text ≡ take (length s.text) (drop at file)) × StandAt file (at + length s.text) more
-
 -- some, then others
 stand_both : (file : List ℕ) (at : ℕ) (code more : List Spelled) → StandAt file at code → StandAt file (at + length (code_bytes code)) more → StandAt file at (code ++ more)
 stand_both file at [] more h g = subst (λ (n : ℕ). StandAt file n more) (let e : at + 0 ≡ at = omega arith in e) g
 stand_both file at (s ∷ code) more h g =
     let l = length-append s.text (code_bytes code) in
     let e : at + length (code_bytes (s ∷ code)) ≡ at + length s.text + length (code_bytes code) = omega arith in
-    (h.0, h.1, stand_both file (at + length s.text) code more h.2 (subst (λ (n : ℕ). StandAt file n more) e g))
+    (h.0, h.1, h.2, stand_both file (at + length s.text) code more h.3 (subst (λ (n : ℕ). StandAt file n more) e g))
 
 -- a test that was passed
 passed : {A : Type 0} (b : Bool) (x : Result A ImageFault) (f : ImageFault) (y : A) → cond b x (Err f) ≡ Ok y → x ≡ Ok y
@@ -84,6 +79,7 @@ module _ (law : DecodedLaw) (file : List ℕ) (fits : AreBytes file) where
         (
           (let pos = a.0 in omega arith),
           ap (λ (m : ℕ). take m (drop at file)) (sym l),
+          a.2,
           subst (λ (m : ℕ). StandAt file m bound.0.0) place rest.0,
         ),
         last,
@@ -98,7 +94,7 @@ module _ (law : DecodedLaw) (file : List ℕ) (fits : AreBytes file) where
       one_more n r at xs end (decoded (drop at file)) refl (law (drop at file) (bytes_after at file fits)) e (λ room next ys last h. instructions_stand n room next ys last h)
 
   -- those of all functions
-  pub bodies_stand : (functions : List FunctionPart) (at : ℕ) (xs : List (List Spelled)) (end : ℕ) → run (bodies functions) file at ≡ Ok (xs, end) → Read_to file at (all_instructions xs) end
+  bodies_stand : (functions : List FunctionPart) (at : ℕ) (xs : List (List Spelled)) (end : ℕ) → run (bodies functions) file at ≡ Ok (xs, end) → Read_to file at (all_instructions xs) end
   unfolding bodies
   bodies_stand [] at xs end e =
       let k = ok_pair [] xs at end e in
@@ -130,12 +126,12 @@ take_both (suc n) m [] = take_nothing m ∙ sym (take_nothing (suc n + m))
 take_both (suc n) m (b ∷ bytes) = let e : suc n + m ≡ suc (n + m) = omega arith in rw e (ap (λ (z : List ℕ). b ∷ z) (take_both n m bytes))
 
 -- the bytes of the instructions are those of the file
-pub bytes_are : (file : List ℕ) (at : ℕ) (code : List Spelled) → StandAt file at code → code_bytes code ≡ take (length (code_bytes code)) (drop at file)
+bytes_are : (file : List ℕ) (at : ℕ) (code : List Spelled) → StandAt file at code → code_bytes code ≡ take (length (code_bytes code)) (drop at file)
 bytes_are file at [] h = refl
 bytes_are file at (s ∷ code) h =
     let l = length-append s.text (code_bytes code) in
     ap (λ (z : List ℕ). z ++ code_bytes code) h.1
-    ∙ ap (λ (z : List ℕ). take (length s.text) (drop at file) ++ z) (bytes_are file (at + length s.text) code h.2 ∙ ap (take (length (code_bytes code))) (sym (drop-drop (length s.text) at file)))
+    ∙ ap (λ (z : List ℕ). take (length s.text) (drop at file) ++ z) (bytes_are file (at + length s.text) code h.3 ∙ ap (take (length (code_bytes code))) (sym (drop-drop (length s.text) at file)))
     ∙ take_both (length s.text) (length (code_bytes code)) (drop at file)
     ∙ ap (λ (n : ℕ). take n (drop at file)) (sym l)
 
@@ -221,7 +217,7 @@ started_at file at (s ∷ code) h k =
     (λ (z : k ≡ 0). ap (λ (m : ℕ). started (begins_at m (s ∷ code))) z ∙ ap started (begins_first s code) ∙ sym (ap (start_at (headed first Nothing n ++ rest)) z ∙ at_first first Nothing n rest pos))
     (λ later. ⊎_elim
     (λ (w : (0 < k) × (k < n)). ap started (begins_within s code k w.0 w.1) ∙ sym (at_other first Nothing n rest k w.0 w.1))
-    (λ (w : (0 < k) × (n ≤ k)). ap started (begins_past s code k w.0 w.1) ∙ started_at file (at + n) code h.2 (k - n) ∙ sym (at_later first Nothing n rest k pos w.1))
+    (λ (w : (0 < k) × (n ≤ k)). ap started (begins_past s code k w.0 w.1) ∙ started_at file (at + n) code h.3 (k - n) ∙ sym (at_later first Nothing n rest k pos w.1))
     later)
     (places k n)
 
@@ -243,16 +239,16 @@ is_told None = refl
 is_told (Some i) = sym (told (marked_number i))
 
 -- an instruction begins where a start is kept
-pub starts_same : (file : List ℕ) (at : ℕ) (code : List Spelled) → StandAt file at code → (k : ℕ) → is_some (begins_at k code) ≡ is_start (start_at (instruction_starts code) k)
+starts_same : (file : List ℕ) (at : ℕ) (code : List Spelled) → StandAt file at code → (k : ℕ) → is_some (begins_at k code) ≡ is_start (start_at (instruction_starts code) k)
 starts_same file at code h k = is_begun (begins_at k code) ∙ ap is_start (started_at file at code h k)
 
 -- and its immediate number is kept there
-pub number_same : (file : List ℕ) (at : ℕ) (code : List Spelled) → StandAt file at code → (k : ℕ) → marked_number_at k code ≡ start_number (start_at (instruction_starts code) k)
+number_same : (file : List ℕ) (at : ℕ) (code : List Spelled) → StandAt file at code → (k : ℕ) → marked_number_at k code ≡ start_number (start_at (instruction_starts code) k)
 unfolding marked_number_at
 number_same file at code h k = is_told (begins_at k code) ∙ ap start_number (started_at file at code h k)
 
 -- a function begins where one is marked
-pub functions_same : (functions : List FunctionPart) → AllPositive functions → (k : ℕ) → function_begins k functions ≡ starts_at (function_starts functions) k
+functions_same : (functions : List FunctionPart) → AllPositive functions → (k : ℕ) → function_begins k functions ≡ starts_at (function_starts functions) k
 unfolding function_begins
 functions_same [] h k = refl
 functions_same (f ∷ functions) h k =
@@ -276,3 +272,27 @@ functions_same (f ∷ functions) h k =
     rw (a, b) (functions_same functions h.1 (k - n) ∙ sym (at_later true false n rest k pos w.1)))
     later)
     (places k n)
+
+-- ---- what a condition asks
+
+-- a block may stand where an instruction begins that is not the first of a function
+block_same : (file : List ℕ) (at : ℕ) (code : List Spelled) → StandAt file at code → (functions : List FunctionPart) → AllPositive functions
+    → (least n : ℕ) → block_fits functions code least n ≡ place_fits (instruction_starts code) (function_starts functions) least n
+unfolding block_fits place_fits
+block_same file at code h functions positive least n = rw (starts_same file at code h n, functions_same functions positive n) refl
+
+-- a mark may stand where a number is marked
+mark_same : (file : List ℕ) (at : ℕ) (code : List Spelled) → StandAt file at code
+    → (least n : ℕ) → mark_fits code least n ≡ offset_fits (instruction_starts code) least n
+unfolding mark_fits offset_fits
+mark_same file at code h least n = ap (λ (o : Option ℕ). nat_le least n && is_some o) (number_same file at code h n)
+
+-- all of it
+pub code_laws : DecodedLaw → CodeLaws
+code_laws law = record {
+  stand = bodies_stand law;
+  bytes = bytes_are;
+  block = block_same;
+  mark = mark_same;
+  number = number_same;
+}

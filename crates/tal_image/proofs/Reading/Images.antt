@@ -1,6 +1,6 @@
 -- What the reader of a whole image reads is what the fields of an image say.
-use Rattle.std.proofs.Common.{◌≡◌, ℕ, zero, suc, ◌+◌, ◌-◌, ◌*◌, Bool, ◌&&◌, Option, List, [], ◌∷◌, length, map, take, drop, Result, Ok, Err, refl, sym, ap, ◌∙◌, arith}
-use Rattle.std.specs.Prelude.{nat_le, is_some, slice_get}
+use Rattle.std.proofs.Common.{◌≡◌, ℕ, zero, suc, ◌+◌, ◌-◌, ◌*◌, Option, List, [], ◌∷◌, length, map, take, drop, Result, Ok, Err, refl, sym, ap, ◌∙◌, arith}
+use Rattle.std.specs.Prelude.{slice_get}
 use Rattle.std.specs.Option.{option_map}
 use Rattle.ia32_code.specs.Decoding.{DecodedLaw}
 use Rattle.object_layout.specs.declared.rows.FunRow.{FunRow}
@@ -14,24 +14,15 @@ use Rattle.tal_image.specs.declared.parts.FunctionPart.{FunctionPart}
 use Rattle.tal_image.specs.declared.start.Start.{Start}
 use Rattle.tal_image.specs.Image.{ImageParts, ArrayPart}
 use Rattle.object_layout.specs.Areas.{code_start, statics_start}
-use Rattle.tal_image.specs.Conditions.{Tables, Spelled, block_fits, begins_at, function_begins, marked_number_at, mark_fits, mark_word, word_fits, same_number, fun_rows, array_places}
+use Rattle.tal_image.specs.Conditions.{Tables, Spelled, block_fits, marked_number_at, mark_fits, mark_word, word_fits, same_number, fun_rows, array_places}
 use Rattle.file_fields.specs.Grammar.{Grammar, AreBytes, done, many, then_with}
 use Rattle.file_fields.specs.Reading.{◌▸◌, run}
 use Rattle.file_fields.specs.Composed.{run-then_with}
 use Rattle.tal_image.specs.Fields.{block_where, mark_where, tables_of, header_fields, coded_fields, image_fields, bodies, all_instructions, code_bytes, after_block, after_mark, sigs_part, functions_part, entries_part, classes_part, kinds_part, statics_part, arrays_part, blocks_part, marks_part, CodedImage, coded}
-use Rattle.tal_image.specs.CodeReading.{instruction_starts, function_starts, starts_at, starts_behind, code_at, place_fits, start_at, is_start, start_number, offset_fits, mark_word_by, mark_says}
+use Rattle.tal_image.specs.CodeReading.{instruction_starts, function_starts, starts_behind, code_at, place_fits, start_at, start_number, offset_fits, mark_word_by, mark_says, AllPositive}
 use Rattle.tal_image.specs.ImageReading.{FrontParts, CodeParts, image_from, front_at, behind_at, image_at}
-use Rattle.tal_image.proofs.Reading.Limits.{AllPositive, functions_fit}
-use Rattle.tal_image.proofs.Reading.Code.{bodies_stand, bytes_are, starts_same, number_same, functions_same}
-
--- ---- blocks
-
--- a block may stand where an instruction begins that is not the first of a function
-place_same : (functions : List FunctionPart) (code : List Spelled) (begun : List Start) (firsts : List Bool) (least n : ℕ)
-    → is_some (begins_at n code) ≡ is_start (start_at begun n) → function_begins n functions ≡ starts_at firsts n
-    → block_fits functions code least n ≡ place_fits begun firsts least n
-unfolding block_fits place_fits
-place_same functions code begun firsts least n e f = rw (e, f) refl
+use Rattle.tal_image.proofs.Reading.Limits.{functions_fit}
+use Rattle.tal_image.proofs.Reading.Code.{code_laws}
 
 -- ---- marks
 
@@ -54,12 +45,6 @@ word_same : (t : Tables) (functions : List FunctionPart) (statics : ℕ) (arrays
     → mark_word t functions statics arrays tag index ≡ mark_word_by t (addresses functions) (places statics arrays) tag index
 unfolding mark_word mark_word_by
 word_same t functions statics arrays tag index = rw (sym (address_at (fun_rows code_start functions) index)) refl
-
--- a mark may stand where a number is marked
-offset_same : (code : List Spelled) (begun : List Start) (least n : ℕ) → marked_number_at n code ≡ start_number (start_at begun n)
-    → mark_fits code least n ≡ offset_fits begun least n
-unfolding mark_fits offset_fits
-offset_same code begun least n same = ap (λ (o : Option ℕ). nat_le least n && is_some o) same
 
 -- and its tag and index say that number
 said_same : (t : Tables) (functions : List FunctionPart) (statics : ℕ) (arrays : List ArrayPart) (code : List Spelled) (begun : List Start) (n tag index : ℕ)
@@ -141,20 +126,20 @@ behind_fields h sigs functions entries classes kinds statics arrays =
 
 -- the blocks
 blocks_run : (h : Header) (functions : List FunctionPart) (all : List Spelled) (begun : List Start) (file : List ℕ) (at : ℕ)
-    → AllPositive functions → ((n : ℕ) → is_some (begins_at n all) ≡ is_start (start_at begun n))
+    → ((least n : ℕ) → block_fits functions all least n ≡ place_fits begun (function_starts functions) least n)
     → run (blocks_part h functions all) file at
     ≡ run (many h.blocks (λ later least. block_where (tables_of h) (place_fits begun (function_starts functions) least)) after_block 0) file at
-blocks_run h functions all begun file at positive starts = λ j.
-    let place = λ (least n : ℕ). place_same functions all begun (function_starts functions) least n (starts n) (functions_same functions positive n) j in
+blocks_run h functions all begun file at same = λ j.
+    let place = λ (least n : ℕ). same least n j in
     run (many h.blocks (λ later least. block_where (tables_of h) (place least)) after_block 0) file at
 
 -- the marks
 marks_run : (h : Header) (functions : List FunctionPart) (arrays : List ArrayPart) (all : List Spelled) (begun : List Start) (file : List ℕ) (at : ℕ)
-    → ((n : ℕ) → marked_number_at n all ≡ start_number (start_at begun n))
+    → ((least n : ℕ) → mark_fits all least n ≡ offset_fits begun least n) → ((n : ℕ) → marked_number_at n all ≡ start_number (start_at begun n))
     → run (marks_part h functions arrays all) file at
     ≡ run (many h.marks (λ later least. mark_where (offset_fits begun least) (mark_says (tables_of h) (addresses functions) (places h.statics arrays) begun)) after_mark 0) file at
-marks_run h functions arrays all begun file at same = λ j.
-    let place = λ (least n : ℕ). offset_same all begun least n (same n) j in
+marks_run h functions arrays all begun file at fits same = λ j.
+    let place = λ (least n : ℕ). fits least n j in
     let word = λ (n tag index : ℕ). said_same (tables_of h) functions h.statics arrays all begun n tag index (same n) j in
     run (many h.marks (λ later least. mark_where (place least) word) after_mark 0) file at
 
@@ -172,14 +157,15 @@ module _ (law : DecodedLaw) (file : List ℕ) (fits : AreBytes file) (h : Header
       code_step functions _ _ (behind_front tables) file at (λ code e.
       let all = all_instructions code.0 in
       let begun = instruction_starts all in
-      let stand = bodies_stand law file fits functions at code.0 code.1 e in
+      let laws = code_laws law in
+      let stand = laws.stand file fits functions at code.0 code.1 e in
       step (blocks_part h functions all) _ _ _ (behind_front tables) file code.1
-      (blocks_run h functions all begun file code.1 positive (λ n. starts_same file at all stand.0 n)) (λ blocks eb.
+      (blocks_run h functions all begun file code.1 (laws.block file at all stand.0 functions positive)) (λ blocks eb.
       step (marks_part h functions arrays all) _ _ _ (behind_front tables) file blocks.1
-      (marks_run h functions arrays all begun file blocks.1 (λ n. number_same file at all stand.0 n)) (λ marks em.
+      (marks_run h functions arrays all begun file blocks.1 (laws.mark file at all stand.0) (laws.number file at all stand.0)) (λ marks em.
       let count : length (code_bytes all) ≡ code.1 - at = let q = stand.1 in omega arith in
       ap (λ (z : List ℕ). let r : Result (ImageParts × ℕ) ImageFault = Ok (image_from tables (record { code = z; blocks = blocks.0; marks = marks.0 }), marks.1) in r)
-      (bytes_are file at all stand.0 ∙ ap (λ (n : ℕ). take n (drop at file)) count))))
+      (laws.bytes file at all stand.0 ∙ ap (λ (n : ℕ). take n (drop at file)) count))))
 
 module _ (law : DecodedLaw) (file : List ℕ) (fits : AreBytes file) where
   -- what comes of the tables

@@ -11,6 +11,7 @@ use Rattle.file_fields.specs.Grammar.{Grammar, checked, each, many}
 use Rattle.file_fields.specs.Reading.{◌▸◌, word_at, run}
 use Rattle.file_fields.specs.Composed.{checked_run, many_run}
 use Rattle.tal_image.specs.Fields.{any_number, function_fields, array_fields, after_function}
+use Rattle.tal_image.specs.CodeReading.{AllPositive}
 use Rattle.tal_image.proofs.Reading.Lengths.{code_length, array_space}
 use Rattle.tal_image.proofs.Reading.RowReadings.{function_run, array_run}
 
@@ -62,11 +63,6 @@ pub part_fits : (ext : Bool) (later left n : ℕ) → part_length_fits ext later
 unfolding part_length_fits
 part_fits true later left n h = grind (arith, nat_tests)
 part_fits false later left n h = grind (arith, nat_tests)
-
--- each function has a byte at least
-abbrev pub AllPositive : List FunctionPart → Type 0
-AllPositive [] = Unit {0}
-AllPositive (f ∷ functions) = (0 < f.length) × AllPositive functions
 
 -- a function has a byte at least, and no more than are left
 function_fits : (t : Tables) (later left : ℕ) (file : List ℕ) (at : ℕ) (f : FunctionPart × ℕ)
