@@ -25,13 +25,14 @@ use Rattle.typed_machine.specs.Turns.{Answer, Turned, turned, entry_of, kernel_g
 use Rattle.typed_machine.specs.Typing.{TypedAmong}
 use Rattle.typed_machine.specs.Words.{stack_pointer, esp_of, register_words}
 use Rattle.word_machine.specs.Memory.{MemoryView}
-use Rattle.word_machine.specs.Standing.{values_at, kept_values, CpuStands, ObjectsLie, MemoryStands}
+use Rattle.word_machine.specs.Standing.{values_at, kept_values, CpuStands, MemoryStands}
 use Rattle.word_machine.specs.Laws.{EmptyStacksAreFree}
 use Rattle.nucleus_calls.specs.declared.outcome.Leaving.{Leaving}
 use Rattle.nucleus_calls.specs.declared.outcome.Leaving.TheVariants as leaving
 use Rattle.nucleus_calls.specs.Nucleus.{NucleusView, state_by, NucleusStands}
 use Rattle.nucleus_calls.specs.Turning.{StandsBefore, StandsAfter, Leads, effect_of}
 use Rattle.nucleus_calls.specs.Calling.{fresh_cpu, GoesOn, KeepsCaller, RepliesAt, kind_of, value_of, reply_of}
+use Rattle.nucleus_calls.proofs.Restacked.{restacked}
 use Rattle.nucleus_calls.proofs.Switched.{current-is, fresh-stands, SwitchStands, switch-stands}
 
 -- the Nucleus with other memory, stacks and devices
@@ -100,24 +101,12 @@ yield-leads law image live s next cpu v h one to other was waits start starts k 
 caller-goes-on : (image : ImageParts) (live : ℕ → Bool) (t : State) (v : NucleusView) (reply next : ℕ) → NucleusStands image live t v
     → NucleusStands image live (runs (fresh_thread (Number reply) next) t.values t) v
 unfolding values_at
-caller-goes-on image live t v reply next h =
-    let memory = h.memory in
-    let lie : ObjectsLie live (runs (fresh_thread (Number reply) next) t.values t) =
-    record { short = memory.lie.short; aligned = memory.lie.aligned; inside = memory.lie.inside; apart = memory.lie.apart } in
-    record {
-      memory = record {
-        tables = memory.tables;
-        descriptors = memory.descriptors;
-        statics = memory.statics;
-        objects = memory.objects;
-        stacks = memory.stacks;
-        room = memory.room;
-        lie = lie;
-      };
-      stacks = h.stacks;
-      starts = h.starts;
-      devices = h.devices;
-    }
+caller-goes-on image live t v reply next h = record {
+  memory = restacked image live t (runs (fresh_thread (Number reply) next) t.values t) v.memory h.memory refl refl h.memory.stacks;
+  stacks = h.stacks;
+  starts = h.starts;
+  devices = h.devices;
+}
 
 pub reply-leads : (image : ImageParts) (live : ℕ → Bool) (s : State) (next : ℕ) (cpu : Cpu) (v : NucleusView) → StandsBefore image live s next cpu v → OneRuns v.stacks
     → (k reply : ℕ) (after : NucleusView) → RepliesAt image live s reply (Reply k s) after
@@ -145,24 +134,12 @@ reply-leads image live s next cpu v h one k reply after r turn turns before answ
 pub devices-stand : (image : ImageParts) (live : ℕ → Bool) (s : State) (v : NucleusView) (history : History) (devices : DevicesView) → NucleusStands image live s v
     → StandsFor devices history → NucleusStands image live (record s { devices = history }) (with_parts v v.memory v.stacks devices)
 unfolding values_at
-devices-stand image live s v history devices h stand =
-    let memory = h.memory in
-    let lie : ObjectsLie live (record s { devices = history }) =
-    record { short = memory.lie.short; aligned = memory.lie.aligned; inside = memory.lie.inside; apart = memory.lie.apart } in
-    record {
-      memory = record {
-        tables = memory.tables;
-        descriptors = memory.descriptors;
-        statics = memory.statics;
-        objects = memory.objects;
-        stacks = memory.stacks;
-        room = memory.room;
-        lie = lie;
-      };
-      stacks = h.stacks;
-      starts = h.starts;
-      devices = stand;
-    }
+devices-stand image live s v history devices h stand = record {
+  memory = restacked image live s (record s { devices = history }) v.memory h.memory refl refl h.memory.stacks;
+  stacks = h.stacks;
+  starts = h.starts;
+  devices = stand;
+}
 
 devices-typed : (image : ImageParts) (live : ℕ → Bool) (s : State) (history : History) → TypedAmong image live s → TypedAmong image live (record s { devices = history })
 devices-typed image live s history h =

@@ -1,5 +1,6 @@
 pub mod Tables
 pub mod Stores
+pub mod Restacked
 pub mod Switched
 pub mod Led
 pub mod Keeping

@@ -23,10 +23,11 @@ use Rattle.typed_machine.specs.Operands.{number_in}
 use Rattle.typed_machine.specs.Replies.{ReplyView, Replies, YieldsTo, Reply, is_stack, is_application, yield_to, state_number, get_stack_state, emptied, reset_stack, current_stack, happened, vga_text_write, code_taken, try_read_keyboard, count_items, start_timer, send_eoi}
 use Rattle.typed_machine.specs.Typing.{TypedAmong}
 use Rattle.typed_machine.specs.Words.{stack_pointer}
-use Rattle.word_machine.specs.Standing.{HoldsValues, values_at, kept_values, ObjectsLie}
+use Rattle.word_machine.specs.Standing.{HoldsValues, values_at, kept_values}
 use Rattle.nucleus_calls.specs.Nucleus.{NucleusView, state_by, states_by, NucleusStands}
 use Rattle.nucleus_calls.specs.Calling.{number_of, yield_refusal, KeepsCaller, RepliesAt, AsksOf}
 use Rattle.nucleus_calls.proofs.Tables.{set-here, set-elsewhere, states-get, states-set, StackThere}
+use Rattle.nucleus_calls.proofs.Restacked.{restacked}
 use Rattle.nucleus_calls.proofs.Switched.{current-is, there-is}
 use Rattle.nucleus_calls.proofs.Led.{with_parts, devices-stand}
 
@@ -144,25 +145,14 @@ values-emptied s n inside P k none was = go (k == s.current) (k == n) refl was
 
 emptied-stands : (image : ImageParts) (live : ℕ → Bool) (s : State) (v : NucleusView) → NucleusStands image live s v → (n : ℕ) → n < length s.stacks
     → NucleusStands image live (record s { stacks = slice_set s.stacks n EmptyStack }) (with_parts v v.memory (slice_set v.stacks n Empty) v.devices)
-emptied-stands image live s v h n inside =
-    let memory = h.memory in
-    let lie : ObjectsLie live (record s { stacks = slice_set s.stacks n EmptyStack }) =
-    record { short = memory.lie.short; aligned = memory.lie.aligned; inside = memory.lie.inside; apart = memory.lie.apart } in
-    record {
-      memory = record {
-        tables = memory.tables;
-        descriptors = memory.descriptors;
-        statics = memory.statics;
-        objects = memory.objects;
-        stacks = λ k there.
-            values-emptied s n inside (λ xs. HoldsValues v.memory (places_of s) (stack_pointer k (length xs)) xs) k (λ j w e. absurd (cc)) (memory.stacks k there);
-        room = memory.room;
-        lie = lie;
-      };
-      stacks = rw h.stacks (states-set (places_of s) 0 s.stacks n n EmptyStack (omega arith));
-      starts = h.starts;
-      devices = h.devices;
-    }
+emptied-stands image live s v h n inside = record {
+  memory = restacked image live s (record s { stacks = slice_set s.stacks n EmptyStack }) v.memory h.memory refl refl
+      (λ k there.
+      values-emptied s n inside (λ xs. HoldsValues v.memory (places_of s) (stack_pointer k (length xs)) xs) k (λ j w e. absurd (cc)) (h.memory.stacks k there));
+  stacks = rw h.stacks (states-set (places_of s) 0 s.stacks n n EmptyStack (omega arith));
+  starts = h.starts;
+  devices = h.devices;
+}
 
 -- a reset by an application is refused, and so is that of a stack which is not there or runs
 pub reset-by-application : (image : ImageParts) (live : ℕ → Bool) (s : State) (v : NucleusView) → TypedAmong image live s → NucleusStands image live s v → OneRuns v.stacks

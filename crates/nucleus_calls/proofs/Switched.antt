@@ -18,12 +18,13 @@ use Rattle.typed_machine.specs.Switches.{runs, handed_over, switched}
 use Rattle.typed_machine.specs.Typing.{TypedAmong}
 use Rattle.typed_machine.specs.Words.{stack_pointer, esp_of}
 use Rattle.word_machine.specs.Memory.{MemoryView, word_of}
-use Rattle.word_machine.specs.Standing.{HoldsValues, kept_values, values_at, CpuStands, ObjectsLie, MemoryStands}
+use Rattle.word_machine.specs.Standing.{HoldsValues, kept_values, values_at, CpuStands, MemoryStands}
 use Rattle.word_machine.specs.Laws.{Written, EmptyStacksAreFree}
 use Rattle.nucleus_calls.specs.Nucleus.{NucleusView, state_by, states_by, NucleusStands}
 use Rattle.nucleus_calls.specs.Turning.{SameTurn}
 use Rattle.nucleus_calls.specs.Calling.{fresh_cpu, GoesOn}
 use Rattle.nucleus_calls.proofs.Tables.{set-here, set-elsewhere, states-count, states-get, StackThere, stack-there, states-set}
+use Rattle.nucleus_calls.proofs.Restacked.{restacked}
 use Rattle.nucleus_calls.proofs.Stores.{written-there}
 
 -- a fresh thread's words
@@ -93,25 +94,15 @@ module _ {image : ImageParts} {live : ℕ → Bool} {s : State} {v : NucleusView
         → HoldsValues after (places_of s) (stack_pointer to (length values)) values
         → NucleusStands image live (next_state s left to thread values)
         (record { memory = after; stacks = table.handed_over v.stacks (state_by (places_of s) s.current left) to; starts = v.starts; devices = v.devices })
-    moved current after thread values memory holds =
-        let lie : ObjectsLie live (next_state s left to thread values) =
-        record { short = memory.lie.short; aligned = memory.lie.aligned; inside = memory.lie.inside; apart = memory.lie.apart } in
-        record {
-          memory = record {
-            tables = memory.tables;
-            descriptors = memory.descriptors;
-            statics = memory.statics;
-            objects = memory.objects;
-            stacks = λ n there.
-                values-switched (λ xs. HoldsValues after (places_of s) (stack_pointer n (length xs)) xs) thread values n (λ is. rw is holds) (λ k w h. absurd (cc))
-                (memory.stacks n there);
-            room = memory.room;
-            lie = lie;
-          };
-          stacks = states-switched current;
-          starts = stands.starts;
-          devices = stands.devices;
-        }
+    moved current after thread values memory holds = record {
+      memory = restacked image live s (next_state s left to thread values) after memory refl refl
+          (λ n there.
+          values-switched (λ xs. HoldsValues after (places_of s) (stack_pointer n (length xs)) xs) thread values n (λ is. rw is holds) (λ k w h. absurd (cc))
+          (memory.stacks n there));
+      stacks = states-switched current;
+      starts = stands.starts;
+      devices = stands.devices;
+    }
 
 -- what a switch leads to in the same turn, which the processor and the Nucleus stand for
 pub record SwitchStands (image : ImageParts) (live : ℕ → Bool) (s : State) (o : Option State) (cpu : Cpu) (v : NucleusView) : Type 0 where
