@@ -1,5 +1,5 @@
 -- A machine before its first turn stands for the first state.
-use Rattle.std.proofs.Common.{◌≡◌, ℕ, Bool, List, [], None, refl}
+use Rattle.std.proofs.Common.{ℕ, Bool, List, [], None, refl}
 use Rattle.device_model.specs.declared.events.Event.{Event}
 use Rattle.device_model.specs.EventFile.{InOrder}
 use Rattle.tal_types.specs.Contexts.{same}

@@ -1,33 +1,29 @@
 -- What an instruction of a turn comes to: processor and Nucleus go where the turn leads the state.
 use Rattle.std.specs.Prelude.{slice_index}
-use Rattle.std.specs.Option.{option_to_list}
-use Rattle.std.proofs.Common.{◌≡◌, ◌≢◌, ℕ, ◌+◌, ◌≤◌, ◌==◌, Bool, true, false, if◌then◌else◌, List, [], ◌∷◌, ◌++◌, Option, Some, None, refl, sym, ap, ◌∙◌, append-nil, arith}
+use Rattle.std.proofs.Common.{◌≡◌, ℕ, ◌≤◌, Bool, List, Option, Some, None, refl, sym, ap, ◌∙◌, append-nil}
 use Rattle.ia32_code.specs.declared.instruction.Reg.TheVariants.{Eax}
 use Rattle.ia32_code.specs.declared.instruction.Inst.{Inst}
 use Rattle.ia32_step.specs.declared.cpu.Cpu.{Cpu}
-use Rattle.device_model.specs.History.{History}
-use Rattle.device_model.specs.Devices.{StandsFor}
 use Rattle.stack_states.specs.declared.journal_entry.Entry.{Entry}
 use Rattle.tal_flow.specs.Rules.{next_address}
 use Rattle.tal_image.specs.Image.{ImageParts}
 use Rattle.tal_checker.specs.Running.{AcceptedRuns}
 use Rattle.typed_machine.specs.declared.ending.Ending.{Ending}
 use Rattle.typed_machine.specs.Values.{Word, all_objects}
-use Rattle.typed_machine.specs.States.{State, places_of, at_place}
+use Rattle.typed_machine.specs.States.{State, places_of}
 use Rattle.typed_machine.specs.Code.{inst_at}
 use Rattle.typed_machine.specs.Effects.{EffectView, Moves, Faults, Calls, Ends, Effect}
 use Rattle.typed_machine.specs.Turns.{Answer, Turned, turned, after_effect, instruction}
-use Rattle.typed_machine.specs.Typing.{TypedAmong, scope_of}
+use Rattle.typed_machine.specs.Typing.{scope_of}
 use Rattle.typed_safety.specs.Laws.{CallTyped, EffectTyped, WellTypedImagesKeepTyping}
 use Rattle.word_machine.specs.declared.step.Step.{Step}
 use Rattle.word_machine.specs.declared.step.Step.TheVariants as step
-use Rattle.word_machine.specs.Standing.{values_at, CpuStands, ObjectsLie, MemoryStands}
+use Rattle.word_machine.specs.Standing.{values_at, ObjectsLie}
 use Rattle.nucleus_calls.specs.declared.outcome.Leaving.{Leaving}
 use Rattle.nucleus_calls.specs.declared.outcome.Leaving.TheVariants as leaving
 use Rattle.nucleus_calls.specs.Nucleus.{NucleusView, NucleusStands}
 use Rattle.nucleus_calls.specs.Turning.{StandsBefore, SameTurn, AtInstruction, BothStand, Stepped, Leads, effect_of}
 use Rattle.nucleus_calls.specs.Laws.{CallsNameEntries}
-use Rattle.kernel_machine.specs.Built.{IsBuilt}
 use Rattle.kernel_machine.specs.Stepping.{TurnLeads, InTurn, ending_by, MayAct}
 use Rattle.kernel_machine.proofs.UnbuiltCalls.{built-calls-none, entry-least, entry-most}
 

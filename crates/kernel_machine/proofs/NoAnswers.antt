@@ -1,7 +1,7 @@
 -- Entries tell no answer of an allocation so far, since no turn has an entry of a call of the heap.
 use Rattle.std.specs.Prelude.{nat_le}
 use Rattle.std.specs.Option.{option_map, option_and_then, option_to_list}
-use Rattle.std.proofs.Common.{◌≡◌, ℕ, zero, suc, ◌==◌, Bool, true, false, if◌then◌else◌, List, [], ◌∷◌, ◌++◌, Option, Some, None, refl, ap, ◌∙◌, append_assoc, append-nil, arith}
+use Rattle.std.proofs.Common.{◌≡◌, ℕ, zero, suc, ◌==◌, Bool, true, false, if◌then◌else◌, List, [], ◌∷◌, ◌++◌, Option, Some, None, refl, ◌∙◌, append_assoc, append-nil, arith}
 use Rattle.std.proofs.lemmas.Bool.Decides.{nat_tests}
 use Rattle.ia32_code.specs.declared.instruction.Inst.{Inst}
 use Rattle.device_model.specs.declared.events.Event.{Event}
@@ -11,12 +11,12 @@ use Rattle.stack_states.specs.declared.journal_entry.EntryKind.TheVariants.{Call
 use Rattle.tal_flow.specs.Rules.{next_address}
 use Rattle.tal_image.specs.Image.{ImageParts}
 use Rattle.typed_machine.specs.declared.ending.Ending.{Ending}
-use Rattle.typed_machine.specs.States.{State, EmptyStack, InterruptedStack}
+use Rattle.typed_machine.specs.States.{State}
 use Rattle.typed_machine.specs.Code.{inst_at}
 use Rattle.typed_machine.specs.Effects.{EffectView, Moves, Faults, Calls, Ends, Effect}
 use Rattle.typed_machine.specs.Replies.{ReplyView, Replies, YieldsTo, Reply}
 use Rattle.typed_machine.specs.Turns.{Answer, Turned, turned, begun, line_granted, entry_of, kernel_goes_on, ended_by, replied, after_effect, instruction, interrupt_or, TurnOf}
-use Rattle.kernel_machine.specs.Machine.{answer_in_reply, entry_answer, answers_of}
+use Rattle.kernel_machine.specs.Machine.{entry_answer, answers_of}
 
 -- the turn's entry, if it has one, tells no answer
 abbrev pub TellsNone : Option Turned → Type 0

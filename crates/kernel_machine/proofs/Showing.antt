@@ -1,10 +1,10 @@
 -- A machine that stands for a typed state shows that state's words.
 use Rattle.std.specs.Prelude.{zero, suc, slice_index}
-use Rattle.std.specs.Option.{option_map, option_map_or}
-use Rattle.std.proofs.Common.{◌≡◌, ℕ, ◌+◌, ◌-◌, ◌*◌, ◌/◌, ◌%◌, ◌<◌, ◌≤◌, ◌==◌, Bool, true, false, if◌then◌else◌, List, [], ◌∷◌, length, map, Some, slice_get, refl, sym, ◌∙◌, ap, ap₂, arith}
+use Rattle.std.specs.Option.{option_map_or}
+use Rattle.std.proofs.Common.{◌≡◌, ℕ, ◌+◌, ◌-◌, ◌*◌, ◌/◌, ◌<◌, ◌≤◌, ◌==◌, Bool, true, false, if◌then◌else◌, List, [], ◌∷◌, length, map, Some, slice_get, refl, sym, ◌∙◌, ap, ap₂, arith}
 use Rattle.std.proofs.lemmas.Bool.Decides.{nat_tests}
 use Rattle.ia32_step.specs.declared.cpu.Cpu.{Cpu}
-use Rattle.object_layout.specs.Areas.{statics_start, stacks_start}
+use Rattle.object_layout.specs.Areas.{statics_start}
 use Rattle.device_model.specs.History.{History}
 use Rattle.device_model.specs.Devices.{StandsFor}
 use Rattle.object_layout.specs.declared.rows.FieldTy.{FieldTy}

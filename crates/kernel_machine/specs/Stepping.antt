@@ -5,7 +5,6 @@ use Rattle.std.specs.Option.{option_to_list}
 use Rattle.ia32_code.specs.declared.instruction.Inst.{Inst}
 use Rattle.ia32_step.specs.declared.cpu.Cpu.{Cpu}
 use Rattle.device_model.specs.declared.events.Event.{Event}
-use Rattle.device_model.specs.History.{History}
 use Rattle.device_model.specs.Devices.{after_events}
 use Rattle.stack_states.specs.declared.journal_entry.Entry.{Entry}
 use Rattle.tal_image.specs.Image.{ImageParts}
