@@ -3,11 +3,21 @@ use crate::case_heap::CaseHeap;
 use no_memory::NoMemory;
 use std::alloc::Global;
 
+// A number in decimal digits.
+fn read_decimal(digits: &str) -> Option<u32> {
+    digits.parse::<u32>().ok()
+}
+
+// A number in hexadecimal digits.
+fn read_hexadecimal(digits: &str) -> Option<u32> {
+    u32::from_str_radix(digits, 16).ok()
+}
+
 // A number, in decimal digits or as hexadecimal ones behind 0x.
 fn read_number(text: &str) -> Option<u32> {
     match text.strip_prefix("0x") {
-        Some(digits) => u32::from_str_radix(digits, 16).ok(),
-        None => text.parse::<u32>().ok(),
+        Some(digits) => read_hexadecimal(digits),
+        None => read_decimal(text),
     }
 }
 
