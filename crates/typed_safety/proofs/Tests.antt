@@ -50,6 +50,12 @@ null-test w u h = grind arith
 abbrev pub tested : ShownImage → State → Operand → Operand → FlagBits
 tested v s d x = (executed (inst.Test d x) (words_of s (word_among v s (d ∷ x ∷ [])))).flags
 
+-- where no rule fails, TEST of the operands has a kind
+test-kind-there : (l : Scope) (c : LiveContext) (s : State) (d x : Operand) → operand_rule (shown l.image) c s.thread.place (TestBits d x) ≡ None
+    → is_some (test_kind (resolved l c s d) (resolved l c s x)) ≡ true
+unfolding operand_rule
+test-kind-there l c s d x e = grind arith
+
 module _ (l : Scope) (result : Ty) (c : LiveContext) (s : State) (h : StateFits l result c s) (laws : ImageLaws l.image) (runs : RunsOn l.image) where
   -- two numbers
   numbers-tested : (d x : Operand) → IsFound l c s d → IsFound l c s x
@@ -113,7 +119,7 @@ module _ (l : Scope) (result : Ty) (c : LiveContext) (s : State) (h : StateFits 
   pub test-leads : (i : Inst) (len next : ℕ) (d x : Operand) → FormTells i (TestBits d x) → FormLeads l result c s i len next (TestBits d x)
   unfolding form_effect tests after_form operand_rule
   test-leads i len next d x tells e =
-      rw tells (go (test_kind (resolved l c s d) (resolved l c s x)) refl (grind arith))
+      rw tells (go (test_kind (resolved l c s d) (resolved l c s x)) refl (test-kind-there l c s d x e))
     where
       go : (o : Option FlagKind) → test_kind (resolved l c s d) (resolved l c s x) ≡ o → is_some o ≡ true
           → Leads l result (with_kind (unwrap_or o kind.Lost) c) next
