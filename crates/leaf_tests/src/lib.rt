@@ -11,8 +11,4 @@ mod heaps;
 #[cfg(test)]
 mod layouts;
 #[cfg(test)]
-mod names;
-#[cfg(test)]
 mod stacks;
-#[cfg(test)]
-mod texts;
