@@ -3,7 +3,7 @@ ghost use Rattle.std.specs.Prelude.{◌<◌, ◌^◌, length};
 use frame_tables::FrameTable;
 use std::alloc::{AllocError, Global};
 use std::test::Fail;
-use tal_checker::{CheckAnswer, check};
+use tal_checker::check;
 use tal_image::Image;
 use tal_types::FrameRow;
 
@@ -27,35 +27,6 @@ fn file_of(alloc: Global, code: &[u8]) -> Result<Vec<u8>, AllocError>
     push_numbers(&mut file, &[length, 0, 0, 0])?;
     file.extend_from_slice(code)?;
     Ok(file)
-}
-
-/// Where the image with this code is refused, by which rule.
-fn refusal(alloc: Global, code: &[u8]) -> Result<Option<CheckAnswer>, Fail>
-    requires { length code.now < 2 ^ 32 }
-{
-    let file = file_of(alloc, code)?;
-    let image = Image::read(alloc, &file)?;
-    Ok(check(alloc, image).err())
-}
-
-#[test]
-fn least_rule_is_answered(rt: HostRuntime) -> Result<(), Fail> {
-    let answer = refusal(rt.alloc(), &[0x01, 0xE4, 0xC3])?;
-    assert_eq!(rt;
-        answer,
-        Some(CheckAnswer::Refused {
-            address: 0x10_0000,
-            rule: 2
-        })
-    );
-    Ok(())
-}
-
-#[test]
-fn code_that_no_run_reaches_is_accepted(rt: HostRuntime) -> Result<(), Fail> {
-    let code = [0xB8, 5, 0, 0, 0, 0xC3, 0x01, 0xC8];
-    assert_eq!(rt; refusal(rt.alloc(), &code)?, None);
-    Ok(())
 }
 
 #[test]

@@ -13,8 +13,6 @@ mod frames;
 #[cfg(test)]
 mod images;
 #[cfg(test)]
-mod listings;
-#[cfg(test)]
 mod machine;
 #[cfg(test)]
 mod memory;
@@ -26,5 +24,3 @@ mod rules;
 mod test_image;
 #[cfg(test)]
 mod types;
-#[cfg(test)]
-mod words;
