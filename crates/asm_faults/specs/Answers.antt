@@ -1,0 +1,11 @@
+-- What a step of assembling answers, beside what it is by definition: a value, the first fault, or want of memory, which no
+-- definition speaks of.
+use Rattle.std.specs.Prelude.{◌≡◌, Result, Ok, Err}
+use Rattle.asm_faults.specs.declared.AsmFault.{AsmFault}
+use Rattle.asm_faults.specs.declared.AsmAnswer.{AsmAnswer}
+use Rattle.asm_faults.specs.declared.AsmAnswer.TheVariants as answer
+
+abbrev pub Gives : {A : Type 0} → Result A AsmAnswer → Result A AsmFault → Type 0
+Gives (Ok x) is = is ≡ Ok x
+Gives (Err (answer.Fault f)) is = is ≡ Err f
+Gives (Err answer.NoMemory) is = Unit {0}

@@ -1,0 +1,2 @@
+-- What a step answers beside its definition.
+pub mod Answers
