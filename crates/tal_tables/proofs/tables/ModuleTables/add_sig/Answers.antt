@@ -1,0 +1,17 @@
+use Rattle.std.proofs.Common.{sym, arith}
+use Rattle.tal_tables.proofs.Limits.{sig_room, one_more}
+use Rattle.tal_tables.proofs.tables.ModuleTables.add_sig.Goals as goal
+
+pub invariant_of-self-in-Ok : goal.invariant_of-self-in-Ok
+invariant_of-self-in-Ok c =
+    let few = c.self.invariant in
+    let room = sig_room _ _ _ _ _ _ (sym c.in-Ok.ensures) in
+    record {
+      sigs = one_more _ _ _ 4096 c.in_ok-push-in-Ok.ensures.items (omega (arith, c.len-rows.ensures));
+      functions = few.functions;
+      classes = few.classes;
+      kinds = few.kinds;
+      statics = few.statics;
+      arrays = few.arrays;
+      words = few.words;
+    }

@@ -1,0 +1,13 @@
+// The tables of a module's unit: what its lines make there, one after another, but for the code of functions.
+//
+// `ModuleTables` takes each line with the names that the module declares and those of its unit. A row names what it is by a
+// number among the unit's names. All lines of a class are taken at its first one.
+//
+// `take_row` (in specs/) says for each form of line what it makes, or the least code of its faults.
+#![tactic(auto)]
+
+mod lines;
+mod tables;
+mod trials;
+
+pub use tables::ModuleTables;
