@@ -195,6 +195,7 @@ fn meant_by(words: Words) -> Option<Inst>
 pub fn meant(words: Words) -> Option<Inst>
     ensures says { IfSome result (λ i. said_of i ≡ Some words) }
     ensures means { (i : Inst) → HasByteCount i → said_of i ≡ Some words → result ≡ Some i }
+    ensures one { result ≡ meant_by words }
 {
     meant_by(words)
 }
