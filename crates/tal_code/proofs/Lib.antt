@@ -8,3 +8,5 @@ pub mod Zeroes
 pub mod Rooms
 -- The lines of a function, one after another.
 pub mod CodeLines
+-- An instruction's bytes with 0 in its holes spell an instruction.
+pub mod OpenWords

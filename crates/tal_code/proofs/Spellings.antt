@@ -130,3 +130,11 @@ placeless o places x y some none = absurd (nowhere (sym some ∙ none))
   where
     nowhere : Some places ≡ None → ⊥
     nowhere e = cc
+
+-- The canonical spelling for words is a row of the table with parts that fit.
+pub filled_for : (w : Words) (i : Inst) (s : Spelling) → meant_by w ≡ Some i → IfSome (Canonical i) (λ t. Spells t i)
+    → ((s : Spelling) → Filled s → IsFirst s) → spelling_for w ≡ Some s → Filled s
+unfolding spelling_for
+filled_for w i s means spells first is =
+    let row : canonical_row i ≡ Some s = sym (ap (option_and_then canonical_row) means) ∙ is in
+    canonical_is_filled i s row (subst (λ o. IfSome o (λ t. Spells t i)) (ap (option_map text) row) spells) first

@@ -1,9 +1,9 @@
 -- An instruction's bytes: its canonical spelling, with 0 in the words that are left to the linker. While it is spelled a word
 -- that fits no byte stands for each of them, so that each has four bytes.
-use Rattle.std.specs.Prelude.{ℕ, ◌+◌, ◌≤◌, List, [], ◌∷◌, ◌++◌, length, take, drop, Option, Some, None, IfSome}
+use Rattle.std.specs.Prelude.{◌≡◌, ℕ, ◌+◌, ◌≤◌, List, [], ◌∷◌, ◌++◌, length, take, drop, Option, Some, None, IfSome}
 use Rattle.std.specs.Option.{option_and_then, option_map, option_or}
 use Rattle.ia32_code.specs.declared.spelling.Spelling.{Spelling}
-use Rattle.ia32_code.specs.Spells.{text}
+use Rattle.ia32_code.specs.Spells.{Filled, text}
 use Rattle.ia32_code.specs.Canonical.{canonical_row}
 use Rattle.ia32_code.specs.WholeWords.{word_offsets}
 use Rattle.code_words.specs.declared.words.Words.{Words}
@@ -69,3 +69,9 @@ IsWithin bytes place = IfSome place (λ (p : HolePlace). p.at + 4 ≤ length byt
 pub record PlacesWithin (c : HoledCode) : Type 0 where
   pub near : IsWithin c.bytes c.near
   pub far : IsWithin c.bytes c.far
+
+-- the bytes with 0 in the holes are those of a filled row of the table
+pub record IsOpen (c : HoledCode) : Type 0 where
+  pub spelling : Spelling
+  pub filled : Filled spelling
+  pub bytes : open_bytes c ≡ text spelling
