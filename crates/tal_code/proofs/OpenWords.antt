@@ -14,7 +14,7 @@ use Rattle.tal_operands.specs.declared.operands.Hole.{Hole}
 use Rattle.tal_operands.specs.declared.instructions.Instruction.{Instruction}
 use Rattle.tal_code.specs.declared.holes.HolePlace.{HolePlace}
 use Rattle.tal_code.specs.declared.holes.HoledCode.{HoledCode}
-use Rattle.tal_code.specs.Holes.{spelling_for, spelled_as, placed, with_places, holed_code, zero_word, zeroed, zeroed_hole, open_bytes, IsOpen}
+use Rattle.tal_code.specs.Holes.{spelling_for, spelled_as, hole_place, with_places, holed_code, zero_word, zeroed, zeroed_hole, open_bytes, IsOpen}
 
 -- The bytes with 0 in the word at a place, by the bytes before it and behind it.
 pub zeroed_between : (before behind t : List ℕ) (word : ℕ) → t ≡ before ++ to_le_bytes w32 word ++ behind
@@ -124,8 +124,8 @@ IsAt None place = Unit {0}
 IsAt (Some p) place = place ≡ Some p.at
 
 -- A hole that is placed lies there.
-pub placed_at : (h : Option Hole) (place : Option ℕ) (o : Option HolePlace) → placed h place ≡ Some o → IsAt o place
-unfolding placed
+pub placed_at : (h : Option Hole) (place : Option ℕ) (o : Option HolePlace) → hole_place h place ≡ Some o → IsAt o place
+unfolding hole_place
 placed_at None place o e = subst (λ o. IsAt o place) (one None o e) tt
 placed_at (Some h) None o e = cc
 placed_at (Some h) (Some k) o e = subst (λ o. IsAt o (Some k)) (one (Some (record { at = k; hole = h })) o e) refl
@@ -158,22 +158,22 @@ opened_text s c bytes filled fits ends near far = by_far c.far refl far
 -- What has places is opened.
 pub with_places_opens : (i : Instruction) (s : Spelling) (c : HoledCode) → Filled s → AnyFits → EndsStay → with_places i (spelled_as s) ≡ Some c → IsOpen c
 unfolding with_places spelled_as
-with_places_opens i s c filled fits ends e = by_near (placed i.near (option_or (word_offset Within s) (word_offset AtEnd s))) refl e
+with_places_opens i s c filled fits ends e = by_near (hole_place i.near (option_or (word_offset Within s) (word_offset AtEnd s))) refl e
   where
     far_of : Option HolePlace → Option (Option HolePlace) → Option HoledCode
     far_of near o = option_map (λ far. record { bytes = text s; near = near; far = far }) o
 
-    by_far : (near : Option HolePlace) (o : Option (Option HolePlace)) → placed i.far (word_offset AtEnd s) ≡ o
+    by_far : (near : Option HolePlace) (o : Option (Option HolePlace)) → hole_place i.far (word_offset AtEnd s) ≡ o
         → IsAt near (option_or (word_offset Within s) (word_offset AtEnd s)) → far_of near o ≡ Some c → IsOpen c
     by_far near None is at e = cc
     by_far near (Some far) is at e =
         subst IsOpen (one (record { bytes = text s; near = near; far = far }) c e)
         (opened_text s (record { bytes = text s; near = near; far = far }) refl filled fits ends at (placed_at i.far (word_offset AtEnd s) far is))
 
-    by_near : (o : Option (Option HolePlace)) → placed i.near (option_or (word_offset Within s) (word_offset AtEnd s)) ≡ o
-        → option_and_then (λ near. far_of near (placed i.far (word_offset AtEnd s))) o ≡ Some c → IsOpen c
+    by_near : (o : Option (Option HolePlace)) → hole_place i.near (option_or (word_offset Within s) (word_offset AtEnd s)) ≡ o
+        → option_and_then (λ near. far_of near (hole_place i.far (word_offset AtEnd s))) o ≡ Some c → IsOpen c
     by_near None is e = cc
-    by_near (Some near) is e = by_far near (placed i.far (word_offset AtEnd s)) refl (placed_at i.near _ near is) e
+    by_near (Some near) is e = by_far near (hole_place i.far (word_offset AtEnd s)) refl (placed_at i.near _ near is) e
 
 -- An instruction that has a canonical spelling is opened.
 pub opens : (i : Instruction) (c : HoledCode) → ((s : Spelling) → spelling_for i.words ≡ Some s → Filled s) → AnyFits → EndsStay → holed_code i ≡ Some c → IsOpen c

@@ -23,17 +23,17 @@ unfoldable pub spelled_as : Spelling → SpelledWords
 spelled_as s = record { bytes = text s; places = word_offsets s }
 
 -- A hole lies in a whole word. Where there is none for it, the instruction has no spelling.
-unfoldable pub placed : Option Hole → Option ℕ → Option (Option HolePlace)
-placed None place = Some None
-placed (Some h) None = None
-placed (Some h) (Some k) = Some (Some (record { at = k; hole = h }))
+unfoldable pub hole_place : Option Hole → Option ℕ → Option (Option HolePlace)
+hole_place None place = Some None
+hole_place (Some h) None = None
+hole_place (Some h) (Some k) = Some (Some (record { at = k; hole = h }))
 
 -- The hole of an address is the word within, or the one at the end, as in MOV of EAX and an address; the other hole is the
 -- word at the end.
 unfoldable pub with_places : Instruction → SpelledWords → Option HoledCode
 with_places i s =
-    option_and_then (λ near. option_map (λ far. record { bytes = s.bytes; near = near; far = far }) (placed i.far s.places.at_end))
-    (placed i.near (option_or s.places.within s.places.at_end))
+    option_and_then (λ near. option_map (λ far. record { bytes = s.bytes; near = near; far = far }) (hole_place i.far s.places.at_end))
+    (hole_place i.near (option_or s.places.within s.places.at_end))
 
 -- the bytes of an instruction with the places of its holes, if it has a spelling
 unfoldable pub holed_code : Instruction → Option HoledCode

@@ -2,7 +2,7 @@
 ghost use Rattle.std.specs.Prelude.{◌≡◌, ℕ, ◌+◌, ◌≤◌, List, length, IfSome};
 ghost use Rattle.std.specs.Option.{option_map, option_or};
 ghost use Rattle.code_words.specs.Meaning.{meant_by};
-ghost use Rattle.tal_code.specs.Holes.{spelling_for, spelled_as, placed, with_places, holed_code, WordsWithin, IsWithin, PlacesWithin};
+ghost use Rattle.tal_code.specs.Holes.{spelling_for, spelled_as, hole_place, with_places, holed_code, WordsWithin, IsWithin, PlacesWithin};
 ghost use Rattle.tal_code.specs.Labels.{words_length};
 
 use code_words::{Words, meant};
@@ -57,9 +57,9 @@ fn spelled(words: Words) -> Option<SpelledWords>
 }
 
 // A hole in a whole word. None where there is a hole and no word for it.
-#[tactic(auto, unfolding(crate::specs::Holes::placed))]
-fn placed(hole: Option<Hole>, place: Option<u8>) -> Option<Option<HolePlace>>
-    ensures place { result ≡ placed hole place }
+#[tactic(auto, unfolding(crate::specs::Holes::hole_place))]
+fn hole_place(hole: Option<Hole>, place: Option<u8>) -> Option<Option<HolePlace>>
+    ensures place { result ≡ hole_place hole place }
     ensures within { (bytes : List ℕ) → IfSome place (λ k. k + 4 ≤ length bytes) → IfSome result (IsWithin bytes) }
 {
     match hole {
@@ -91,8 +91,8 @@ fn with_places(instruction: &Instruction, spelled: SpelledWords) -> Option<Holed
     ensures within { IfSome result PlacesWithin }
 {
     let SpelledWords { bytes, places } = spelled;
-    let near = placed(instruction.near, first_of(places.within, places.at_end))?;
-    let far = placed(instruction.far, places.at_end)?;
+    let near = hole_place(instruction.near, first_of(places.within, places.at_end))?;
+    let far = hole_place(instruction.far, places.at_end)?;
     Some(HoledCode { bytes, near, far })
 }
 
