@@ -5,7 +5,7 @@ use Rattle.asm_faults.specs.declared.AsmFault.{AsmFault}
 use Rattle.asm_faults.specs.declared.AsmAnswer.{AsmAnswer}
 use Rattle.asm_faults.specs.declared.AsmAnswer.TheVariants as answer
 
-abbrev pub Gives : {A : Type 0} → Result A AsmAnswer → Result A AsmFault → Type 0
-Gives (Ok x) is = is ≡ Ok x
-Gives (Err (answer.Fault f)) is = is ≡ Err f
-Gives (Err answer.NoMemory) is = Unit {0}
+abbrev pub AnswersBy : {A : Type 0} → Result A AsmAnswer → Result A AsmFault → Type 0
+AnswersBy (Ok x) is = is ≡ Ok x
+AnswersBy (Err (answer.Fault f)) is = is ≡ Err f
+AnswersBy (Err answer.NoMemory) is = Unit {0}

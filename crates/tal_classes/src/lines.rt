@@ -1,6 +1,6 @@
 // The lines of a class one after another.
 ghost use Rattle.std.specs.Prelude.{◌≡◌};
-ghost use Rattle.asm_faults.specs.Answers.{Gives};
+ghost use Rattle.asm_faults.specs.Answers.{AnswersBy};
 ghost use Rattle.tal_names.specs.Declarations.{shown};
 ghost use Rattle.tal_classes.specs.Members.{so_far, take_member, class_row};
 ghost use Rattle.tal_classes.specs.Steps.{IsTaken};
@@ -66,7 +66,7 @@ pub fn class_row(
     parent: Option<u32>,
     behind: &[TextLine],
 ) -> Result<ClassRow, AsmAnswer>
-    ensures { Gives result (class_row (shown names.now) rows.now parent behind.now) }
+    ensures { AnswersBy result (class_row (shown names.now) rows.now parent behind.now) }
 {
     let mut class = OpenClass::begin(alloc, rows, parent)?;
     let mut left = behind;

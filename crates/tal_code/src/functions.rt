@@ -3,7 +3,7 @@ ghost use Rattle.std.specs.Prelude.{◌≡◌, length, IfOk};
 ghost use Rattle.std.specs.Option.{unwrap_or};
 ghost use Rattle.tal_names.specs.Declarations.{shown};
 ghost use Rattle.tal_rows.specs.Lines.{slots_of, is_twice};
-ghost use Rattle.asm_faults.specs.Answers.{Gives};
+ghost use Rattle.asm_faults.specs.Answers.{AnswersBy};
 ghost use Rattle.tal_code.specs.Functions.{UnitCodeView, inst_line, begins_with_inst, is_placed, slot_types, block_line, has_code, at_line, with_lines, function_code};
 
 use crate::holes::holed_code;
@@ -94,7 +94,7 @@ impl UnitCode {
         args: &[Arg],
         distance: Option<i32>,
     ) -> Result<UnitCode, AsmAnswer>
-        ensures { Gives result (at_line number (inst_line (shown names.now) self mnemonic args.now distance)) }
+        ensures { AnswersBy result (at_line number (inst_line (shown names.now) self mnemonic args.now distance)) }
     {
         let instruction = instruction_of(names, mnemonic, args, distance.unwrap_or(0));
         let holed = holed_code(&instruction);
@@ -119,7 +119,7 @@ impl UnitCode {
         slots: &Option<TypeTextList>,
         is_placed: bool,
     ) -> Result<UnitCode, AsmAnswer>
-        ensures { Gives result (at_line number (block_line (shown names.now) self regs.now slots.now is_placed)) }
+        ensures { AnswersBy result (at_line number (block_line (shown names.now) self regs.now slots.now is_placed)) }
     {
         match label_line(names, regs, slots, is_placed, self.block_count()) {
             Err(code) => Err(AsmAnswer::Fault(AsmFault { line: number, code })),
@@ -157,7 +157,7 @@ impl UnitCode {
         labels: &Labels,
         lines: &[TextLine],
     ) -> Result<UnitCode, AsmAnswer>
-        ensures { Gives result (with_lines (shown names.now) labels.now self self lines.now) }
+        ensures { AnswersBy result (with_lines (shown names.now) labels.now self self lines.now) }
     {
         let start = self.len();
         let blocks = self.block_count();
@@ -202,7 +202,7 @@ impl UnitCode {
         names: &ModuleNames,
         lines: &[TextLine],
     ) -> Result<UnitCode, AsmAnswer>
-        ensures { Gives result (function_code (shown names.now) self lines.now) }
+        ensures { AnswersBy result (function_code (shown names.now) self lines.now) }
     {
         let labels = Labels::of(alloc, names, self.len(), lines)?;
         self.with_lines(alloc, names, &labels, lines)

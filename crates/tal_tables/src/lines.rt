@@ -1,6 +1,6 @@
 // The lines of a module that make rows, a function each.
 ghost use Rattle.std.specs.Prelude.{◌≡◌, ◌<◌, true, length, IfOk, OnOk};
-ghost use Rattle.asm_faults.specs.Answers.{Gives};
+ghost use Rattle.asm_faults.specs.Answers.{AnswersBy};
 ghost use Rattle.tal_names.specs.Declarations.{shown};
 ghost use Rattle.tal_rows.specs.Lines.{sig_line, kind_line, static_line, data_line, function_line, class_line, entry_line};
 ghost use Rattle.tal_classes.specs.Members.{class_row};
@@ -236,7 +236,7 @@ impl ModuleTables {
         sig: &Name,
         has_code: bool,
     ) -> Result<u32, AsmAnswer>
-        ensures sig { Gives result (at_line line (function_line (shown names.now) name.now sig.now has_code (length self.now.functions))) }
+        ensures sig { AnswersBy result (at_line line (function_line (shown names.now) name.now sig.now has_code (length self.now.functions))) }
         ensures room { IfOk result (λ _. length self.now.functions < 16384) }
     {
         match function_line(names, name, sig, has_code, self.functions()) {
