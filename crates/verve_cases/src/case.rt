@@ -25,6 +25,12 @@ pub struct Case {
     pub lines: usize,
 }
 
+/// Adds a text to others.
+pub fn add_string(alloc: Global, strings: &mut Vec<String>, text: &str) -> Result<(), AllocError> {
+    strings.push(String::from_str(alloc, text)?)?;
+    Ok(())
+}
+
 fn read_number(text: &str) -> Result<usize, Unread> {
     text.parse::<usize>().map_err(|_| Unread::Form)
 }
@@ -51,18 +57,41 @@ fn find_bytes<'a>(files: &'a [CaseFile], name: &str) -> Option<&'a [u8]> {
     None
 }
 
-// Gives the byte at an offset another value: the offset, and two hexadecimal digits.
-fn set_byte(bytes: &mut [u8], place: &str) -> Result<(), Unread> {
-    let Some((offset, digits)) = place.split_once(' ') else {
-        return Err(Unread::Form);
-    };
-    let offset = read_number(offset)?;
-    let value = u8::from_str_radix(digits, 16).map_err(|_| Unread::Form)?;
+// A byte in two hexadecimal digits.
+fn read_byte(digits: &str) -> Result<u8, Unread> {
+    u8::from_str_radix(digits, 16).map_err(|_| Unread::Form)
+}
+
+// Gives the byte at an offset another value.
+fn put_byte(bytes: &mut [u8], offset: usize, value: u8) -> Result<(), Unread> {
     match bytes.get_mut(offset) {
-        Some(byte) => *byte = value,
-        None => return Err(Unread::Form),
+        Some(byte) => {
+            *byte = value;
+            Ok(())
+        }
+        None => Err(Unread::Form),
     }
+}
+
+// Gives a byte another value: its offset, and two hexadecimal digits.
+fn set_byte(bytes: &mut [u8], place: &str) -> Result<(), Unread> {
+    match place.split_once(' ') {
+        Some((offset, digits)) => put_byte(bytes, read_number(offset)?, read_byte(digits)?),
+        None => Err(Unread::Form),
+    }
+}
+
+// Puts a text with a line feed behind bytes.
+fn add_text(bytes: &mut Vec<u8>, text: &str) -> Result<(), AllocError> {
+    bytes.extend_from_slice(text.as_bytes())?;
+    bytes.push(b'\n')?;
     Ok(())
+}
+
+// Puts bytes 0 behind others.
+fn add_zeros(alloc: Global, bytes: &mut Vec<u8>, count: usize) -> Result<(), AllocError> {
+    let zeros = vec![in alloc; 0u8; count]?;
+    bytes.extend_from_slice(&zeros)
 }
 
 // Takes a line on the bytes of the file that was begun last.
@@ -70,22 +99,22 @@ fn take_bytes(alloc: Global, bytes: &mut Vec<u8>, word: &str, rest: &str) -> Res
     match word {
         "hex" => add_digits(alloc, bytes, rest),
         "set" => set_byte(bytes, rest),
-        "text" => {
-            bytes.extend_from_slice(rest.as_bytes())?;
-            bytes.push(b'\n')?;
-            Ok(())
-        }
-        "zeros" => {
-            let zeros = vec![in alloc; 0u8; read_number(rest)?]?;
-            bytes.extend_from_slice(&zeros)?;
-            Ok(())
-        }
+        "text" => Ok(add_text(bytes, rest)?),
+        "zeros" => Ok(add_zeros(alloc, bytes, read_number(rest)?)?),
         "cut" => {
             bytes.truncate(read_number(rest)?);
             Ok(())
         }
         _ => Err(Unread::Form),
     }
+}
+
+// A call that fails: its number, and how many bytes still go through.
+fn read_failing(call: &str, through: &str) -> Result<FailingCall, Unread> {
+    Ok(FailingCall {
+        call: call.parse::<u64>().map_err(|_| Unread::Form)?,
+        through: read_number(through)?,
+    })
 }
 
 impl Case {
@@ -102,12 +131,6 @@ impl Case {
         })
     }
 
-    // Takes the words of a command.
-    fn take_words(&mut self, alloc: Global, words: &str) -> Result<(), Unread> {
-        self.commands.push(String::from_str(alloc, words)?)?;
-        Ok(())
-    }
-
     // Begins a file, which has no bytes yet.
     fn begin_file(&mut self, alloc: Global, name: &str) -> Result<(), Unread> {
         let file = CaseFile {
@@ -118,36 +141,53 @@ impl Case {
         Ok(())
     }
 
+    // Puts bytes behind those of the file that was begun last.
+    fn add_bytes(&mut self, more: &[u8]) -> Result<(), Unread> {
+        match self.files.last_mut() {
+            Some(file) => Ok(file.bytes.extend_from_slice(more)?),
+            None => Err(Unread::Form),
+        }
+    }
+
+    // The bytes of a piece, or of a file that was begun before.
+    fn copy_bytes(
+        &self,
+        alloc: Global,
+        pieces: &[CaseFile],
+        name: &str,
+    ) -> Result<Vec<u8>, Unread> {
+        match find_bytes(pieces, name).or(find_bytes(&self.files, name)) {
+            Some(bytes) => Ok(bytes.to_vec(alloc)?),
+            None => Err(Unread::Form),
+        }
+    }
+
     // Puts the bytes of a piece, or of a file that was begun before, behind those of the file that was begun last.
     fn add_file(&mut self, alloc: Global, pieces: &[CaseFile], name: &str) -> Result<(), Unread> {
-        let found = find_bytes(pieces, name).or(find_bytes(&self.files, name));
-        let more = found.ok_or(Unread::Form)?.to_vec(alloc)?;
-        let file = self.files.last_mut().ok_or(Unread::Form)?;
-        file.bytes.extend_from_slice(&more)?;
+        let more = self.copy_bytes(alloc, pieces, name)?;
+        self.add_bytes(&more)
+    }
+
+    // Takes a call of files or of a sink that fails.
+    fn add_failing(&mut self, of: &str, failing: FailingCall) -> Result<(), Unread> {
+        match of {
+            "files" => self.failing_files.push(failing)?,
+            "out" => self.failing_out.push(failing)?,
+            "err" => self.failing_err.push(failing)?,
+            _ => return Err(Unread::Form),
+        }
         Ok(())
     }
 
     // Takes a call that fails: whose it is, its number, and how many bytes still go through.
     fn take_failure(&mut self, failure: &str) -> Result<(), Unread> {
-        let mut parts = failure.split(' ');
-        let (Some(of), Some(call), Some(through), None) = (
-            parts.next(),
-            parts.next(),
-            parts.next(),
-            parts.next(),
-        ) else {
+        let Some((of, rest)) = failure.split_once(' ') else {
             return Err(Unread::Form);
         };
-        let call = call.parse::<u64>().map_err(|_| Unread::Form)?;
-        let through = read_number(through)?;
-        let failure = FailingCall { call, through };
-        match of {
-            "files" => self.failing_files.push(failure)?,
-            "out" => self.failing_out.push(failure)?,
-            "err" => self.failing_err.push(failure)?,
-            _ => return Err(Unread::Form),
+        match rest.split_once(' ') {
+            Some((call, through)) => self.add_failing(of, read_failing(call, through)?),
+            None => Err(Unread::Form),
         }
-        Ok(())
     }
 
     /// Takes a line: its first word, and what stands behind the space after it.
@@ -159,7 +199,7 @@ impl Case {
         rest: &str,
     ) -> Result<(), Unread> {
         match word {
-            "words" => self.take_words(alloc, rest),
+            "words" => Ok(add_string(alloc, &mut self.commands, rest)?),
             "file" => self.begin_file(alloc, rest),
             "add" => self.add_file(alloc, pieces, rest),
             "fails" => self.take_failure(rest),

@@ -1,10 +1,12 @@
 // A case is played: the top call over files and sinks in memory.
-use crate::case::Case;
+//
+// A function makes at most two values that a want of memory lets go, and passes them on: a prover goes through each such path.
+use crate::case::{Case, CaseFile, add_string};
+use crate::transcript::{Came, show};
 use kernel_machine::Machine;
 use no_memory::NoMemory;
 use nucleus_calls::Journal;
 use outside::{FailingFiles, FailingSink, FileRoom, Files};
-use stack_states::Entry;
 use std::alloc::{AllocError, Global};
 use verve_tool::verve;
 
@@ -13,48 +15,44 @@ const OUT_ROOM: usize = 1_000_000;
 
 const ERR_ROOM: usize = 1_000;
 
-/// What a command came to.
-#[derive(Drop)]
-pub struct Came {
-    /// The number of its status.
-    pub status: u8,
-    /// How many turns the machine that is kept has taken, where one is kept.
-    pub turns: Option<u32>,
-    /// The entries of the journal.
-    pub entries: Vec<Entry>,
-    /// How many reads, and how many calls of each sink, failed.
-    pub read_faults: u64,
-    pub out_faults: u64,
-    pub err_faults: u64,
-    /// What the sinks took.
-    pub out: Vec<u8>,
-    pub err: Vec<u8>,
-}
-
-// The files of a case. The writes that put them there are the first calls.
-fn make_files(alloc: Global, case: &Case) -> Result<FailingFiles, NoMemory> {
-    let mut rooms = Vec::with_capacity(alloc, case.files.len())?;
-    for file in &case.files {
+// Adds the room that each file needs.
+fn add_rooms<'a>(rooms: &mut Vec<FileRoom<'a>>, files: &'a [CaseFile]) -> Result<(), AllocError> {
+    for file in files {
         rooms.push(FileRoom {
             name: file.name.as_str(),
             room: file.bytes.len(),
         })?;
     }
-    let mut files = FailingFiles::new(alloc, &rooms, &case.failing_files)?;
-    for file in &case.files {
-        // One that is to fail leaves a front.
-        let _ = files.write(file.name.as_str(), &file.bytes);
-    }
-    Ok(files)
+    Ok(())
 }
 
-// The words of a command, which a bar parts. A command of no letters has no words.
+// Room for the files of a case, of which none is there yet.
+fn make_room(alloc: Global, case: &Case) -> Result<FailingFiles, NoMemory> {
+    let mut rooms = Vec::new(alloc);
+    add_rooms(&mut rooms, &case.files)?;
+    FailingFiles::new(alloc, &rooms, &case.failing_files)
+}
+
+// Puts the files there: the first calls. One that is to fail leaves a front.
+fn write_files(files: &mut FailingFiles, written: &[CaseFile]) {
+    for file in written {
+        let _ = files.write(file.name.as_str(), &file.bytes);
+    }
+}
+
+// Adds the words of a command, which a bar parts.
+fn add_words(alloc: Global, words: &mut Vec<String>, command: &str) -> Result<(), AllocError> {
+    for word in command.split('|') {
+        add_string(alloc, words, word)?;
+    }
+    Ok(())
+}
+
+// The words of a command. One of no letters has no words.
 fn split_words(alloc: Global, command: &str) -> Result<Vec<String>, AllocError> {
     let mut words = Vec::new(alloc);
     if !command.is_empty() {
-        for word in command.split('|') {
-            words.push(String::from_str(alloc, word)?)?;
-        }
+        add_words(alloc, &mut words, command)?;
     }
     Ok(words)
 }
@@ -72,48 +70,58 @@ fn call(
     verve(alloc, words, files, out, err, journal, kept).number()
 }
 
-// What was told of a call, in buffers of its own.
-fn came_to(
-    alloc: Global,
-    status: u8,
-    turns: Option<u32>,
-    journal: &Journal,
-    files: &FailingFiles,
-    out: &FailingSink,
-    err: &FailingSink,
-) -> Result<Came, NoMemory> {
-    Ok(Came {
-        status,
-        turns,
-        entries: journal.entries().to_vec(alloc)?,
-        read_faults: files.read_faults(),
-        out_faults: out.faults(),
-        err_faults: err.faults(),
-        out: out.bytes().to_vec(alloc)?,
-        err: err.bytes().to_vec(alloc)?,
-    })
+// How many turns the machine that is kept has taken.
+fn turns_of(kept: &Option<Machine>) -> Option<u32> {
+    match kept {
+        Some(machine) => Some(machine.turns_taken()),
+        None => None,
+    }
 }
 
-// Plays words over files and sinks.
+// Plays words over files and sinks, and adds what they came to.
 fn play_over(
     alloc: Global,
+    text: &mut String,
     words: &[String],
     files: &mut FailingFiles,
     out: &mut FailingSink,
     err: &mut FailingSink,
-) -> Result<Came, NoMemory> {
+    most: usize,
+) -> Result<(), AllocError> {
     let mut journal = Journal::new(alloc);
     let mut kept = None;
     let status = call(alloc, words, files, out, err, &mut journal, &mut kept);
-    let turns = kept.as_ref().map(|machine| machine.turns_taken());
-    came_to(alloc, status, turns, &journal, files, out, err)
+    let came = Came {
+        status,
+        turns: turns_of(&kept),
+        entries: journal.entries(),
+        read_faults: files.read_faults(),
+        out_faults: out.faults(),
+        err_faults: err.faults(),
+        out: out.bytes(),
+        err: err.bytes(),
+    };
+    show(text, &came, most)
 }
 
-/// Plays a command of a case.
-pub fn play(alloc: Global, case: &Case, command: &str) -> Result<Came, NoMemory> {
-    let words = split_words(alloc, command)?;
-    let mut files = make_files(alloc, case)?;
+// Plays words over files, with sinks of its own.
+fn play_with(
+    alloc: Global,
+    text: &mut String,
+    case: &Case,
+    words: &[String],
+    files: &mut FailingFiles,
+) -> Result<(), NoMemory> {
     let mut out = FailingSink::new(alloc, OUT_ROOM, &case.failing_out)?;
     let mut err = FailingSink::new(alloc, ERR_ROOM, &case.failing_err)?;
-    play_over(alloc, &words, &mut files, &mut out, &mut err)
+    play_over(alloc, text, words, files, &mut out, &mut err, case.lines)?;
+    Ok(())
+}
+
+/// Plays a command of a case, and adds what it came to.
+pub fn play(alloc: Global, text: &mut String, case: &Case, command: &str) -> Result<(), NoMemory> {
+    let words = split_words(alloc, command)?;
+    let mut files = make_room(alloc, case)?;
+    write_files(&mut files, &case.files);
+    play_with(alloc, text, case, &words, &mut files)
 }

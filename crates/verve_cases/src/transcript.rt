@@ -1,7 +1,24 @@
 // What a command came to, as text.
-use crate::playing::Came;
 use stack_states::{Entry, EntryKind};
 use std::alloc::AllocError;
+
+/// What a command came to.
+#[derive(Drop)]
+pub struct Came<'a> {
+    /// The number of its status.
+    pub status: u8,
+    /// How many turns the machine that is kept has taken, where one is kept.
+    pub turns: Option<u32>,
+    /// The entries of the journal.
+    pub entries: &'a [Entry],
+    /// How many reads, and how many calls of each sink, failed.
+    pub read_faults: u64,
+    pub out_faults: u64,
+    pub err_faults: u64,
+    /// What the sinks took.
+    pub out: &'a [u8],
+    pub err: &'a [u8],
+}
 
 // Adds a line that a sink took. One that stands there several times in a row is shown once, with how often. The bars show
 // where it begins and ends; one that lacks its LF lacks the second bar.
@@ -53,24 +70,32 @@ fn show_entry(text: &mut String, entry: &Entry) -> Result<(), AllocError> {
     text.push('\n')
 }
 
-/// Adds what a command came to: a line of numbers, the journal, and what the sinks took, of `out` so many lines at most.
-pub fn show(text: &mut String, came: &Came, most: usize) -> Result<(), AllocError> {
-    write!(text, "  status {}, ", came.status)?;
-    match came.turns {
-        Some(turns) => write!(text, "kept after {turns} turns")?,
-        None => write!(text, "none kept")?,
+// Adds how many turns the machine that is kept has taken.
+fn show_kept(text: &mut String, turns: Option<u32>) -> Result<(), AllocError> {
+    match turns {
+        Some(turns) => write!(text, "kept after {turns} turns"),
+        None => text.push_str("none kept"),
     }
+}
+
+// Adds the line of numbers.
+fn show_numbers(text: &mut String, came: &Came<'_>) -> Result<(), AllocError> {
+    write!(text, "  status {}, ", came.status)?;
+    show_kept(text, came.turns)?;
+    write!(text, ", entries {}, failed: ", came.entries.len())?;
     writeln!(
         text,
-        ", entries {}, failed: read {}, out {}, err {}",
-        came.entries.len(),
-        came.read_faults,
-        came.out_faults,
-        came.err_faults
-    )?;
-    for entry in &came.entries {
+        "read {}, out {}, err {}",
+        came.read_faults, came.out_faults, came.err_faults
+    )
+}
+
+/// Adds what a command came to: a line of numbers, the journal, and what the sinks took, of `out` so many lines at most.
+pub fn show(text: &mut String, came: &Came<'_>, most: usize) -> Result<(), AllocError> {
+    show_numbers(text, came)?;
+    for entry in came.entries {
         show_entry(text, entry)?;
     }
-    show_lines(text, "out", &came.out, most)?;
-    show_lines(text, "err", &came.err, usize::MAX)
+    show_lines(text, "out", came.out, most)?;
+    show_lines(text, "err", came.err, usize::MAX)
 }
