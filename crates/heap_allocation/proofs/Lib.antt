@@ -1,0 +1,5 @@
+pub mod Gaps
+pub mod Takes
+pub mod Layouts
+pub mod Sums
+pub mod ReachedSizes
