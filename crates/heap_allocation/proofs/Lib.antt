@@ -3,3 +3,4 @@ pub mod Takes
 pub mod Layouts
 pub mod Sums
 pub mod ReachedSizes
+pub mod FreshObjects

@@ -4,7 +4,7 @@
 // object out in it. It is refused exactly where no gap between the blocks that the listed words reach has the need
 // (`specs/Allocations.antt`: `NoGap`, `Allocated`). `collect_and_count` collects and answers how many words lie
 // outside the reached blocks (`specs/Counts.antt`). Neither takes memory. `laws` ties clear words to the gaps of a
-// heap.
+// heap, and says that all stays good where the fresh object is listed too.
 #![tactic(auto)]
 
 mod allocating;
