@@ -27,7 +27,7 @@ address-block : (i j : ℕ) → address i ≡ address j → i ≡ j
 unfolding address
 address-block i j e = omega arith
 
--- the first two words of a fresh object
+-- the first word of a fresh object names its shape
 fresh-first : (shape : Shape) (n : ℕ) → fresh_word shape n 0 ≡ shape_word shape
 unfolding fresh_word
 fresh-first (Class c) n = refl
@@ -64,15 +64,18 @@ fresh-reference s (Kind q) n m k l h = choose (nat_lt 1 k) refl h
     choose false e g = absurd (false≢true g)
 
 module _ (s : ShapesView) (few : (shape : Shape) → IsShape s shape → shape_named (shape_word shape) ≡ shape) (shape : Shape) (there : IsShape s shape) (n : ℕ) (v : List ℕ) (i : ℕ) (p : IsFresh s v shape n i) where
+  -- its first two words are within its need
   need-four : 4 ≤ Need s shape n
   need-four = let a = need_some s shape n in let b = need_rows s shape n in omega arith
 
+  -- so they stand in the heap
   first-word : get_or v (i + 2) 0 ≡ shape_word shape
   first-word = let e : i + 2 + 0 ≡ i + 2 = omega arith in subst (λ k. get_or v k 0 ≡ shape_word shape) e (p.fresh 0 (let z = need-four in omega arith) ∙ fresh-first shape n)
 
   second-word : get_or v (i + 3) 0 ≡ fresh_word shape n 1
   second-word = let e : i + 2 + 1 ≡ i + 3 = omega arith in subst (λ k. get_or v k 0 ≡ fresh_word shape n 1) e (p.fresh 1 (let z = need-four in omega arith))
 
+  -- and tell the shape
   shape-first : shape_named (get_or v (i + 2) 0) ≡ shape
   shape-first = ap shape_named first-word ∙ few shape there
 
