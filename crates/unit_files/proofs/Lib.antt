@@ -1,3 +1,4 @@
 pub mod Meaning
+pub mod Reading
 pub mod Written
 pub mod ShortestUnit

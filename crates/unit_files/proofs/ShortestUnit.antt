@@ -1,5 +1,5 @@
 -- The unit of one function that returns, as the tests put it together, keeps the conditions.
-use Rattle.std.proofs.Common.{◌<◌, false, [], ◌∷◌, refl, lit<, arith}
+use Rattle.std.proofs.Common.{false, [], ◌∷◌, refl, lit<, arith}
 use Rattle.ia32_code.specs.declared.instruction.Inst.TheVariants as inst
 use Rattle.ia32_code.specs.declared.instruction.Reg.TheVariants.{Eax}
 use Rattle.ia32_code.specs.declared.operand_form.OperandForm.TheVariants.{Direct}

@@ -1,26 +1,21 @@
 -- The fields of a unit file, part by part: those of an image's rows, with names before them.
-use Rattle.std.specs.Prelude.{ℕ, zero, suc, ◌==◌, Bool, true, List, [], ◌∷◌, length, map}
+use Rattle.std.specs.Prelude.{ℕ, zero, suc, ◌==◌, Bool, true, List, [], ◌∷◌, map}
 use Rattle.object_layout.specs.declared.rows.ClassRow.{ClassRow}
 use Rattle.object_layout.specs.declared.rows.KindRow.{KindRow}
 use Rattle.file_fields.specs.declared.fault.ImageFault.{ImageFault}
 use Rattle.file_fields.specs.declared.fault.ImageFault.TheVariants.{Bad}
 use Rattle.file_fields.specs.Grammar.{Grammar, done, chunk, instruction, checked, then_with, many, each, FaultOf}
-use Rattle.tal_image.specs.declared.parts.Header.{Header}
 use Rattle.tal_image.specs.declared.parts.FunctionPart.{FunctionPart}
 use Rattle.tal_image.specs.declared.parts.Tables.{Tables}
-use Rattle.tal_image.specs.Conditions.{part_length_fits, part_numbers, Spelled, mark_fits}
-use Rattle.tal_image.specs.Fields.{tables_of, header_where, sig_fields, function_where, class_fields, field_type_field, array_where, bodies, all_instructions, code_bytes, block_fields, mark_where}
+use Rattle.tal_image.specs.Conditions.{part_length_fits, part_numbers, Spelled, block_fits, mark_fits}
+use Rattle.tal_image.specs.Fields.{tables_of, header_where, sig_fields, function_where, class_fields, field_type_field, array_where, bodies, all_instructions, code_bytes, block_where, mark_where}
+pub use Rattle.unit_files.specs.declared.row_reader.UnitHeader.{UnitHeader}
+pub use Rattle.unit_files.specs.declared.row_reader.Mention.{Mention}
 use Rattle.unit_files.specs.Unit.{UnitParts, UnitSig, UnitFun, UnitEntry, UnitClass, UnitKind, UnitStatic, UnitArray, UnitBlock, UnitMark, FixUp, kind_row, function_parts, own_functions, unit_magic}
 use Rattle.unit_files.specs.Conditions.{names_fit, entries_fit, fixups_fit, name_length_fits, is_name, mention_fits, ext_fits, stack_fits, entry_function_fits, unit_mark_fits, fixup_fits, fixup_kind_fits, fixup_index_fits}
 use Rattle.unit_files.specs.Formed.{after_unit_fun, with_unit_class, with_unit_array, after_unit_block, after_unit_mark, after_fixup}
 
 -- the header: an image's, and three counts more
-pub record UnitHeader : Type 0 where
-  pub image : Header
-  pub names : ℕ
-  pub entries : ℕ
-  pub fixups : ℕ
-
 unfoldable pub unit_header_fields : Grammar UnitHeader
 unit_header_fields =
     then_with (header_where unit_magic true) (λ h.
@@ -36,11 +31,6 @@ tables_behind h = tables_of h.image
 -- a name: its length, and its bytes as one field
 unfoldable pub name_fields : Grammar (List ℕ)
 name_fields = then_with (checked name_length_fits 28) (λ n. chunk n is_name (λ t at. Bad at 28) (λ t. done t))
-
--- the number of a row's name, and whether the row is extern
-pub record Mention : Type 0 where
-  pub name : ℕ
-  pub ext : Bool
 
 -- what stands before a row, where there are so many names
 unfoldable pub mention_fields : ℕ → Grammar Mention
@@ -104,23 +94,33 @@ unit_bodies [] zero = done []
 unit_bodies [] (suc n) = instruction 0 (λ text i. done [])
 unit_bodies (f ∷ functions) n = bodies (own_functions (f ∷ functions))
 
+-- a block whose offset meets a test
+unfoldable pub unit_block_where : Tables → (ℕ → Bool) → Grammar UnitBlock
+unit_block_where t place = then_with (block_where t place) (λ b. done (record { offset = b.offset; regs = b.types; slots = b.slots }))
+
 -- a block, where its offset is at least this
-unfoldable pub unit_block_fields : Tables → List FunctionPart → List Spelled → ℕ → Grammar UnitBlock
-unit_block_fields t functions code least =
-    then_with (block_fields t functions code least) (λ b. done (record { offset = b.offset; regs = b.types; slots = b.slots }))
+abbrev pub unit_block_fields : Tables → List FunctionPart → List Spelled → ℕ → Grammar UnitBlock
+unit_block_fields t functions code least = unit_block_where t (block_fits functions code least)
+
+-- a mark whose offset meets a test, and its tag and index another
+unfoldable pub unit_mark_where : (ℕ → Bool) → (ℕ → ℕ → ℕ → Bool) → Grammar UnitMark
+unit_mark_where place word = then_with (mark_where place word) (λ m. done (record { offset = m.offset; tag = m.tag; index = m.index }))
 
 -- a mark, where its offset is at least this
-unfoldable pub unit_mark_fields : Tables → ℕ → ℕ → List Spelled → ℕ → Grammar UnitMark
-unit_mark_fields t functions arrays code least =
-    then_with (mark_where (mark_fits code least) (unit_mark_fits t functions arrays code)) (λ m. done (record { offset = m.offset; tag = m.tag; index = m.index }))
+abbrev pub unit_mark_fields : Tables → ℕ → ℕ → List Spelled → ℕ → Grammar UnitMark
+unit_mark_fields t functions arrays code least = unit_mark_where (mark_fits code least) (unit_mark_fits t functions arrays code)
 
--- a fix-up, where its offset is at least this
-unfoldable pub fixup_fields : Tables → ℕ → ℕ → ℕ → List Spelled → ℕ → Grammar FixUp
-fixup_fields t functions arrays statics code least =
-    then_with (checked (fixup_fits code least) 30) (λ offset.
+-- a fix-up whose offset meets a test
+unfoldable pub fixup_where : Tables → ℕ → ℕ → ℕ → (ℕ → Bool) → Grammar FixUp
+fixup_where t functions arrays statics place =
+    then_with (checked place 30) (λ offset.
     then_with (checked fixup_kind_fits 30) (λ kind.
     then_with (checked (fixup_index_fits t functions arrays statics kind) 30) (λ index.
     done (record { offset = offset; kind = kind; index = index }))))
+
+-- a fix-up, where its offset is at least this
+abbrev pub fixup_fields : Tables → ℕ → ℕ → ℕ → List Spelled → ℕ → Grammar FixUp
+fixup_fields t functions arrays statics code least = fixup_where t functions arrays statics (fixup_fits code least)
 
 -- ---- the lists of a file, each after what it looks at
 

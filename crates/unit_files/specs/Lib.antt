@@ -5,5 +5,8 @@ pub mod Conditions
 pub mod Formed
 pub mod Fields
 pub mod Laws
--- what a unit keeps beside its rows: this is the crate's own
+-- what a unit keeps beside its rows, and how a unit is read: these are the crate's own
 pub mod Kept
+pub mod ClassNames
+pub mod CodeWords
+pub mod UnitReading

@@ -1,15 +1,31 @@
-ghost use Rattle.std.specs.Prelude.{◌≡◌, IfOk};
+ghost use Rattle.std.specs.Prelude.{◌≡◌, ◌⊎◌, IfOk, IfErr, MatchResult};
+ghost use Rattle.file_fields.specs.declared.fault.ImageFault.{ImageFault};
+ghost use Rattle.unit_files.specs.Fields.{FirstUnitFault};
 ghost use Rattle.unit_files.specs.Formed.{UnitOf};
-ghost use Rattle.unit_files.specs.Unit.{UnitFileOf, unit_header};
+ghost use Rattle.unit_files.specs.Unit.{UnitParts, UnitFileOf, unit_header};
 
+use crate::laws::one_meaning;
 use crate::parts::MAGIC;
 use crate::unit::Unit;
+use crate::unit_reader::unit_rows;
 use crate::writing::UnitFile;
-use file_fields::put_all;
+use file_fields::{ImageFault, put_all};
 use no_memory::NoMemory;
 use std::alloc::Global;
 
 impl Unit {
+    /// The unit for which the bytes of a file stand. A refusal is the file's first fault, or want of memory.
+    pub fn read(alloc: Global, bytes: &[u8]) -> Result<Unit, ImageFault>
+        ensures ok { IfOk result (λ u. UnitOf bytes.now u) }
+        ensures whole { (u : UnitParts) → UnitOf bytes.now u → MatchResult result (λ v. v ≡ u) (λ e. e ≡ ImageFault.NoMemory) }
+        ensures fault { IfErr result (λ e. (e ≡ ImageFault.NoMemory) ⊎ FirstUnitFault bytes.now e) }
+        ensures first { (f : ImageFault) → FirstUnitFault bytes.now f → MatchResult result (λ _. ⊥) (λ e. (e ≡ f) ⊎ (e ≡ ImageFault.NoMemory)) }
+    {
+        one_meaning();
+        let read = unit_rows(alloc, bytes)?;
+        Ok(Unit::of(alloc, read.rows)?)
+    }
+
     /// The numbers of the file's header.
     fn header(&self) -> [u32; 16]
         ensures { result ≡ unit_header self.now }

@@ -1,4 +1,7 @@
 // What holds of the definitions alone: each law is a function with nothing to do, whose clause is the law.
+ghost use Rattle.std.specs.Prelude.{◌^◌};
+ghost use Rattle.file_fields.specs.Laws.{EndsBy};
+ghost use Rattle.unit_files.specs.Fields.{unit_fields};
 ghost use Rattle.unit_files.specs.Laws.{OneUnitMeaning, ReadAsUnit, EachIsUnit};
 
 use crate::unit::Unit;
@@ -27,4 +30,12 @@ pub fn each_is_one()
 {
     read_as_fields();
     file_fields::laws::each_is_one::<Unit>();
+}
+
+/// A file that ends inside a field of a unit has no more than 64 MiB.
+pub(crate) fn unit_ends()
+    ensures { EndsBy unit_fields (2 ^ 31) }
+{
+    tal_image::laws::row_reaches();
+    file_fields::laws::ends_by_most::<Unit>();
 }

@@ -22,11 +22,11 @@ use Rattle.tal_image.specs.Formed.{IsHeader, AreBodies, IsBlockPart}
 use Rattle.tal_image.specs.Rows.{RowMeanings, header_numbers}
 use Rattle.unit_files.specs.Unit.{UnitFun, UnitBlock, UnitMark, FixUp, block_part, mark_part, own_functions, unit_magic, name_bytes, fixup_bytes}
 use Rattle.unit_files.specs.Conditions.{names_fit, entries_fit, fixups_fit, name_length_fits, is_name, unit_mark_fits, fixup_fits, fixup_kind_fits, fixup_index_fits}
-use Rattle.unit_files.specs.Fields.{UnitHeader, unit_header_fields, name_fields, unit_bodies, unit_block_fields, unit_mark_fields, fixup_fields}
+use Rattle.unit_files.specs.Fields.{UnitHeader, unit_header_fields, name_fields, unit_bodies, unit_block_where, unit_block_fields, unit_mark_where, unit_mark_fields, fixup_where, fixup_fields}
 use Rattle.unit_files.specs.Formed.{IsName, IsUnitMark, IsFixUp}
 
 -- two tests that are met
-both : (a b : Bool) → (a && b) ≡ true → (a ≡ true) × (b ≡ true)
+pub both : (a b : Bool) → (a && b) ≡ true → (a ≡ true) × (b ≡ true)
 both true true h = (refl, refl)
 both true false h = absurd cc
 both false b h = absurd cc
@@ -139,7 +139,7 @@ module _ (rows : RowMeanings) (meanings : NumberMeanings) where
   -- a block
   pub unit_block_means : (t : Tables) (functions : List FunctionPart) (code : List Spelled) (least : ℕ)
       → Means (unit_block_fields t functions code least) (λ b. IsBlockPart t functions code least (block_part b)) (λ b. block_bytes (block_part b))
-  unfolding unit_block_fields
+  unfolding unit_block_where
   unit_block_means t functions code least =
       let make = λ (b : BlockPart). (let r : UnitBlock = record { offset = b.offset; regs = b.types; slots = b.slots } in r) in
       record {
@@ -152,7 +152,7 @@ module _ (rows : RowMeanings) (meanings : NumberMeanings) where
   -- a mark
   pub unit_mark_means : (t : Tables) (functions arrays : ℕ) (code : List Spelled) (least : ℕ)
       → Means (unit_mark_fields t functions arrays code least) (IsUnitMark t functions arrays code least) (λ m. mark_bytes (mark_part m))
-  unfolding unit_mark_fields
+  unfolding unit_mark_where
   unit_mark_means t functions arrays code least =
       let make = λ (m : MarkPart). (let r : UnitMark = record { offset = m.offset; tag = m.tag; index = m.index } in r) in
       let one = rows.mark (mark_fits code least) (unit_mark_fits t functions arrays code) in
@@ -167,7 +167,7 @@ module _ (rows : RowMeanings) (meanings : NumberMeanings) where
   -- a fix-up
   pub fixup_means : (t : Tables) (functions arrays statics : ℕ) (code : List Spelled) (least : ℕ)
       → Means (fixup_fields t functions arrays statics code least) (IsFixUp t functions arrays statics code least) fixup_bytes
-  unfolding fixup_fields
+  unfolding fixup_where
   fixup_means t functions arrays statics code least =
       let index_ok = λ (kind : ℕ). fixup_index_fits t functions arrays statics kind in
       record {
