@@ -14,4 +14,8 @@ pub mod Turns
 -- Which states are typed.
 pub mod Frames
 pub mod Typing
+-- What is reached, gaps, and calls of the heap.
+pub mod Reaching
+pub mod Placing
+pub mod HeapExamples
 pub mod Examples

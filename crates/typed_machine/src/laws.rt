@@ -1,5 +1,6 @@
 // What small programs come to: the definitions, computed. Each law is a function with nothing to do, whose clause is the law.
 ghost use Rattle.typed_machine.specs.Examples.{StaticIsWritten, MethodIsCalled, ElementIsRead, DivideErrorEnds, RefusalsAreTold, TickInterrupts, EachCallReplies};
+ghost use Rattle.typed_machine.specs.HeapExamples.{RingIsReached, GapsDecide};
 
 /// A program that writes 5 into a static halts with 5 after three turns, and the static is 5.
 pub fn a_static_is_written()
@@ -35,4 +36,14 @@ pub fn a_tick_interrupts()
 /// Each call of the Nucleus but those of the heap replies what its row says, where it is done and where it is refused.
 pub fn each_call_replies()
     ensures { EachCallReplies }
+{}
+
+/// Objects that refer to each other in a ring are reached from one of them, and one beside the ring is not.
+pub fn a_ring_is_reached()
+    ensures { RingIsReached }
+{}
+
+/// What has room in a gap of the heap is placed in one, at a multiple of 4 words, and else it is refused.
+pub fn gaps_decide()
+    ensures { GapsDecide }
 {}
