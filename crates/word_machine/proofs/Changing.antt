@@ -9,9 +9,9 @@ use Rattle.tal_image.specs.Shown.{shapes_of}
 use Rattle.typed_machine.specs.Values.{Value}
 use Rattle.typed_machine.specs.Stores.{Object}
 use Rattle.typed_machine.specs.States.{State, places_of}
-use Rattle.typed_machine.specs.Words.{stack_pointer}
+use Rattle.typed_machine.specs.Words.{stack_pointer, object_values}
 use Rattle.word_machine.specs.Memory.{MemoryView, word_of, is_mapped}
-use Rattle.word_machine.specs.Standing.{HoldsValues, object_values, values_at}
+use Rattle.word_machine.specs.Standing.{HoldsValues, values_at}
 use Rattle.word_machine.specs.Following.{Grounds}
 use Rattle.word_machine.proofs.Holding.{Outside, Change, word-kept, holds-kept}
 use Rattle.word_machine.proofs.Tables.{table-below, descriptor-below}

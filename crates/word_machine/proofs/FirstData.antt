@@ -17,7 +17,8 @@ use Rattle.tal_image.specs.Formed.{EachAfter, IsArray}
 use Rattle.tal_image.specs.Shown.{array_words}
 use Rattle.typed_machine.specs.Values.{Value, Number, Null, ArrayOf, Word}
 use Rattle.typed_machine.specs.Stores.{Object, zero_of, first_elements, data_objects}
-use Rattle.word_machine.specs.Standing.{head_values, object_values, end_of}
+use Rattle.typed_machine.specs.Words.{head_values, object_values}
+use Rattle.word_machine.specs.Standing.{end_of}
 use Rattle.word_machine.proofs.Lists.{front-read, behind-read}
 
 -- ---- one array

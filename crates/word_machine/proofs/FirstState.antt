@@ -14,9 +14,9 @@ use Rattle.tal_image.specs.Shown.{shapes_of, data_words}
 use Rattle.typed_machine.specs.Values.{Ret, Word}
 use Rattle.typed_machine.specs.Stores.{Object, zero_of, first_store}
 use Rattle.typed_machine.specs.States.{EmptyStack, first_state}
-use Rattle.typed_machine.specs.Words.{stack_pointer}
+use Rattle.typed_machine.specs.Words.{stack_pointer, object_values}
 use Rattle.word_machine.specs.Memory.{MemoryView, word_of, is_mapped}
-use Rattle.word_machine.specs.Standing.{HoldsValues, object_values, kept_values, values_at, ObjectsLie, MemoryStands, end_of}
+use Rattle.word_machine.specs.Standing.{HoldsValues, kept_values, values_at, ObjectsLie, MemoryStands, end_of}
 use Rattle.word_machine.proofs.Areas.{table_there, descriptor_there, static_there, stack_there}
 use Rattle.word_machine.proofs.FirstData.{Kept, kept, apart, roomy, data_fits, zero_word}
 use Rattle.word_machine.proofs.Lists.{front-read, behind-read}

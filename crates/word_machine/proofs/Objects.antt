@@ -6,7 +6,8 @@ use Rattle.std.proofs.lemmas.List.{length-set}
 use Rattle.typed_machine.specs.Values.{Value, ObjectShape, InstanceOf, ArrayOf}
 use Rattle.typed_machine.specs.Stores.{Object, Store, places_in, set_value, with_value}
 use Rattle.typed_machine.specs.States.{State, shapes_of, places_of}
-use Rattle.word_machine.specs.Standing.{head_values, object_values, end_of, IsInside, ObjectsLie}
+use Rattle.typed_machine.specs.Words.{head_values, object_values}
+use Rattle.word_machine.specs.Standing.{end_of, IsInside, ObjectsLie}
 
 -- ---- place and shape
 

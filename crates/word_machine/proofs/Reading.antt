@@ -17,9 +17,9 @@ use Rattle.typed_machine.specs.Stores.{Object, value_at}
 use Rattle.typed_machine.specs.States.{State, places_of}
 use Rattle.typed_machine.specs.States as state
 use Rattle.typed_machine.specs.Operands.{Spot, AtStatic, AtSlot, AtValue, AtLength, AtHead, AtMethod, AtDisplay, length_value, head_value, method_value, read_spot, spot_of, spot_word}
-use Rattle.typed_machine.specs.Words.{esp_of}
+use Rattle.typed_machine.specs.Words.{esp_of, head_values, object_values}
 use Rattle.word_machine.specs.Memory.{MemoryView, word_of}
-use Rattle.word_machine.specs.Standing.{head_values, object_values, end_of, IsInside}
+use Rattle.word_machine.specs.Standing.{end_of, IsInside}
 use Rattle.word_machine.specs.Following.{Grounds}
 use Rattle.word_machine.specs.Laws.{SpotLives}
 use Rattle.word_machine.proofs.Lists.{behind-read}

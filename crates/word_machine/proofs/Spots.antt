@@ -14,8 +14,8 @@ use Rattle.tal_types.specs.Contexts.{same}
 use Rattle.typed_machine.specs.Values.{Value, Number, Ref, Ret, Tab, ObjectShape, InstanceOf, ArrayOf, Word}
 use Rattle.typed_machine.specs.States.{State, shapes_of, places_of}
 use Rattle.typed_machine.specs.Operands.{Spot, AtStatic, AtSlot, AtValue, AtLength, AtHead, AtMethod, AtDisplay, slot_count, spot_if, static_spot, slot_spot, object_spot, element_spot, table_spot, based_spot, stack_spot, located_spot, spot_of}
-use Rattle.typed_machine.specs.Words.{register_words, esp_of}
-use Rattle.word_machine.specs.Standing.{head_values, CpuStands}
+use Rattle.typed_machine.specs.Words.{register_words, esp_of, head_values}
+use Rattle.word_machine.specs.Standing.{CpuStands}
 
 -- how many words stand before the values of object i
 abbrev pub head_count : State → ℕ → ℕ

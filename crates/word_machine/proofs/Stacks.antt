@@ -15,9 +15,9 @@ use Rattle.tal_checker.specs.WellTyped.{WellTyped}
 use Rattle.typed_machine.specs.Values.{Value, Word}
 use Rattle.typed_machine.specs.States.{State, EmptyStack, places_of, with_values, most_values}
 use Rattle.typed_machine.specs.Typing.{TypedAmong}
-use Rattle.typed_machine.specs.Words.{stack_pointer, register_words, esp_of}
+use Rattle.typed_machine.specs.Words.{stack_pointer, register_words, esp_of, object_values}
 use Rattle.word_machine.specs.Memory.{MemoryView}
-use Rattle.word_machine.specs.Standing.{HoldsValues, object_values, kept_values, values_at, IsInside, ObjectsLie, MemoryStands}
+use Rattle.word_machine.specs.Standing.{HoldsValues, kept_values, values_at, IsInside, ObjectsLie, MemoryStands}
 use Rattle.word_machine.specs.Following.{Grounds}
 use Rattle.word_machine.specs.Laws.{Written, PushLaw, DropLaw}
 use Rattle.word_machine.proofs.Holding.{Outside, Change, holds-pushed, holds-dropped}

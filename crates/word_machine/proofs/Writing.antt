@@ -19,9 +19,9 @@ use Rattle.typed_machine.specs.Values.{Value, ObjectShape, InstanceOf, ArrayOf, 
 use Rattle.typed_machine.specs.Stores.{Object, value_type, value_count, set_value}
 use Rattle.typed_machine.specs.States.{State, places_of, with_values}
 use Rattle.typed_machine.specs.Operands.{Spot, AtStatic, AtSlot, AtValue, AtLength, AtHead, AtMethod, AtDisplay, may_hold, type_there, provided, write_spot, spot_of}
-use Rattle.typed_machine.specs.Words.{esp_of}
+use Rattle.typed_machine.specs.Words.{esp_of, head_values, object_values}
 use Rattle.word_machine.specs.Memory.{MemoryView}
-use Rattle.word_machine.specs.Standing.{HoldsValues, head_values, object_values, values_at, IsInside, MemoryStands, end_of}
+use Rattle.word_machine.specs.Standing.{HoldsValues, values_at, IsInside, MemoryStands, end_of}
 use Rattle.word_machine.specs.Following.{Grounds}
 use Rattle.word_machine.specs.Laws.{SpotLives, Written}
 use Rattle.word_machine.proofs.Holding.{Outside, Change, holds-put}

@@ -1,27 +1,18 @@
 -- When the words of a processor and a memory stand for a typed state: each is the word of the value that the state has there.
-use Rattle.std.specs.Prelude.{◌≡◌, ◌≢◌, ℕ, ◌+◌, ◌*◌, ◌%◌, ◌<◌, ◌≤◌, ◌⊎◌, ◌==◌, Bool, true, List, [], ◌∷◌, ◌++◌, length, Some, slice_get, if◌then◌else◌}
+use Rattle.std.specs.Prelude.{◌≡◌, ◌≢◌, ℕ, ◌+◌, ◌*◌, ◌%◌, ◌<◌, ◌≤◌, ◌⊎◌, ◌==◌, Bool, true, List, [], length, Some, slice_get, if◌then◌else◌}
 use Rattle.std.specs.Option.{option_map_or}
 use Rattle.ia32_step.specs.declared.cpu.Cpu.{Cpu}
 use Rattle.object_layout.specs.Areas.{statics_start, stacks_start, heap_start, table_address, descriptor_address}
 use Rattle.object_layout.specs.Classes.{table_word, descriptor_word}
 use Rattle.tal_image.specs.Image.{ImageParts}
 use Rattle.tal_image.specs.Shown.{shapes_of}
-use Rattle.typed_machine.specs.Values.{Value, Number, Tab, Desc, ObjectShape, InstanceOf, ArrayOf, Word}
+use Rattle.typed_machine.specs.Values.{Value, Word}
 use Rattle.typed_machine.specs.Stores.{Object}
 use Rattle.typed_machine.specs.States.{State, Stack, stack_bytes, EmptyStack, RunningStack, YieldedStack, InterruptedStack, places_of}
-use Rattle.typed_machine.specs.Words.{stack_pointer, register_words, esp_of}
+use Rattle.typed_machine.specs.Words.{stack_pointer, register_words, esp_of, object_values}
 use Rattle.word_machine.specs.Memory.{MemoryView, word_of, is_mapped}
 
--- ---- what stands in the memory, as values
-
--- what stands before an object's values: its class's table; its kind's descriptor and its length
-unfoldable pub head_values : ObjectShape → List Value
-head_values (InstanceOf c) = Tab c ∷ []
-head_values (ArrayOf k n) = Desc k ∷ Number n ∷ []
-
--- an object as it stands in the memory, from its place up
-unfoldable pub object_values : Object → List Value
-object_values o = head_values o.shape ++ o.values
+-- ---- the values of stacks
 
 -- the values of a stack that does not run, from the top to the bottom
 unfoldable pub kept_values : Stack → List Value
