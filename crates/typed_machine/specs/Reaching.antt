@@ -1,5 +1,5 @@
 -- What is held and what the roots are, in a state; and which objects are reached from values.
-use Rattle.std.specs.Prelude.{ℕ, zero, suc, ◌+◌, ◌==◌, Bool, true, false, ◌||◌, List, [], ◌∷◌, ◌++◌, length, map, take, slice_index_or, if◌then◌else◌}
+use Rattle.std.specs.Prelude.{ℕ, zero, suc, ◌+◌, ◌==◌, nat_lt, Bool, true, false, ◌||◌, List, [], ◌∷◌, ◌++◌, length, map, take, slice_index_or, if◌then◌else◌}
 use Rattle.std.specs.List.{flat_map}
 use Rattle.std.specs.Option.{option_map_or}
 use Rattle.ia32_code.specs.declared.instruction.Reg.{Reg}
@@ -111,17 +111,24 @@ static_references (t ∷ types) [] = []
 static_references (t ∷ types) (value ∷ values) =
     if is_reference t then value ∷ static_references types values else static_references types values
 
--- the references in statics, in the elements of data arrays, and of the stacks that do not run
-abbrev pub waiting_references : ImageParts → State → List Value
-waiting_references image s =
+-- the references in statics, and in the elements of data arrays
+abbrev pub data_references : ImageParts → State → List Value
+data_references image s =
     static_references image.statics s.statics ++ flat_map (references_of (shown image).shapes) (take (length image.arrays) s.store)
-    ++ flat_map (stack_references image) s.stacks
 
--- all references that a state holds
+-- the references of the stacks that do not run
+abbrev pub waiting_references : ImageParts → State → List Value
+waiting_references image s = flat_map (stack_references image) s.stacks
+
+-- All references that a state holds.
 unfoldable pub Held : ImageParts → State → List Value
-Held image s = waiting_references image s ++ thread_references image s.thread s.values
+Held image s = data_references image s ++ thread_references image s.thread s.values ++ waiting_references image s
 
 -- The roots of a state at a call of the Nucleus that comes back to `next`: what it holds without the running registers, and with
 -- the running frames as they are after the call.
 unfoldable pub Roots : ImageParts → ℕ → State → List Value
-Roots image next s = waiting_references image s ++ frame_references image (slots_at image next) s.values
+Roots image next s = data_references image s ++ frame_references image (slots_at image next) s.values ++ waiting_references image s
+
+-- The objects that a run can come to: the data arrays, and what is reached from what the state holds.
+unfoldable pub live_in : ImageParts → State → ℕ → Bool
+live_in image s i = nat_lt i (length image.arrays) || Reach (shown image).shapes s.store (Held image s) i
