@@ -15,7 +15,7 @@ use Rattle.code_words.specs.declared.words.Mnemonic.{Mnemonic}
 use Rattle.code_words.specs.declared.words.Mnemonic.TheVariants as m
 use Rattle.code_words.specs.declared.words.Words.{Words}
 use Rattle.code_words.specs.Saying.{operand_word, count_word, words, said_of}
-use Rattle.code_words.specs.Meaning.{◌>>=◌, operand_of, count_of, bare, one, two, shifted, popped, called, jumped, branched, multiplied, meant_by}
+use Rattle.code_words.specs.Meaning.{◌>>=◌, operand_of, count_of, bare, one, two, shifted, popped, called, jumped, branched, multiplication, meant_by}
 use Rattle.code_words.proofs.WordsMean.{some_is_one}
 
 -- ---- what each step of the way back takes
@@ -178,8 +178,8 @@ unfolding said_of
 three_say b c x y n e f = rw (e, f) refl
 
 -- IMUL, by its number of operands.
-multiplied_says : (a : OperandWords) (i : Inst) → multiplied a ≡ Some i → said_of i ≡ words m.Imul a
-unfolding multiplied said_of one
+multiplied_says : (a : OperandWords) (i : Inst) → multiplication a ≡ Some i → said_of i ≡ words m.Imul a
+unfolding multiplication said_of one
 multiplied_says Zero i h = two_say m.Imul Zero i inst.Imul2 (λ d s. refl) h
 multiplied_says (One b) i h = one_says m.Imul (One b) i inst.Imul1 (λ x. refl) h
 multiplied_says (Two b c) i h = two_say m.Imul (Two b c) i inst.Imul2 (λ d s. refl) h

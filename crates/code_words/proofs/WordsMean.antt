@@ -10,7 +10,7 @@ use Rattle.code_words.specs.declared.words.OperandWords.TheVariants.{One, Two}
 use Rattle.code_words.specs.declared.words.Mnemonic.TheVariants as m
 use Rattle.code_words.specs.declared.words.Words.{Words}
 use Rattle.code_words.specs.Saying.{operand_word, said_of, HasByteCount}
-use Rattle.code_words.specs.Meaning.{operand_of, count_of, bare, one, two, shifted, popped, called, jumped, branched, multiplied, meant_by}
+use Rattle.code_words.specs.Meaning.{operand_of, count_of, bare, one, two, shifted, popped, called, jumped, branched, multiplication, meant_by}
 
 -- What is there is one thing.
 pub some_is_one : {A : Type 0} (x y : A) → Some x ≡ Some y → x ≡ y
@@ -32,7 +32,7 @@ meant_by-call (operand.I n) = refl
 
 -- IMUL of two operands is the form with two.
 meant_by-imul : (d s : Operand) → meant_by (record { mnemonic = m.Imul; operands = Two (operand_word d) (operand_word s) }) ≡ Some (inst.Imul2 d s)
-unfolding meant_by multiplied two
+unfolding meant_by multiplication two
 meant_by-imul d s = rw (operand_of-operand_word d, operand_of-operand_word s) refl
 
 -- What words mean, equal words mean.
@@ -41,7 +41,7 @@ along {v} {w} {i} e means = subst (λ u. meant_by u ≡ Some i) (some_is_one v w
 
 -- The words of an instruction mean it.
 pub words_mean : (i : Inst) (w : Words) → HasByteCount i → said_of i ≡ Some w → meant_by w ≡ Some i
-unfolding said_of operand_of count_of bare one two shifted popped called jumped branched multiplied meant_by
+unfolding said_of operand_of count_of bare one two shifted popped called jumped branched multiplication meant_by
 words_mean (inst.Alu op d s) w h e = along e (rw (operand_of-operand_word d, operand_of-operand_word s) refl)
 words_mean (inst.Mov d s) w h e = along e (rw (operand_of-operand_word d, operand_of-operand_word s) refl)
 words_mean (inst.Lea d s) w h e = along e (rw (operand_of-operand_word d, operand_of-operand_word s) refl)

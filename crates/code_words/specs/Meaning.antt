@@ -76,10 +76,10 @@ branched cc (One (Target z)) = Some (inst.Jcc cc z)
 branched cc _ = None
 
 -- the number of operands tells the three forms of IMUL apart
-unfoldable pub multiplied : OperandWords → Option Inst
-multiplied (Three a b (Number n)) = operand_of a >>= λ x. operand_of b >>= λ y. Some (inst.Imul3 x y n)
-multiplied (One a) = operand_of a >>= λ x. Some (inst.Imul1 x)
-multiplied operands = two operands >>= λ p. Some (inst.Imul2 p.0 p.1)
+unfoldable pub multiplication : OperandWords → Option Inst
+multiplication (Three a b (Number n)) = operand_of a >>= λ x. operand_of b >>= λ y. Some (inst.Imul3 x y n)
+multiplication (One a) = operand_of a >>= λ x. Some (inst.Imul1 x)
+multiplication operands = two operands >>= λ p. Some (inst.Imul2 p.0 p.1)
 
 -- the instruction that words mean
 unfoldable pub meant_by : Words → Option Inst
@@ -93,7 +93,7 @@ meant_by w = elim w.mnemonic [
   | m.Not ↦ one w.operands >>= λ x. Some (inst.Not x)
   | m.Neg ↦ one w.operands >>= λ x. Some (inst.Neg x)
   | m.Mul ↦ one w.operands >>= λ x. Some (inst.Mul x)
-  | m.Imul ↦ multiplied w.operands
+  | m.Imul ↦ multiplication w.operands
   | m.Div ↦ one w.operands >>= λ x. Some (inst.Div x)
   | m.Idiv ↦ one w.operands >>= λ x. Some (inst.Idiv x)
   | m.Shift op ↦ shifted w.operands >>= λ p. Some (inst.Shift op p.0 p.1)

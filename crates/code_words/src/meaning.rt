@@ -1,7 +1,7 @@
 // From words to instructions. Each private function mirrors a definition of the way back.
 ghost use Rattle.std.specs.Prelude.{◌≡◌, Some, IfSome};
 ghost use Rattle.code_words.specs.Saying.{said_of, HasByteCount};
-ghost use Rattle.code_words.specs.Meaning.{operand_of, count_of, bare, one, two, shifted, popped, called, jumped, branched, multiplied, meant_by};
+ghost use Rattle.code_words.specs.Meaning.{operand_of, count_of, bare, one, two, shifted, popped, called, jumped, branched, multiplication, meant_by};
 ghost use Rattle.ia32_code.specs.declared.instruction.Inst.{Inst};
 
 use crate::words::{Mnemonic, OperandWord, OperandWords, Words};
@@ -129,7 +129,7 @@ fn branched(cond: Cond, operands: OperandWords) -> Option<Inst>
 // The number of operands tells the three forms of IMUL apart.
 #[tactic(auto, unfolding(crate::specs::Meaning::multiplied, crate::specs::Meaning::two))]
 fn multiplied(operands: OperandWords) -> Option<Inst>
-    ensures { result ≡ multiplied operands }
+    ensures { result ≡ multiplication operands }
 {
     match operands {
         OperandWords::One(word) => Some(Inst::Imul1(operand_of(word)?)),

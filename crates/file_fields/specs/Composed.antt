@@ -10,9 +10,9 @@ use Rattle.ia32_code.specs.declared.decoding.Decoded.TheVariants as answer
 use Rattle.ia32_code.specs.Decoding.{decoded}
 use Rattle.file_fields.specs.declared.fault.ImageFault.{ImageFault}
 use Rattle.file_fields.specs.declared.fault.ImageFault.TheVariants.{Magic, Version, Short, Rest, Bad, NoMemory}
-use Rattle.file_fields.specs.Grammar.{Grammar, done, chunk, instruction, number, pair, checked, then_with, many, each, Field, Chunk, Instruction, field_text, fields_text, Meets, Sound}
+use Rattle.file_fields.specs.Grammar.{Grammar, done, chunk, instruction, with_number, pair, checked, then_with, many, each, Field, Chunk, Instruction, field_text, fields_text, Meets, Sound}
 use Rattle.file_fields.specs.Parts.{FieldsOf, Means, Each, Counted, AreRows}
-use Rattle.file_fields.specs.Reading.{◌▸◌, Fails, chunk_at, word_at, pair_at, checked_at, after_decoding, run}
+use Rattle.file_fields.specs.Reading.{◌▸◌, Fails, chunk_at, any_number_at, pair_at, checked_at, after_decoding, run}
 
 -- ---- what parts stand for
 
@@ -254,7 +254,7 @@ then_run g f file at more same = run-then_with g f file at ∙ same_bind (run g 
 
 -- a number, and what is read then
 pub number_run : {B : Type 0} (ok : ℕ → Bool) (fault : ℕ → ImageFault) (next : ℕ → Grammar B) (file : List ℕ) (at : ℕ)
-    → run (number ok fault next) file at ≡ (word_at file at ▸ λ n. cond (ok n.0) (run (next n.0) file n.1) (Err (fault at)))
+    → run (with_number ok fault next) file at ≡ (any_number_at file at ▸ λ n. cond (ok n.0) (run (next n.0) file n.1) (Err (fault at)))
 number_run ok fault next file at = sym (bind_then (chunk_at 4 file at) _ _)
 
 -- two numbers as one field, and what is read then

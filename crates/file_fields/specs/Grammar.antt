@@ -26,8 +26,8 @@ abbrev pub bytes_number : List ℕ → ℕ
 bytes_number bytes = from_le_bytes w32 bytes
 
 -- a number of 32 bits with its condition, the fault where it breaks that, and what comes then
-abbrev pub number : {A : Type 0} → (ℕ → Bool) → (ℕ → ImageFault) → (ℕ → Grammar A) → Grammar A
-number ok fault next = chunk 4 (λ t. ok (bytes_number t)) (λ t at. fault at) (λ t. next (bytes_number t))
+abbrev pub with_number : {A : Type 0} → (ℕ → Bool) → (ℕ → ImageFault) → (ℕ → Grammar A) → Grammar A
+with_number ok fault next = chunk 4 (λ t. ok (bytes_number t)) (λ t at. fault at) (λ t. next (bytes_number t))
 
 -- two numbers as one field, likewise; the fault may look at them
 abbrev pub pair : {A : Type 0} → (ℕ → ℕ → Bool) → (ℕ → ℕ → ℕ → ImageFault) → (ℕ → ℕ → Grammar A) → Grammar A
@@ -53,7 +53,7 @@ each n row = many {S = ℕ} n (λ later kept. row) (λ kept x. kept) 0
 
 -- a number under a condition, with the fault where it breaks that
 abbrev pub field : (ℕ → Bool) → (ℕ → ImageFault) → Grammar ℕ
-field ok fault = number ok fault (λ n. done n)
+field ok fault = with_number ok fault (λ n. done n)
 
 -- a number under the condition with this number
 abbrev pub checked : (ℕ → Bool) → ℕ → Grammar ℕ

@@ -42,12 +42,12 @@ abbrev pub chunk_at : ℕ → Reads (List ℕ)
 chunk_at n file at = cond (nat_lt (length (drop at file)) n) (Err (Short (length file))) (Ok (take n (drop at file), at + n))
 
 -- a number
-abbrev pub word_at : Reads ℕ
-word_at file at = chunk_at 4 file at ▸ λ t. Ok (bytes_number t.0, t.1)
+abbrev pub any_number_at : Reads ℕ
+any_number_at file at = chunk_at 4 file at ▸ λ t. Ok (bytes_number t.0, t.1)
 
 -- a number under the condition with this number
 abbrev pub checked_at : (ℕ → Bool) → ℕ → Reads ℕ
-checked_at ok condition file at = word_at file at ▸ λ n. cond (ok n.0) (Ok n) (Err (Bad at condition))
+checked_at ok condition file at = any_number_at file at ▸ λ n. cond (ok n.0) (Ok n) (Err (Bad at condition))
 
 -- two numbers as one field
 abbrev pub pair_at : Reads (ℕ × ℕ)

@@ -2,7 +2,7 @@
 ghost use Rattle.std.specs.Prelude.{◌≡◌, ◌≤◌, ◌<◌, ◌^◌, length, IfOk, IfErr, OnOk, true, false};
 ghost use Rattle.file_fields.specs.declared.fault.ImageFault.TheVariants.{Bad};
 ghost use Rattle.file_fields.specs.Grammar.{between, checked};
-ghost use Rattle.file_fields.specs.Reading.{GivesAt, GivesView, chunk_at, word_at, pair_at, run};
+ghost use Rattle.file_fields.specs.Reading.{GivesAt, GivesView, chunk_at, any_number_at, pair_at, run};
 
 use crate::fault::ImageFault;
 
@@ -56,7 +56,7 @@ impl<'a> Reader<'a> {
 
     /// The next number.
     pub fn number(&mut self) -> Result<u32, ImageFault>
-        ensures gives { GivesAt result (word_at self.old.file.now self.old.at) self.new.at }
+        ensures gives { GivesAt result (any_number_at self.old.file.now self.old.at) self.new.at }
         ensures file { self.new.file ≡ self.old.file }
     {
         let bytes = self.chunk(4)?;

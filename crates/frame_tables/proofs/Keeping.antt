@@ -4,16 +4,16 @@ use Rattle.std.proofs.lemmas.Bool.{cases_eq}
 use Rattle.std.proofs.lemmas.List.Elements.{All-append}
 use Rattle.tal_types.specs.declared.FrameRow.{FrameRow}
 use Rattle.frame_tables.specs.FrameRows.{with_row, different_rows}
-use Rattle.frame_tables.specs.Layout.{numbered, addressed_rows, IsKept}
-use Rattle.frame_tables.proofs.Rows.{different_rows-append, numbered-with_row, length-with_row}
+use Rattle.frame_tables.specs.Layout.{row_numbered, addressed_rows, IsFrameTable}
+use Rattle.frame_tables.proofs.Rows.{different_rows-append, row_numbered-with_row, length-with_row}
 
 -- An address and the number of its row at the ends are a row at the end.
 pub addressed_rows-append : (rows : List FrameRow) (as' ns : List ℕ) (a n : ℕ) → length as' ≡ length ns
-    → addressed_rows rows (as' ++ a ∷ []) (ns ++ n ∷ []) ≡ addressed_rows rows as' ns ++ record { pc = a; row = numbered rows n } ∷ []
+    → addressed_rows rows (as' ++ a ∷ []) (ns ++ n ∷ []) ≡ addressed_rows rows as' ns ++ record { pc = a; row = row_numbered rows n } ∷ []
 addressed_rows-append rows [] [] a n paired = refl
 addressed_rows-append rows [] (m ∷ ns) a n paired = absurd (omega arith)
 addressed_rows-append rows (b ∷ as') [] a n paired = absurd (omega arith)
-addressed_rows-append rows (b ∷ as') (m ∷ ns) a n paired = ap (λ l. record { pc = b; row = numbered rows m } ∷ l) (addressed_rows-append rows as' ns a n (omega arith))
+addressed_rows-append rows (b ∷ as') (m ∷ ns) a n paired = ap (λ l. record { pc = b; row = row_numbered rows m } ∷ l) (addressed_rows-append rows as' ns a n (omega arith))
 
 -- What holds of all holds of the first and of the rest.
 pub All-first : {X : Type 0} (P : X → Type 0) (x : X) (xs : List X) → All P (x ∷ xs) → P x
@@ -28,7 +28,7 @@ pub addressed_rows-with_row : (rows : List FrameRow) (row : FrameRow) (as' ns : 
 addressed_rows-with_row rows row [] ns known = refl
 addressed_rows-with_row rows row (a ∷ as') [] known = refl
 addressed_rows-with_row rows row (a ∷ as') (n ∷ ns) known =
-    rw (numbered-with_row rows row n (All-first (λ k. k < length rows) n ns known), addressed_rows-with_row rows row as' ns (All-rest (λ k. k < length rows) n ns known)) refl
+    rw (row_numbered-with_row rows row n (All-first (λ k. k < length rows) n ns known), addressed_rows-with_row rows row as' ns (All-rest (λ k. k < length rows) n ns known)) refl
 
 -- Numbers that are known stay so, and one more joins them.
 pub known-append : (few more n : ℕ) (ns : List ℕ) → few ≤ more → n < more → All (λ k. k < few) ns → All (λ k. k < more) (ns ++ n ∷ [])
@@ -76,12 +76,12 @@ rising-append xs x rising above i j before within = by_case (cases_eq j (length 
 
 -- The table after a push, where its row has the number n.
 pub record Pushed (rows rows' : List FrameRow) (as' ns : List ℕ) (pc n : ℕ) (row : FrameRow) : Type 0 where
-  pub kept : IsKept rows' (as' ++ pc ∷ []) (ns ++ n ∷ [])
+  pub kept : IsFrameTable rows' (as' ++ pc ∷ []) (ns ++ n ∷ [])
   pub table : addressed_rows rows' (as' ++ pc ∷ []) (ns ++ n ∷ []) ≡ addressed_rows rows as' ns ++ record { pc = pc; row = row } ∷ []
 
 -- one row more is kept
-pub pushes : (rows rows' : List FrameRow) (as' ns : List ℕ) (pc n : ℕ) (row : FrameRow) → IsKept rows as' ns → All (λ r. r.pc < pc) (addressed_rows rows as' ns)
-    → rows' ≡ with_row rows row → length rows' < 2 ^ 32 → n < length rows' → numbered rows' n ≡ row → Pushed rows rows' as' ns pc n row
+pub pushes : (rows rows' : List FrameRow) (as' ns : List ℕ) (pc n : ℕ) (row : FrameRow) → IsFrameTable rows as' ns → All (λ r. r.pc < pc) (addressed_rows rows as' ns)
+    → rows' ≡ with_row rows row → length rows' < 2 ^ 32 → n < length rows' → row_numbered rows' n ≡ row → Pushed rows rows' as' ns pc n row
 pushes rows rows' as' ns pc n row kept below made few known is_row =
     let table : addressed_rows rows' (as' ++ pc ∷ []) (ns ++ n ∷ []) ≡ addressed_rows rows as' ns ++ record { pc = pc; row = row } ∷ [] =
     addressed_rows-append rows' as' ns pc n kept.paired ∙ rw (is_row, made, addressed_rows-with_row rows row as' ns kept.known) refl in

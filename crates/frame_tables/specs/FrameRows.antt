@@ -9,9 +9,9 @@ pub record RowAt : Type 0 where
   pub row : FrameRow
 
 -- The row at an address; None where no instruction begins.
-abbrev pub row_at : List RowAt → ℕ → Option FrameRow
-row_at [] pc = None
-row_at (r ∷ rs) pc = if r.pc == pc then Some r.row else row_at rs pc
+abbrev pub frame_row_at : List RowAt → ℕ → Option FrameRow
+frame_row_at [] pc = None
+frame_row_at (r ∷ rs) pc = if r.pc == pc then Some r.row else frame_row_at rs pc
 
 -- Two rows say the same.
 abbrev pub same_row : FrameRow → FrameRow → Bool

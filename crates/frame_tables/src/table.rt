@@ -1,8 +1,8 @@
 // Rows of frames by address. Each different row is kept once, in a set that a hash searches; addresses are kept in
 // order, each with the number of its row, and are searched by halving.
 ghost use Rattle.std.specs.Prelude.{ℕ, ◌≡◌, ◌≢◌, ◌<◌, ◌^◌, ◌∷◌, ◌++◌, [], All, IfOk, IfSome, OnOk, OnErr, MatchOption, slice_index, length, map};
-ghost use Rattle.frame_tables.specs.FrameRows.{row_at, with_row, different_rows};
-ghost use Rattle.frame_tables.specs.Layout.{Rises, row_of, numbered};
+ghost use Rattle.frame_tables.specs.FrameRows.{frame_row_at, with_row, different_rows};
+ghost use Rattle.frame_tables.specs.Layout.{Rises, row_kept, row_numbered};
 
 use indexmap::IndexSet;
 use no_memory::NoMemory;
@@ -24,7 +24,7 @@ fn find_address(addresses: &[u32], pc: u32) -> Option<usize>
 // The row of this number.
 fn kept_row(rows: &IndexSet<(u8, u8, u64)>, number: u32) -> FrameRow
     requires { number < length rows.now.keys }
-    ensures { result ≡ numbered (map row_of rows.now.keys) number }
+    ensures { result ≡ row_numbered (map row_kept rows.now.keys) number }
 {
     let (regs, slots, refs) = *rows.get_index(number as usize).unwrap();
     FrameRow { regs, slots, refs }
@@ -32,9 +32,9 @@ fn kept_row(rows: &IndexSet<(u8, u8, u64)>, number: u32) -> FrameRow
 
 // Keeps a row, where it is not kept already, and answers its number. Numbers have 32 bits.
 fn keep_row(rows: &mut IndexSet<(u8, u8, u64)>, row: FrameRow) -> Result<u32, NoMemory>
-    ensures joined { OnOk result (map row_of rows.new.keys ≡ with_row (map row_of rows.old.keys) row) }
+    ensures joined { OnOk result (map row_kept rows.new.keys ≡ with_row (map row_kept rows.old.keys) row) }
     ensures few { OnOk result (length rows.new.keys < 2 ^ 32) }
-    ensures number { IfOk result (λ n. (n < length rows.new.keys) × (numbered (map row_of rows.new.keys) n ≡ row)) }
+    ensures number { IfOk result (λ n. (n < length rows.new.keys) × (row_numbered (map row_kept rows.new.keys) n ≡ row)) }
     ensures err { OnErr result (rows.new.keys ≡ rows.old.keys) }
 {
     if rows.len() >= u32::MAX as usize {
@@ -47,7 +47,7 @@ fn keep_row(rows: &mut IndexSet<(u8, u8, u64)>, row: FrameRow) -> Result<u32, No
 // The number of the row that was kept last, where it is this one.
 fn last_number(rows: &IndexSet<(u8, u8, u64)>, numbers: &[u32], row: FrameRow) -> Option<u32>
     requires { All (λ n. n < length rows.now.keys) numbers.now }
-    ensures { IfSome result (λ n. (n < length rows.now.keys) × (numbered (map row_of rows.now.keys) n ≡ row)) }
+    ensures { IfSome result (λ n. (n < length rows.now.keys) × (row_numbered (map row_kept rows.now.keys) n ≡ row)) }
 {
     let number = *numbers.last()?;
     if kept_row(rows, number) == row {
@@ -65,9 +65,9 @@ fn number_of(
 ) -> Result<u32, NoMemory>
     requires known { All (λ n. n < length rows.old.keys) numbers.now }
     requires few { length rows.old.keys < 2 ^ 32 }
-    ensures joined { OnOk result (map row_of rows.new.keys ≡ with_row (map row_of rows.old.keys) row) }
+    ensures joined { OnOk result (map row_kept rows.new.keys ≡ with_row (map row_kept rows.old.keys) row) }
     ensures few { OnOk result (length rows.new.keys < 2 ^ 32) }
-    ensures number { IfOk result (λ n. (n < length rows.new.keys) × (numbered (map row_of rows.new.keys) n ≡ row)) }
+    ensures number { IfOk result (λ n. (n < length rows.new.keys) × (row_numbered (map row_kept rows.new.keys) n ≡ row)) }
     ensures err { OnErr result (rows.new.keys ≡ rows.old.keys) }
 {
     match last_number(rows, numbers, row) {
@@ -87,13 +87,13 @@ pub struct FrameTable {
 impl Model for FrameTable {
     ghost use Rattle.std.specs.Prelude.{List, map};
     ghost use Rattle.frame_tables.specs.FrameRows.{RowAt};
-    ghost use Rattle.frame_tables.specs.Layout.{row_of, addressed_rows, IsKept};
+    ghost use Rattle.frame_tables.specs.Layout.{row_kept, addressed_rows, IsFrameTable};
 
     ghost Value = { List RowAt };
 
-    ghost view = { λ t. addressed_rows (map row_of t.rows.keys) t.addresses.items t.numbers.items };
+    ghost view = { λ t. addressed_rows (map row_kept t.rows.keys) t.addresses.items t.numbers.items };
 
-    ghost invariant = { λ t. IsKept (map row_of t.rows.keys) t.addresses.items t.numbers.items };
+    ghost invariant = { λ t. IsFrameTable (map row_kept t.rows.keys) t.addresses.items t.numbers.items };
 }
 
 impl FrameTable {
@@ -125,7 +125,7 @@ impl FrameTable {
 
     /// The row at `pc`. None exactly where no instruction begins there.
     pub fn row(&self, pc: u32) -> Option<FrameRow>
-        ensures { result ≡ row_at self.now pc }
+        ensures { result ≡ frame_row_at self.now pc }
     {
         match find_address(&self.addresses, pc) {
             Some(at) => Some(kept_row(&self.rows, self.numbers[at])),

@@ -18,11 +18,11 @@ pub struct Walk<'a> {
 
 impl<'a> Model for Walk<'a> {
     ghost use Rattle.std.specs.Prelude.{ℕ, ◌≡◌, ◌⊎◌, List, []};
-    ghost use Rattle.frame_tables.specs.FrameWalks.{references_from, IsStackFrom};
+    ghost use Rattle.frame_tables.specs.FrameWalks.{frame_references_from, IsStackFrom};
 
     ghost Value = { List ℕ };
 
-    ghost view = { λ w. references_from w.frames.now w.row w.slot w.words.now };
+    ghost view = { λ w. frame_references_from w.frames.now w.row w.slot w.words.now };
 
     ghost invariant = { λ w. IsStackFrom w.frames.now w.row w.slot w.words.now ⊎ (w.words.now ≡ []) };
 }

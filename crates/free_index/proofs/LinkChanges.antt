@@ -4,7 +4,7 @@ use Rattle.heap_words.specs.Headers.{used_of, size_at, used_at}
 use Rattle.heap_words.specs.Blocks.{Begins, IsFree, IsUsed, FormedHeap, Blocks}
 use Rattle.heap_words.specs.Laws.{BlockLaws}
 use Rattle.free_index.specs.Free.{OnlyLinks}
-use Rattle.free_index.specs.Steps.{Inserted, Names, Removed}
+use Rattle.free_index.specs.Steps.{Inserted, NamesFree, Removed}
 use Rattle.free_index.proofs.Chains.{header_apart}
 use Rattle.free_index.proofs.LinkWrites.{trans_blocks, free-through}
 
@@ -59,9 +59,9 @@ pub only-trans : BlockLaws → (u v w : List ℕ) → OnlyLinks u v → OnlyLink
 only-trans laws u v w a b = record { blocks = trans_blocks u v w a.blocks b.blocks; others = λ k h. b.others k (λ i f. h i (free-only_back laws u v i a f)) ∙ a.others k h }
 
 -- putting in and taking out change links alone
-pub only-inserted : (u v : List ℕ) (i head : ℕ) → IsFree u i → Names u head → Inserted u v i head → OnlyLinks u v
+pub only-inserted : (u v : List ℕ) (i head : ℕ) → IsFree u i → NamesFree u head → Inserted u v i head → OnlyLinks u v
 only-inserted u v i head g n p = record { blocks = p.blocks; others = λ k h. p.others k (h i g).0 (h i g).1 (λ x e. (h x (n x e)).1) }
 
 -- and so does taking out
-pub only-removed : (u v : List ℕ) (i : ℕ) → Names u (get_or u (i + 1) 0) → Names u (get_or u (i + 2) 0) → Removed u v i → OnlyLinks u v
+pub only-removed : (u v : List ℕ) (i : ℕ) → NamesFree u (get_or u (i + 1) 0) → NamesFree u (get_or u (i + 2) 0) → Removed u v i → OnlyLinks u v
 only-removed u v i n b p = record { blocks = p.blocks; others = λ k h. p.others k (λ x e. (h x (b x e)).0) (λ x e. (h x (n x e)).1) }

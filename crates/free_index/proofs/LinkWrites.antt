@@ -3,7 +3,7 @@ use Rattle.std.proofs.Math.ListN.{set}
 use Rattle.heap_words.specs.Headers.{used_of}
 use Rattle.heap_words.specs.Blocks.{Begins, IsFree, FormedHeap, SameBlocks}
 use Rattle.heap_words.specs.Laws.{BlockLaws}
-use Rattle.free_index.specs.Steps.{Inserted, Names, Removed}
+use Rattle.free_index.specs.Steps.{Inserted, NamesFree, Removed}
 use Rattle.free_index.proofs.Chains.{rows, header_apart}
 
 -- blocks that stay through two changes stay
@@ -36,7 +36,7 @@ pub written-others : (u v : List ℕ) (link d w k : ℕ) → 0 < link → v ≡ 
 written-others u v link d w k l e n = rw e (get_or-set_other u (link - 1 + d) k w 0 (n (link - 1) (omega arith)))
 
 -- what a link names is a multiple of 4
-named_row : BlockLaws → (u : List ℕ) (link p : ℕ) → Names u link → link ≡ p + 1 → p % 4 ≡ 0
+named_row : BlockLaws → (u : List ℕ) (link p : ℕ) → NamesFree u link → link ≡ p + 1 → p % 4 ≡ 0
 named_row laws u link p n e = laws.places.row u p (n p e).begins
 
 -- the first two writes of an insertion
@@ -59,14 +59,14 @@ fronted laws u a b i head f g e s d t = record {
     one i h = omega arith
 
 -- after them the old first block is still free
-pub fronted-names : BlockLaws → (u b : List ℕ) (i head : ℕ) → Fronted u b i head → Begins u i → Names u head → Names b head
+pub fronted-names : BlockLaws → (u b : List ℕ) (i head : ℕ) → Fronted u b i head → Begins u i → NamesFree u head → NamesFree b head
 fronted-names laws u b i head p g n h e =
     let r = named_row laws u head h n e in
     let q = laws.places.row u i g in
     free-through u b h p.blocks (p.others h (header_apart i h 1 q r (inl refl)) (header_apart i h 2 q r (inr refl))) (n h e)
 
 -- an insertion by its three writes
-pub inserted : BlockLaws → (u b v : List ℕ) (i head : ℕ) → Fronted u b i head → Begins u i → Names u head → head ≢ i + 1 → SameBlocks b v
+pub inserted : BlockLaws → (u b v : List ℕ) (i head : ℕ) → Fronted u b i head → Begins u i → NamesFree u head → head ≢ i + 1 → SameBlocks b v
     → ((p : ℕ) → head ≡ p + 1 → get_or v (p + 2) 0 ≡ i + 1) → ((k : ℕ) → ((p : ℕ) → head ≡ p + 1 → k ≢ p + 2) → get_or v k 0 ≡ get_or b k 0)
     → Inserted u v i head
 inserted laws u b v i head p g n d s w o = record {
@@ -78,14 +78,14 @@ inserted laws u b v i head p g n d s w o = record {
 }
 
 -- after the first write of a removal the other link still names a free block
-pub removed-names : BlockLaws → (u a : List ℕ) (next back : ℕ) → Names u next → Names u back → SameBlocks u a
-    → ((k : ℕ) → ((p : ℕ) → back ≡ p + 1 → k ≢ p + 1) → get_or a k 0 ≡ get_or u k 0) → Names a next
+pub removed-names : BlockLaws → (u a : List ℕ) (next back : ℕ) → NamesFree u next → NamesFree u back → SameBlocks u a
+    → ((k : ℕ) → ((p : ℕ) → back ≡ p + 1 → k ≢ p + 1) → get_or a k 0 ≡ get_or u k 0) → NamesFree a next
 removed-names laws u a next back n b s o g e =
     let r = named_row laws u next g n e in
     free-through u a g s (o g (λ p q. header_apart p g 1 (named_row laws u back p b q) r (inl refl))) (n g e)
 
 -- a removal by its two writes
-pub removed : BlockLaws → (u a v : List ℕ) (i next back : ℕ) → next ≡ get_or u (i + 1) 0 → back ≡ get_or u (i + 2) 0 → Names u next → Names u back → SameBlocks u a
+pub removed : BlockLaws → (u a v : List ℕ) (i next back : ℕ) → next ≡ get_or u (i + 1) 0 → back ≡ get_or u (i + 2) 0 → NamesFree u next → NamesFree u back → SameBlocks u a
     → ((p : ℕ) → back ≡ p + 1 → get_or a (p + 1) 0 ≡ next) → ((k : ℕ) → ((p : ℕ) → back ≡ p + 1 → k ≢ p + 1) → get_or a k 0 ≡ get_or u k 0)
     → SameBlocks a v → ((g : ℕ) → next ≡ g + 1 → get_or v (g + 2) 0 ≡ back)
     → ((k : ℕ) → ((g : ℕ) → next ≡ g + 1 → k ≢ g + 2) → get_or v k 0 ≡ get_or a k 0) → Removed u v i

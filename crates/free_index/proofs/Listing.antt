@@ -6,7 +6,7 @@ use Rattle.heap_words.specs.Blocks.{Begins, IsFree}
 use Rattle.heap_words.specs.Laws.{BlockLaws}
 use Rattle.free_index.specs.Classes.{class_of_size}
 use Rattle.free_index.specs.Lists.{In, Chain, ClassList, AreListed}
-use Rattle.free_index.specs.Steps.{Removed, NewFirst, Unheaded, Names}
+use Rattle.free_index.specs.Steps.{Removed, NewFirst, Unheaded, NamesFree}
 use Rattle.free_index.proofs.SizeClasses.{class-most}
 use Rattle.free_index.proofs.Chains.{rows, differ, chain-others, first_of}
 use Rattle.free_index.proofs.Removal.{Without, taken_out, link_in, back_in, back_none, without_in, without_not, in_without, once_without, chain-removed}
@@ -122,7 +122,7 @@ listed-change u v heads L M lists links backs sizes forth back class below = rec
     old = lists class below
 
 -- what a head names
-pub head-names : (u heads : List ℕ) (L : ℕ → Type 0) (class : ℕ) → AreListed u L heads → ((j : ℕ) → L j → IsFree u j) → class < 32 → Names u (get_or heads class 0)
+pub head-names : (u heads : List ℕ) (L : ℕ → Type 0) (class : ℕ) → AreListed u L heads → ((j : ℕ) → L j → IsFree u j) → class < 32 → NamesFree u (get_or heads class 0)
 head-names u heads L class lists free below p e = let old = lists class below in free p (old.each p (first_of u old.list 0 _ p old.chain e)).0
 
 -- the first of a list is no block that is not listed
@@ -130,13 +130,13 @@ pub head-other : (u heads : List ℕ) (L : ℕ → Type 0) (class i : ℕ) → A
 head-other u heads L class i lists below n e = let old = lists class below in n (old.each i (first_of u old.list 0 _ i old.chain e)).0
 
 -- the neighbours of a listed block
-pub next-names : (u heads : List ℕ) (i : ℕ) → AreListed u (IsFree u) heads → IsFree u i → Names u (get_or u (i + 1) 0)
+pub next-names : (u heads : List ℕ) (i : ℕ) → AreListed u (IsFree u) heads → IsFree u i → NamesFree u (get_or u (i + 1) 0)
 next-names u heads i lists f p e =
     let old = lists (class_of_size (size_at u i)) (class-most (size_at u i)) in
     (old.each p (link_in u old.list 0 _ p i old.chain (old.all i f refl) e)).0
 
 -- the back link of a listed block names a free block
-pub back-names : (u heads : List ℕ) (i : ℕ) → AreListed u (IsFree u) heads → IsFree u i → Names u (get_or u (i + 2) 0)
+pub back-names : (u heads : List ℕ) (i : ℕ) → AreListed u (IsFree u) heads → IsFree u i → NamesFree u (get_or u (i + 2) 0)
 back-names u heads i lists f p e = cases (back_in u old.list 0 _ i p old.chain (old.all i f refl) e)
   where
     old : ClassList u (IsFree u) (class_of_size (size_at u i)) (get_or heads (class_of_size (size_at u i)) 0)

@@ -8,7 +8,7 @@ use Rattle.free_index.specs.Free.{Given}
 use Rattle.free_index.specs.Classes.{class_of_size}
 use Rattle.free_index.specs.Free.{OnlyLinks}
 use Rattle.free_index.specs.Lists.{In, Chain, AreListed, FreeLists, IsEmptyClass, IsFirstOfClass}
-use Rattle.free_index.specs.Steps.{Inserted, Names, Rebuilding}
+use Rattle.free_index.specs.Steps.{Inserted, NamesFree, Rebuilding}
 use Rattle.free_index.proofs.Chains.{header_apart, More, listed-insert}
 use Rattle.free_index.proofs.SizeClasses.{class-most}
 use Rattle.free_index.proofs.Listing.{listed-change, head-names, head-other, Fewer}
@@ -59,7 +59,7 @@ rebuilding-used laws u v heads at r b f h = record {
     back j l (inr e) = let k : used_at v at ≡ false = subst (λ i. used_at v i ≡ false) e l.free in absurd (cc)
 
 -- while the lists are made anew, their first links name free blocks
-pub rebuilding-names : (u v heads : List ℕ) (at : ℕ) → Rebuilding u v at heads → Names v (get_or heads (class_of_size (size_at v at)) 0)
+pub rebuilding-names : (u v heads : List ℕ) (at : ℕ) → Rebuilding u v at heads → NamesFree v (get_or heads (class_of_size (size_at v at)) 0)
 rebuilding-names u v heads at r = head-names v heads _ _ r.lists (λ j l. l.0) (class-most (size_at v at))
 
 -- and none names the block that is next
@@ -122,7 +122,7 @@ give-listed laws u v heads i x s e b h =
     back j f n = record { begins = b.back j f.begins; free = sym (ap used_of (other j (λ q. n (sym q)))) ∙ f.free }
 
 -- the one that is not listed is put in
-pub put-names : (v heads : List ℕ) (i : ℕ) → AreListed v (Fewer (IsFree v) i) heads → Names v (get_or heads (class_of_size (size_at v i)) 0)
+pub put-names : (v heads : List ℕ) (i : ℕ) → AreListed v (Fewer (IsFree v) i) heads → NamesFree v (get_or heads (class_of_size (size_at v i)) 0)
 put-names v heads i l = head-names v heads _ _ l (λ j m. m.0) (class-most (size_at v i))
 
 -- a block that is not listed is no first of a list

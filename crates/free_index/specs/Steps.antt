@@ -8,8 +8,8 @@ use Rattle.free_index.specs.Lists.{In, Chain, AreListed}
 -- What the private functions do, and how far their loops have come.
 
 -- a link names a free block or none
-abbrev pub Names : List ℕ → ℕ → Type 0
-Names words link = (p : ℕ) → link ≡ p + 1 → IsFree words p
+abbrev pub NamesFree : List ℕ → ℕ → Type 0
+NamesFree words link = (p : ℕ) → link ≡ p + 1 → IsFree words p
 
 -- the block at i stands in front of the list that began with `head`
 pub record Inserted (u v : List ℕ) (i head : ℕ) : Type 0 where

@@ -4,7 +4,7 @@ ghost use Rattle.heap_words.specs.Blocks.{FormedHeap, IsFree, IsUsed, Replaces, 
 ghost use Rattle.free_index.specs.Classes.{class_of_size};
 ghost use Rattle.free_index.specs.Free.{Suffices, Given, NoneSuffices, OnlyLinks, Taken, taken_blocks};
 ghost use Rattle.free_index.specs.Lists.{FreeLists, IsEmptyClass, IsFirstOfClass};
-ghost use Rattle.free_index.specs.Steps.{Inserted, Names, NoneOfClass, Removed, Unheaded};
+ghost use Rattle.free_index.specs.Steps.{Inserted, NamesFree, NoneOfClass, Removed, Unheaded};
 
 use crate::links::{insert, remove};
 use crate::size_class::class_of_size;
@@ -108,7 +108,7 @@ impl FreeIndex {
     // Puts a free block into the list of its class.
     fn put(&mut self, heap: &mut Heap, i: u32)
         requires free { IsFree heap.old i }
-        requires head { Names heap.old (slice_index self.old (class_of_size (size_at heap.old i))) }
+        requires head { NamesFree heap.old (slice_index self.old (class_of_size (size_at heap.old i))) }
         requires other { slice_index self.old (class_of_size (size_at heap.old i)) ≢ i + 1 }
         ensures inserted { Inserted heap.old heap.new i (slice_index self.old (class_of_size (size_at heap.old i))) }
         ensures heads { self.new ≡ slice_set self.old (class_of_size (size_at heap.old i)) (i + 1) }
@@ -123,8 +123,8 @@ impl FreeIndex {
     // Takes a free block out of the list of its class.
     fn cut(&mut self, heap: &mut Heap, i: u32)
         requires free { IsFree heap.old i }
-        requires next { Names heap.old (slice_index heap.old (i + 1)) }
-        requires back { Names heap.old (slice_index heap.old (i + 2)) }
+        requires next { NamesFree heap.old (slice_index heap.old (i + 1)) }
+        requires back { NamesFree heap.old (slice_index heap.old (i + 2)) }
         ensures removed { Removed heap.old heap.new i }
         ensures heads { Unheaded heap.old self.old self.new i (class_of_size (size_at heap.old i)) }
         ensures formed { FormedHeap heap.old }

@@ -1,14 +1,14 @@
 // Writing the links of a list of free blocks. A link is one more than a block's place, or 0 for none.
 ghost use Rattle.std.specs.Prelude.{◌≡◌, ◌≢◌, ◌+◌, ℕ, slice_index};
 ghost use Rattle.heap_words.specs.Blocks.{FormedHeap, IsFree, SameBlocks};
-ghost use Rattle.free_index.specs.Steps.{Inserted, Names, Removed};
+ghost use Rattle.free_index.specs.Steps.{Inserted, NamesFree, Removed};
 
 use heap_words::Heap;
 use heap_words::laws::block_laws;
 
 // Writes the link of the block that `back` names.
 fn link_from(heap: &mut Heap, back: u32, next: u32)
-    requires named { Names heap.old back }
+    requires named { NamesFree heap.old back }
     requires formed { FormedHeap heap.old }
     ensures same { SameBlocks heap.old heap.new }
     ensures formed { FormedHeap heap.new }
@@ -24,7 +24,7 @@ fn link_from(heap: &mut Heap, back: u32, next: u32)
 
 // Writes the back link of the block that `next` names.
 fn back_from(heap: &mut Heap, next: u32, back: u32)
-    requires named { Names heap.old next }
+    requires named { NamesFree heap.old next }
     requires formed { FormedHeap heap.old }
     ensures same { SameBlocks heap.old heap.new }
     ensures formed { FormedHeap heap.new }
@@ -42,7 +42,7 @@ fn back_from(heap: &mut Heap, next: u32, back: u32)
 pub fn insert(heap: &mut Heap, i: u32, head: u32)
     requires formed { FormedHeap heap.old }
     requires free { IsFree heap.old i }
-    requires head { Names heap.old head }
+    requires head { NamesFree heap.old head }
     requires other { head ≢ i + 1 }
     ensures inserted { Inserted heap.old heap.new i head }
     ensures formed { FormedHeap heap.new }
@@ -57,8 +57,8 @@ pub fn insert(heap: &mut Heap, i: u32, head: u32)
 pub fn remove(heap: &mut Heap, i: u32)
     requires formed { FormedHeap heap.old }
     requires free { IsFree heap.old i }
-    requires next { Names heap.old (slice_index heap.old (i + 1)) }
-    requires back { Names heap.old (slice_index heap.old (i + 2)) }
+    requires next { NamesFree heap.old (slice_index heap.old (i + 1)) }
+    requires back { NamesFree heap.old (slice_index heap.old (i + 2)) }
     ensures removed { Removed heap.old heap.new i }
     ensures formed { FormedHeap heap.new }
 {

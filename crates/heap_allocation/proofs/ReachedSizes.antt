@@ -5,7 +5,7 @@ use Rattle.heap_words.specs.Blocks.{Block, Blocks, block_at, blocks_from, Tiles,
 use Rattle.object_layout.specs.Classes.{ShapesView}
 use Rattle.free_index.specs.Lists.{In, Once}
 use Rattle.mark_sweep.specs.Collections.{Collects, used_sizes, used_words}
-use Rattle.mark_sweep.specs.Swept.{free_words}
+use Rattle.mark_sweep.specs.Swept.{free_block_words}
 use Rattle.heap_allocation.specs.Counts.{ListsReached}
 use Rattle.heap_allocation.proofs.Sums.{same-sum, map-same}
 
@@ -98,7 +98,7 @@ module _ (words : List ℕ) (listed : (b : Block) → Contains (Blocks words) b 
 
 -- the free words and the sizes of the reached blocks are the heap's words
 pub reached-counted : (s : ShapesView) (u list v reached : List ℕ) → Collects s u list v → Tiles 0 (Blocks v) (length v) → ((b : Block) → Contains (Blocks v) b ↔ IsBlock v b)
-    → free_words v + used_words v ≡ length v → ListsReached s u list reached → free_words v + sum (map (size_at u) reached) ≡ length u
+    → free_block_words v + used_words v ≡ length v → ListsReached s u list reached → free_block_words v + sum (map (size_at u) reached) ≡ length u
 reached-counted s u list v reached c t listed whole r =
     let a : used_words v ≡ sum (map (size_at v) (used_places (Blocks v))) = ap sum (places-sizes v (length v) 0) in
     let b = same-sum (size_at v) (used_places (Blocks v)) reached (places-once 0 (length v) (Blocks v) t) r.once forth back in

@@ -5,7 +5,7 @@ ghost use Rattle.heap_words.specs.Headers.{size_at};
 ghost use Rattle.free_index.specs.Lists.{FreeLists};
 ghost use Rattle.mark_sweep.specs.Collections.{Collects};
 ghost use Rattle.mark_sweep.specs.Reached.{AllGood};
-ghost use Rattle.mark_sweep.specs.Swept.{free_words};
+ghost use Rattle.mark_sweep.specs.Swept.{free_block_words};
 ghost use Rattle.heap_allocation.specs.Counts.{ListsReached};
 
 use free_index::FreeIndex;
@@ -27,7 +27,7 @@ pub fn collect_and_count<R: Roots>(
     requires lists { FreeLists index.old heap.old }
     ensures counted { (reached : List ℕ) → ListsReached shapes.now heap.old (R.remaining roots.old) reached
         → result + sum (map (size_at heap.old) reached) ≡ length heap.old }
-    ensures free { result ≡ free_words heap.new }
+    ensures free { result ≡ free_block_words heap.new }
     ensures collected { Collects shapes.now heap.old (R.remaining roots.old) heap.new }
     ensures lists { FreeLists index.new heap.new }
     ensures formed { FormedHeap heap.new }

@@ -2,7 +2,7 @@ use Rattle.std.proofs.Common.{◌≡◌, ℕ, ◌+◌, ◌≤◌, Bool, true, fa
 use Rattle.heap_words.specs.Headers.{size_at, used_at}
 use Rattle.heap_words.specs.Blocks.{Begins, Block, Blocks, FormedHeap, Tiles, blocks_from}
 use Rattle.heap_words.specs.Laws.{BlockLaws}
-use Rattle.mark_sweep.specs.Swept.{Counting, free_sizes, free_words, greatest, largest_free}
+use Rattle.mark_sweep.specs.Swept.{Counting, free_sizes, free_block_words, greatest, largest_free}
 use Rattle.mark_sweep.specs.Collections.{used_sizes, used_words}
 use Rattle.mark_sweep.proofs.Sweeps.{at-first}
 
@@ -40,7 +40,7 @@ pub counting-free : BlockLaws → (v : List ℕ) (at free largest : ℕ) → Cou
 counting-free laws v at free largest c b f h = record {
   stands = laws.places.next v at f b;
   small = let s = c.small in omega arith;
-  total = let t : free + (size_at v at + sum (free_sizes (blocks_from (length v) v (at + size_at v at)))) ≡ free_words v = rw (more, sum-cons) at c.total in omega arith;
+  total = let t : free + (size_at v at + sum (free_sizes (blocks_from (length v) v (at + size_at v at)))) ≡ free_block_words v = rw (more, sum-cons) at c.total in omega arith;
   most = let t : max largest (max (size_at v at) (greatest (free_sizes (blocks_from (length v) v (at + size_at v at))))) ≡ largest_free v = rw more at c.most in omega arith;
 }
   where
@@ -48,7 +48,7 @@ counting-free laws v at free largest c b f h = record {
     more = rw (laws.lists.block v at f b, h) refl
 
 -- at the end all are counted
-pub counting-last : BlockLaws → (v : List ℕ) (at free largest : ℕ) → Counting v at free largest → length v ≤ at → (free ≡ free_words v) × (largest ≡ largest_free v)
+pub counting-last : BlockLaws → (v : List ℕ) (at free largest : ℕ) → Counting v at free largest → length v ≤ at → (free ≡ free_block_words v) × (largest ≡ largest_free v)
 counting-last laws v at free largest c l = (let t = rw none at c.total in omega arith, let t = rw none at c.most in omega arith)
   where
     none : free_sizes (blocks_from (length v) v at) ≡ []
@@ -65,5 +65,5 @@ filled (block ∷ rest) at end (place, some, t) = choose block.used refl (filled
     choose false e h = rw (e, sum-cons) (omega arith)
 
 -- the free and the used blocks fill the heap
-pub free-and_used : (words : List ℕ) → Tiles 0 (Blocks words) (length words) → free_words words + used_words words ≡ length words
+pub free-and_used : (words : List ℕ) → Tiles 0 (Blocks words) (length words) → free_block_words words + used_words words ≡ length words
 free-and_used words t = let e = filled (Blocks words) 0 (length words) t in omega arith

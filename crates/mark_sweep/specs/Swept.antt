@@ -17,8 +17,8 @@ greatest [] = 0
 greatest (x ∷ xs) = max x (greatest xs)
 
 -- the words of the free blocks together, and of the largest of them
-abbrev pub free_words : List ℕ → ℕ
-free_words words = sum (free_sizes (Blocks words))
+abbrev pub free_block_words : List ℕ → ℕ
+free_block_words words = sum (free_sizes (Blocks words))
 
 abbrev pub largest_free : List ℕ → ℕ
 largest_free words = greatest (free_sizes (Blocks words))
@@ -76,5 +76,5 @@ pub record Merging (u v : List ℕ) (at : ℕ) : Type 0 where
 pub record Counting (words : List ℕ) (at free largest : ℕ) : Type 0 where
   pub stands : AtPlace words at
   pub small : free ≤ at
-  pub total : free + sum (free_sizes (blocks_from (length words) words at)) ≡ free_words words
+  pub total : free + sum (free_sizes (blocks_from (length words) words at)) ≡ free_block_words words
   pub most : max largest (greatest (free_sizes (blocks_from (length words) words at))) ≡ largest_free words

@@ -4,7 +4,7 @@ ghost use Rattle.heap_words.specs.Blocks.{FormedHeap, IsUsed};
 ghost use Rattle.free_index.specs.Lists.{FreeLists};
 ghost use Rattle.mark_sweep.specs.Collections.{Collects};
 ghost use Rattle.mark_sweep.specs.Reached.{AllGood, Reached};
-ghost use Rattle.mark_sweep.specs.Swept.{NoNeighbours, free_words, largest_free};
+ghost use Rattle.mark_sweep.specs.Swept.{NoNeighbours, free_block_words, largest_free};
 
 use crate::marking::mark;
 use crate::passes::{Collected, clear_marks, merge, sweep, totals};
@@ -32,7 +32,7 @@ pub fn collect<R: Roots>(
         → slice_index heap.new k ≡ slice_index heap.old k }
     ensures size { length heap.new ≡ length heap.old }
     ensures apart { NoNeighbours heap.new }
-    ensures free { result.free ≡ free_words heap.new }
+    ensures free { result.free ≡ free_block_words heap.new }
     ensures largest { result.largest ≡ largest_free heap.new }
     ensures lists { FreeLists index.new heap.new }
     ensures formed { FormedHeap heap.new }

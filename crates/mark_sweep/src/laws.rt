@@ -7,7 +7,7 @@ ghost use Rattle.object_layout.specs.Classes.{ShapesView, IsShape};
 ghost use Rattle.object_layout.specs.declared.rows.Shape.{Shape};
 ghost use Rattle.mark_sweep.specs.Collections.{Collects, IsGap, used_words};
 ghost use Rattle.mark_sweep.specs.Objects.{IsObject, IsReference, address, holds_reference, shape_named, shape_word};
-ghost use Rattle.mark_sweep.specs.Swept.{free_words};
+ghost use Rattle.mark_sweep.specs.Swept.{free_block_words};
 
 use heap_words::laws::{block_laws, blocks_tile};
 
@@ -40,7 +40,7 @@ pub fn gaps_are_free()
 
 /// The words of the free blocks are the heap's words less those of the used blocks.
 pub fn free_and_used_words()
-    ensures { (words : List ℕ) → FormedHeap words → free_words words + used_words words ≡ length words }
+    ensures { (words : List ℕ) → FormedHeap words → free_block_words words + used_words words ≡ length words }
 {
     blocks_tile();
 }

@@ -2,7 +2,7 @@
 ghost use Rattle.std.specs.Prelude.{◌≡◌, ◌&&◌, not};
 ghost use Rattle.heap_words.specs.Headers.{used_at};
 ghost use Rattle.heap_words.specs.Blocks.{Begins, FormedHeap};
-ghost use Rattle.mark_sweep.specs.Swept.{Kept, KeepsUsed, NoMarks, Swept, NoNeighbours, free_words, largest_free};
+ghost use Rattle.mark_sweep.specs.Swept.{Kept, KeepsUsed, NoMarks, Swept, NoNeighbours, free_block_words, largest_free};
 
 use heap_words::Heap;
 use heap_words::laws::block_laws;
@@ -75,7 +75,7 @@ pub fn merge(heap: &mut Heap)
 
 /// Counts the free words, and those of the largest free block.
 pub fn totals(heap: &Heap) -> Collected
-    ensures free { result.free ≡ free_words heap.now }
+    ensures free { result.free ≡ free_block_words heap.now }
     ensures largest { result.largest ≡ largest_free heap.now }
 {
     block_laws();

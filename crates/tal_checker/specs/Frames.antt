@@ -6,7 +6,7 @@ use Rattle.tal_types.specs.declared.types.Ty.{Ty}
 use Rattle.tal_types.specs.declared.types.Ty.TheVariants.{Num, Ref, Obj, ArrRef, Arr, Fun, Code, Tab, Desc, Junk}
 use Rattle.tal_types.specs.declared.signatures.FrameRow.{FrameRow}
 use Rattle.tal_types.specs.Contexts.{LiveContext, ContextView, Dead, Live}
-use Rattle.frame_tables.specs.FrameRows.{RowAt, row_at}
+use Rattle.frame_tables.specs.FrameRows.{RowAt, frame_row_at}
 use Rattle.tal_flow.specs.Strongest.{PlacedInst, placed_at}
 use Rattle.tal_image.specs.Image.{ImageParts}
 use Rattle.tal_checker.specs.Instructions.{instructions}
@@ -51,4 +51,4 @@ frames_of image = frame_rows (instructions image.code) (strongest image)
 
 -- an image has a row at an address exactly where an instruction begins, and it is that of the strongest context there
 abbrev pub RowsByAddress : Type 0
-RowsByAddress = (image : ImageParts) (pc : ℕ) → row_at (frames_of image) pc ≡ option_map (λ (x : PlacedInst). row_in (strongest_at image pc)) (placed_at (instructions image.code) pc)
+RowsByAddress = (image : ImageParts) (pc : ℕ) → frame_row_at (frames_of image) pc ≡ option_map (λ (x : PlacedInst). row_in (strongest_at image pc)) (placed_at (instructions image.code) pc)

@@ -12,9 +12,9 @@ use Rattle.tal_syntax.specs.declared.form.Form.TheVariants as form
 use Rattle.tal_syntax.specs.declared.form.TypeText.{TypeText}
 use Rattle.tal_syntax.specs.declared.module.TextLine.{TextLine}
 use Rattle.tal_names.specs.Declarations.{Names}
-use Rattle.tal_names.specs.NameSets.{is_named, with_name, number_of}
+use Rattle.tal_names.specs.NameSets.{is_named, with_name, number_of_name}
 use Rattle.tal_names.specs.LookUps.{type_of, field_byte, method_byte}
-use Rattle.tal_rows.specs.Trials.{need, unless}
+use Rattle.tal_rows.specs.Trials.{need_value, unless}
 use Rattle.tal_rows.specs.Lines.{field_type}
 use Rattle.unit_files.specs.declared.parts.UnitClass.{UnitClass}
 use Rattle.tal_classes.specs.declared.class.OpenClass.{OpenClass}
@@ -63,8 +63,8 @@ inherited_slot m parent n = option_map (λ byte. (byte - 44) / 4) (option_and_th
 -- number or a reference that may be null.
 unfoldable pub field_line : Names → ClassSoFar → List ℕ → TypeText → Result FieldTy ℕ
 field_line m c n t =
-    need (type_of m t) 11 (λ found. unless (inherits_field m c.parent n || is_named c.field_names n) 12
-    (unless (nat_le 256 (c.inherited + length c.fields)) 14 (need (field_type found) 14 (λ held. Ok held))))
+    need_value (type_of m t) 11 (λ found. unless (inherits_field m c.parent n || is_named c.field_names n) 12
+    (unless (nat_le 256 (c.inherited + length c.fields)) 14 (need_value (field_type found) 14 (λ held. Ok held))))
 
 -- the function is of the signature with this name
 unfoldable pub has_sig : Names → ℕ → List ℕ → Bool
@@ -79,7 +79,7 @@ slot_fits m methods (Some slot) s = has_sig m (slice_index_or methods slot 0) s
 -- and the slot fits.
 unfoldable pub method_line : Names → ClassSoFar → List ℕ → List ℕ → List ℕ → Result MethodLine ℕ
 method_line m c n s f =
-    need (number_of m.sigs s) 11 (λ sig. need (number_of m.functions f) 11 (λ function. unless (is_named c.method_names n) 12
+    need_value (number_of_name m.sigs s) 11 (λ sig. need_value (number_of_name m.functions f) 11 (λ function. unless (is_named c.method_names n) 12
     (unless (not (has_sig m function s && slot_fits m c.methods (inherited_slot m c.parent n) s)) 14
     (Ok (record { slot = inherited_slot m c.parent n; function = function })))))
 

@@ -3,7 +3,7 @@
 ghost use Rattle.std.specs.Prelude.{◌≡◌, ◌≤◌, ◌*◌, ◌^◌, [], IfOk, OnOk, map};
 ghost use Rattle.std.specs.Option.{option_and_then, option_copied};
 ghost use Rattle.std.specs.Prelude.{slice_get};
-ghost use Rattle.tal_names.specs.Declarations.{shown};
+ghost use Rattle.tal_names.specs.Declarations.{names_shown};
 ghost use Rattle.tal_classes.specs.Members.{so_far, field_count, methods_of, begun, inherits_field, inherited_slot, field_line, has_sig, slot_fits, method_line, with_field, with_slot, with_method, row_of};
 
 use no_memory::NoMemory;
@@ -91,7 +91,7 @@ fn method_list(alloc: Global, functions: &[u32]) -> Result<MethodList, NoMemory>
 // Whether the classes above have a field.
 #[tactic(auto, unfolding(crate::specs::Members::inherits_field))]
 fn inherits_field(names: &ModuleNames, parent: Option<u32>, name: &Name) -> bool
-    ensures { result ≡ inherits_field (shown names.now) parent name.now }
+    ensures { result ≡ inherits_field (names_shown names.now) parent name.now }
 {
     match parent {
         Some(class) => names.field_byte(class, name.bytes()).is_some(),
@@ -102,7 +102,7 @@ fn inherits_field(names: &ModuleNames, parent: Option<u32>, name: &Name) -> bool
 // The slot of a method that the classes above have.
 #[tactic(auto, unfolding(crate::specs::Members::inherited_slot))]
 fn inherited_slot(names: &ModuleNames, parent: Option<u32>, name: &Name) -> Option<u64>
-    ensures { result ≡ inherited_slot (shown names.now) parent name.now }
+    ensures { result ≡ inherited_slot (names_shown names.now) parent name.now }
 {
     let byte = names.method_byte(parent?, name.bytes())?;
     Some(byte.saturating_sub(44) / 4)
@@ -111,7 +111,7 @@ fn inherited_slot(names: &ModuleNames, parent: Option<u32>, name: &Name) -> Opti
 // Whether the function is of the signature with this name.
 #[tactic(auto, unfolding(crate::specs::Members::has_sig))]
 fn has_sig(names: &ModuleNames, function: u32, sig: &Name) -> bool
-    ensures { result ≡ has_sig (shown names.now) function sig.now }
+    ensures { result ≡ has_sig (names_shown names.now) function sig.now }
 {
     let written: &[u8] = match names.function_sigs.get(function as usize) {
         Some(found) => found.bytes(),
@@ -147,7 +147,7 @@ impl OpenClass {
         name: &Name,
         ty: &TypeText,
     ) -> Result<FieldTy, u8>
-        ensures { result ≡ field_line (shown names.now) (so_far self.now) name.now ty.now }
+        ensures { result ≡ field_line (names_shown names.now) (so_far self.now) name.now ty.now }
     {
         let Some(found) = names.type_of(ty) else {
             return Err(11);
@@ -167,7 +167,7 @@ impl OpenClass {
     // Whether a method of the signature fits its slot.
     #[tactic(auto, unfolding(crate::specs::Members::slot_fits))]
     fn slot_fits(&self, names: &ModuleNames, slot: Option<u64>, sig: &Name) -> bool
-        ensures { result ≡ slot_fits (shown names.now) self.now.methods.items slot sig.now }
+        ensures { result ≡ slot_fits (names_shown names.now) self.now.methods.items slot sig.now }
     {
         match slot {
             Some(place) => {
@@ -190,7 +190,7 @@ impl OpenClass {
         sig: &Name,
         function: &Name,
     ) -> Result<MethodLine, u8>
-        ensures { result ≡ method_line (shown names.now) (so_far self.now) name.now sig.now function.now }
+        ensures { result ≡ method_line (names_shown names.now) (so_far self.now) name.now sig.now function.now }
     {
         if names.sigs.number(sig.bytes()).is_none() {
             return Err(11);

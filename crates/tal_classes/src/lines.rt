@@ -1,7 +1,7 @@
 // The lines of a class one after another.
 ghost use Rattle.std.specs.Prelude.{◌≡◌};
 ghost use Rattle.asm_faults.specs.Answers.{AnswersBy};
-ghost use Rattle.tal_names.specs.Declarations.{shown};
+ghost use Rattle.tal_names.specs.Declarations.{names_shown};
 ghost use Rattle.tal_classes.specs.Members.{so_far, take_member, class_row};
 ghost use Rattle.tal_classes.specs.Steps.{IsTaken};
 
@@ -32,7 +32,7 @@ impl OpenClass {
         names: &ModuleNames,
         line: &TextLine,
     ) -> Result<bool, AsmAnswer>
-        ensures { IsTaken result (take_member (shown names.now) (so_far self.old) line.now.form) line.now.number (so_far self.old) (so_far self.new) }
+        ensures { IsTaken result (take_member (names_shown names.now) (so_far self.old) line.now.form) line.now.number (so_far self.old) (so_far self.new) }
     {
         match &line.form {
             Form::Field { name, ty } => {
@@ -66,7 +66,7 @@ pub fn class_row(
     parent: Option<u32>,
     behind: &[TextLine],
 ) -> Result<ClassRow, AsmAnswer>
-    ensures { AnswersBy result (class_row (shown names.now) rows.now parent behind.now) }
+    ensures { AnswersBy result (class_row (names_shown names.now) rows.now parent behind.now) }
 {
     let mut class = OpenClass::begin(alloc, rows, parent)?;
     let mut left = behind;

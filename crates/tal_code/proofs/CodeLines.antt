@@ -3,6 +3,7 @@ use Rattle.std.proofs.Common.{◌≡◌, ◌≤◌, ℕ, ℤ, pos, List, get_or,
 use Rattle.std.specs.Option.{option_map_or}
 use Rattle.std.specs.List.{between}
 use Rattle.std.proofs.lemmas.Slice.{first_rest}
+use Rattle.asm_faults.specs.Answers.{at_line}
 use Rattle.code_words.specs.declared.words.Mnemonic.{Mnemonic}
 use Rattle.tal_syntax.specs.declared.form.Arg.{Arg}
 use Rattle.tal_syntax.specs.declared.form.Form.TheVariants as form
@@ -12,7 +13,7 @@ use Rattle.tal_syntax.specs.declared.module.TextLine.{TextLine}
 use Rattle.tal_names.specs.Declarations.{Names}
 use Rattle.asm_faults.specs.declared.AsmFault.{AsmFault}
 use Rattle.tal_code.specs.Labels.{LabelsView, distance_at}
-use Rattle.tal_code.specs.Functions.{UnitCodeView, inst_line, is_placed, block_line, code_line, on_line, at_line, with_lines}
+use Rattle.tal_code.specs.Functions.{UnitCodeView, inst_line, is_placed, block_line, code_line, on_line, with_lines}
 
 -- The lines that are left are a first one, and those behind it.
 pub first_line : (left : List TextLine) (l : TextLine) → 1 ≤ length left → l ≡ get_or left 0 l → left ≡ l ∷ between 1 (length left) left

@@ -6,7 +6,7 @@ use Rattle.tal_syntax.specs.declared.form.RegType.{RegType}
 use Rattle.tal_syntax.specs.declared.form.TypeText.{TypeText}
 use Rattle.tal_names.specs.Declarations.{Names}
 use Rattle.tal_rows.specs.Trials.{unless}
-use Rattle.tal_rows.specs.Lines.{all_known, slots_of, slots_known, repeats, types_in, label_line}
+use Rattle.tal_rows.specs.Lines.{all_known, slots_given, slots_known, repeats, types_in, label_line}
 use Rattle.tal_image.specs.Conditions.{most_code}
 use Rattle.tal_operands.specs.declared.instructions.Instruction.{Instruction}
 use Rattle.tal_operands.specs.Instructions.{is_misplaced, inst_fault}
@@ -70,11 +70,11 @@ pub block_fits : (m : Names) (rs : List RegType) (slots : Option (List TypeText)
 unfolding label_line
 block_fits m rs slots placed blocks ts e =
     let a = passed (not (all_known m rs)) 11 _ ts e in
-    let b = passed (not (slots_known m (slots_of slots))) 11 _ ts a.1 in
+    let b = passed (not (slots_known m (slots_given slots))) 11 _ ts a.1 in
     let c = passed (repeats [] rs) 12 _ ts b.1 in
     let d = passed (not placed) 15 _ ts c.1 in
-    let f = passed (nat_lt 64 (length (slots_of slots)) || nat_le 65536 blocks) 16 (Ok (types_in m rs)) ts d.1 in
-    below blocks (either (nat_lt 64 (length (slots_of slots))) (nat_le 65536 blocks) f.0)
+    let f = passed (nat_lt 64 (length (slots_given slots)) || nat_le 65536 blocks) 16 (Ok (types_in m rs)) ts d.1 in
+    below blocks (either (nat_lt 64 (length (slots_given slots))) (nat_le 65536 blocks) f.0)
   where
     either : (a b : Bool) → (a || b) ≡ false → b ≡ false
     either true b e = cc

@@ -15,8 +15,8 @@ use Rattle.tal_names.specs.Declarations.{Names}
 use Rattle.tal_names.specs.LookUps.{type_of}
 use Rattle.tal_operands.specs.declared.operands.Sense.{Sense}
 use Rattle.tal_operands.specs.declared.instructions.Instruction.{Instruction}
-use Rattle.tal_operands.specs.Instructions.{instruction_of, inst_fault}
-use Rattle.tal_rows.specs.Lines.{is_twice, slots_of, label_line}
+use Rattle.tal_operands.specs.Instructions.{line_instruction, inst_fault}
+use Rattle.tal_rows.specs.Lines.{is_twice, slots_given, label_line}
 use Rattle.unit_files.specs.declared.parts.UnitBlock.{UnitBlock}
 use Rattle.unit_files.specs.declared.parts.UnitMark.{UnitMark}
 use Rattle.unit_files.specs.declared.parts.FixUp.{FixUp}
@@ -79,7 +79,7 @@ unless_fault (Some code) made = Err code
 -- the code with an instruction, whose label is so far away, if it is known
 unfoldable pub inst_line : Names → UnitCodeView → Mnemonic → List Arg → Option ℤ → Result UnitCodeView ℕ
 inst_line m u mnemonic args distance =
-    let i = instruction_of m mnemonic args (unwrap_or distance (pos 0)) in
+    let i = line_instruction m mnemonic args (unwrap_or distance (pos 0)) in
     let c = holed_code i in
     unless_fault (inst_fault i (is_some c) (is_some distance) (has_room (with_inst u i.sense c))) (with_inst u i.sense c)
 
@@ -108,7 +108,7 @@ with_block u regs slots = record u { blocks = u.blocks ++ record { offset = leng
 unfoldable pub block_line : Names → UnitCodeView → List RegType → Option (List TypeText) → Bool → Result UnitCodeView ℕ
 block_line m u rs slots placed = elim (label_line m rs slots placed (length u.blocks)) [
   | Err code ↦ Err code
-  | Ok regs ↦ Ok (with_block u regs (slot_types m (slots_of slots)))
+  | Ok regs ↦ Ok (with_block u regs (slot_types m (slots_given slots)))
 ]
 
 -- ---- a function
@@ -129,10 +129,6 @@ code_line m ls before u _ more = None
 abbrev pub on_line : ℕ → Result UnitCodeView ℕ → (UnitCodeView → Result UnitCodeView AsmFault) → Result UnitCodeView AsmFault
 on_line number (Ok u) more = more u
 on_line number (Err code) more = Err (record { line = number; code = code })
-
--- what a line made, or its fault
-abbrev pub at_line : ℕ → Result UnitCodeView ℕ → Result UnitCodeView AsmFault
-at_line number made = on_line number made Ok
 
 -- the code with a function's lines, up to the first line that is none
 unfoldable pub with_lines : Names → LabelsView → UnitCodeView → UnitCodeView → List TextLine → Result UnitCodeView AsmFault

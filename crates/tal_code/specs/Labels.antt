@@ -12,8 +12,8 @@ use Rattle.tal_syntax.specs.declared.form.Form.{Form}
 use Rattle.tal_syntax.specs.declared.form.Form.TheVariants as form
 use Rattle.tal_syntax.specs.declared.module.TextLine.{TextLine}
 use Rattle.tal_names.specs.Declarations.{Names}
-use Rattle.tal_names.specs.NameSets.{is_named, number_of}
-use Rattle.tal_operands.specs.Instructions.{is_call, instruction_of}
+use Rattle.tal_names.specs.NameSets.{is_named, number_of_name}
+use Rattle.tal_operands.specs.Instructions.{is_call, line_instruction}
 
 -- the labels' names in the order of the lines, a name that is given again where it was first, and at which offsets they are
 pub record LabelsView : Type 0 where
@@ -37,7 +37,7 @@ words_length w = option_map_or canonical_length (meant_by w) 0
 
 -- How many bytes an instruction has, 0 where it has no spelling. A distance has four bytes in each case.
 unfoldable pub inst_length : Names → Mnemonic → List Arg → ℕ
-inst_length m mnemonic args = words_length (instruction_of m mnemonic args (pos 0)).words
+inst_length m mnemonic args = words_length (line_instruction m mnemonic args (pos 0)).words
 
 -- a label more
 unfoldable pub with_label : LabelsView → List ℕ → ℕ → LabelsView
@@ -58,7 +58,7 @@ labels_of m offset lines = with_labels m no_labels offset lines
 
 -- where the label with a name is
 unfoldable pub label_offset : LabelsView → List ℕ → Option ℕ
-label_offset ls n = option_and_then (slice_get ls.offsets) (number_of ls.names n)
+label_offset ls n = option_and_then (slice_get ls.offsets) (number_of_name ls.names n)
 
 -- the name of the label to which an instruction goes: a call goes to none
 unfoldable pub first_target : List Arg → Option (List ℕ)

@@ -1,10 +1,10 @@
 // The lines of a function.
 ghost use Rattle.std.specs.Prelude.{◌≡◌, length, IfOk};
 ghost use Rattle.std.specs.Option.{unwrap_or};
-ghost use Rattle.tal_names.specs.Declarations.{shown};
-ghost use Rattle.tal_rows.specs.Lines.{slots_of, is_twice};
-ghost use Rattle.asm_faults.specs.Answers.{AnswersBy};
-ghost use Rattle.tal_code.specs.Functions.{UnitCodeView, inst_line, begins_with_inst, is_placed, slot_types, block_line, has_code, at_line, with_lines, function_code};
+ghost use Rattle.tal_names.specs.Declarations.{names_shown};
+ghost use Rattle.tal_rows.specs.Lines.{slots_given, is_twice};
+ghost use Rattle.asm_faults.specs.Answers.{AnswersBy, at_line};
+ghost use Rattle.tal_code.specs.Functions.{UnitCodeView, inst_line, begins_with_inst, is_placed, slot_types, block_line, has_code, with_lines, function_code};
 
 use crate::holes::holed_code;
 use crate::labels::Labels;
@@ -64,7 +64,7 @@ fn is_twice(names: &NameSet, name: &Name, labels: u32) -> bool
 // The slots of a label: none where no list is given.
 #[tactic(auto, unfolding(tal_rows::specs::Lines::slots_of))]
 fn slots_of(slots: &Option<TypeTextList>) -> &[TypeText]
-    ensures { result.now ≡ slots_of slots.now }
+    ensures { result.now ≡ slots_given slots.now }
 {
     match slots {
         Some(types) => types.items(),
@@ -74,7 +74,7 @@ fn slots_of(slots: &Option<TypeTextList>) -> &[TypeText]
 
 // The types of slots.
 fn slot_types(alloc: Global, names: &ModuleNames, slots: &[TypeText]) -> Result<Vec<Ty>, NoMemory>
-    ensures { IfOk result (λ types. types.items ≡ slot_types (shown names.now) slots.now) }
+    ensures { IfOk result (λ types. types.items ≡ slot_types (names_shown names.now) slots.now) }
 {
     let mut types = Vec::new(alloc);
     for slot in slots {
@@ -94,7 +94,7 @@ impl UnitCode {
         args: &[Arg],
         distance: Option<i32>,
     ) -> Result<UnitCode, AsmAnswer>
-        ensures { AnswersBy result (at_line number (inst_line (shown names.now) self mnemonic args.now distance)) }
+        ensures { AnswersBy result (at_line number (inst_line (names_shown names.now) self mnemonic args.now distance)) }
     {
         let instruction = instruction_of(names, mnemonic, args, distance.unwrap_or(0));
         let holed = holed_code(&instruction);
@@ -119,7 +119,7 @@ impl UnitCode {
         slots: &Option<TypeTextList>,
         is_placed: bool,
     ) -> Result<UnitCode, AsmAnswer>
-        ensures { AnswersBy result (at_line number (block_line (shown names.now) self regs.now slots.now is_placed)) }
+        ensures { AnswersBy result (at_line number (block_line (names_shown names.now) self regs.now slots.now is_placed)) }
     {
         match label_line(names, regs, slots, is_placed, self.block_count()) {
             Err(code) => Err(AsmAnswer::Fault(AsmFault { line: number, code })),
@@ -157,7 +157,7 @@ impl UnitCode {
         labels: &Labels,
         lines: &[TextLine],
     ) -> Result<UnitCode, AsmAnswer>
-        ensures { AnswersBy result (with_lines (shown names.now) labels.now self self lines.now) }
+        ensures { AnswersBy result (with_lines (names_shown names.now) labels.now self self lines.now) }
     {
         let start = self.len();
         let blocks = self.block_count();
@@ -202,7 +202,7 @@ impl UnitCode {
         names: &ModuleNames,
         lines: &[TextLine],
     ) -> Result<UnitCode, AsmAnswer>
-        ensures { AnswersBy result (function_code (shown names.now) self lines.now) }
+        ensures { AnswersBy result (function_code (names_shown names.now) self lines.now) }
     {
         let labels = Labels::of(alloc, names, self.len(), lines)?;
         self.with_lines(alloc, names, &labels, lines)

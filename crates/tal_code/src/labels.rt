@@ -1,7 +1,7 @@
 // Where the labels of a function lie.
 ghost use Rattle.std.specs.Prelude.{◌≡◌, ◌≤◌, ◌+◌, length, IfOk, IfSome, OnOk};
 ghost use Rattle.std.specs.Option.{option_copied};
-ghost use Rattle.tal_names.specs.Declarations.{shown};
+ghost use Rattle.tal_names.specs.Declarations.{names_shown};
 ghost use Rattle.tal_image.specs.Conditions.{most_code};
 ghost use Rattle.tal_code.specs.Labels.{no_labels, farthest, offset_behind, inst_length, with_label, with_labels, labels_of, label_offset, first_target, label_of, distance_at};
 
@@ -52,7 +52,7 @@ fn offset_behind(offset: u32, bytes: u8) -> u32
 // How many bytes an instruction has.
 #[tactic(auto, unfolding(crate::specs::Labels::inst_length))]
 fn inst_length(names: &ModuleNames, mnemonic: Mnemonic, args: &[Arg]) -> u8
-    ensures { result ≡ inst_length (shown names.now) mnemonic args.now }
+    ensures { result ≡ inst_length (names_shown names.now) mnemonic args.now }
 {
     words_length(instruction_of(names, mnemonic, args, 0).words)
 }
@@ -113,7 +113,7 @@ impl Labels {
         lines: &[TextLine],
     ) -> Result<Labels, NoMemory>
         requires { start ≤ most_code }
-        ensures { IfOk result (λ labels. labels ≡ labels_of (shown names.now) start lines.now) }
+        ensures { IfOk result (λ labels. labels ≡ labels_of (names_shown names.now) start lines.now) }
     {
         let mut labels = Labels::new(alloc);
         let mut offset = start;
@@ -160,7 +160,7 @@ impl Labels {
         args: &[Arg],
     ) -> Option<i32>
         requires { offset ≤ most_code }
-        ensures { result ≡ distance_at (shown names.now) self.now offset mnemonic args.now }
+        ensures { result ≡ distance_at (names_shown names.now) self.now offset mnemonic args.now }
     {
         let Some(name) = label_of(mnemonic, args) else {
             return Some(0);

@@ -10,7 +10,7 @@ use Rattle.tal_image.specs.declared.parts.FunctionPart.{FunctionPart}
 use Rattle.tal_image.specs.declared.start.Start.{Start}
 use Rattle.tal_image.specs.declared.start.Start.TheVariants.{Nothing, Instruction, Immediate}
 use Rattle.tal_image.specs.Conditions.{Tables, Spelled, block_fits, mark_fits, marked_number, marked_number_at, same_number}
-use Rattle.tal_image.specs.Fields.{instructions, bodies, all_instructions, code_bytes}
+use Rattle.tal_image.specs.Fields.{function_instructions, bodies, all_instructions, code_bytes}
 use Rattle.file_fields.specs.Grammar.{AreBytes}
 use Rattle.file_fields.specs.Reading.{◌▸◌, Reads, run}
 
@@ -57,7 +57,7 @@ start_number (Immediate n) = Some n
 
 -- the instructions of so many bytes
 abbrev pub body_at : ℕ → Reads (List Spelled)
-body_at n file at = run (instructions n n) file at
+body_at n file at = run (function_instructions n n) file at
 
 -- the instructions of functions one after another
 abbrev pub bodies_at : List FunctionPart → Reads (List Spelled)
@@ -73,7 +73,7 @@ code_at functions file at = starts_behind [] (bodies_at functions file at)
 
 -- whether a block may begin at an offset
 unfoldable pub place_fits : List Start → List Bool → ℕ → ℕ → Bool
-place_fits instructions functions least offset = nat_le least offset && is_start (start_at instructions offset) && not (starts_at functions offset)
+place_fits function_instructions functions least offset = nat_le least offset && is_start (start_at function_instructions offset) && not (starts_at functions offset)
 
 -- whether a mark may stand at an offset
 unfoldable pub offset_fits : List Start → ℕ → ℕ → Bool
@@ -109,7 +109,7 @@ StandAt file at (s ∷ more) = (0 < length s.text) × (s.text ≡ take (length s
 
 -- What is read of the code of functions is instructions that stand in the file, up to the place where the reader then is. What
 -- a condition asks of an offset in them is looked up in what is kept.
-pub record CodeLaws : Type 0 where
+pub record ReadCodeLaws : Type 0 where
   pub stand : (file : List ℕ) → AreBytes file → (functions : List FunctionPart) (at : ℕ) (xs : List (List Spelled)) (end : ℕ)
       → run (bodies functions) file at ≡ Ok (xs, end) → StandAt file at (all_instructions xs) × (end ≡ at + length (code_bytes (all_instructions xs)))
   pub bytes : (file : List ℕ) (at : ℕ) (code : List Spelled) → StandAt file at code → code_bytes code ≡ take (length (code_bytes code)) (drop at file)

@@ -150,15 +150,15 @@ abbrev pub array_fields : Tables → List KindRow → ℕ → Grammar ArrayPart
 array_fields t kinds used = array_where t (numbers_given kinds) used
 
 -- the instructions of so many bytes; there are not more of them than bytes
-unfoldable pub instructions : ℕ → ℕ → Grammar (List Spelled)
-instructions zero room = done []
-instructions (suc n) zero = done []
-instructions (suc n) (suc room) = instruction (suc room) (λ text i. then_with (instructions n (suc room - length text)) (λ more. done (record { text = text; means = i } ∷ more)))
+unfoldable pub function_instructions : ℕ → ℕ → Grammar (List Spelled)
+function_instructions zero room = done []
+function_instructions (suc n) zero = done []
+function_instructions (suc n) (suc room) = instruction (suc room) (λ text i. then_with (function_instructions n (suc room - length text)) (λ more. done (record { text = text; means = i } ∷ more)))
 
 -- the instructions of functions one after another
 unfoldable pub bodies : List FunctionPart → Grammar (List (List Spelled))
 bodies [] = done []
-bodies (f ∷ fs) = then_with (instructions f.length f.length) (λ body. then_with (bodies fs) (λ more. done (body ∷ more)))
+bodies (f ∷ fs) = then_with (function_instructions f.length f.length) (λ body. then_with (bodies fs) (λ more. done (body ∷ more)))
 
 -- the instructions of all functions
 abbrev pub all_instructions : List (List Spelled) → List Spelled

@@ -82,8 +82,8 @@ front_at file at =
 abbrev pub addresses_of : FrontParts → List ℕ
 addresses_of f = map (λ (row : FunRow). row.address) (fun_rows code_start f.functions)
 
-abbrev pub places_of : FrontParts → List ℕ
-places_of f = array_places (statics_start + 4 * f.header.statics) f.arrays
+abbrev pub places_of_arrays : FrontParts → List ℕ
+places_of_arrays f = array_places (statics_start + 4 * f.header.statics) f.arrays
 
 -- blocks where instructions begin and no function does, and marks of the immediate numbers
 abbrev pub blocks_by : FrontParts → List Start → Grammar (List BlockPart)
@@ -91,7 +91,7 @@ blocks_by f starts = many f.header.blocks (λ later least. block_where (tables_o
 
 abbrev pub marks_by : FrontParts → List Start → Grammar (List MarkPart)
 marks_by f starts =
-    many f.header.marks (λ later least. mark_where (offset_fits starts least) (mark_says (tables_of f.header) (addresses_of f) (places_of f) starts)) after_mark 0
+    many f.header.marks (λ later least. mark_where (offset_fits starts least) (mark_says (tables_of f.header) (addresses_of f) (places_of_arrays f) starts)) after_mark 0
 
 -- the code and what is said of it
 unfoldable pub behind_at : FrontParts → Reads CodeParts

@@ -36,12 +36,12 @@ abbrev pub IsAtKey : {A : Type 0} → (A → ℕ) → List A → ℕ → Option 
 IsAtKey {A} key xs n at = MatchOption at ((i : ℕ) (d : A) → i < length xs → key (slice_index_or xs i d) ≢ n) (λ i. (i < length xs) × ((d : A) → key (slice_index_or xs i d) ≡ n))
 
 -- the place that an index has for a number: one less than what it holds there
-unfoldable pub place_in : List ℕ → ℕ → Option ℕ
-place_in places n = if nat_lt 0 (slice_index places n) then Some (slice_index places n - 1) else None
+unfoldable pub kept_place : List ℕ → ℕ → Option ℕ
+kept_place places n = if nat_lt 0 (slice_index places n) then Some (slice_index places n - 1) else None
 
 -- an index has for each number the place where it is the key
 abbrev pub IsIndex : {A : Type 0} → (A → ℕ) → List A → List ℕ → Type 0
-IsIndex {A} key xs places = (n : ℕ) → IsAtKey key xs n (place_in places n)
+IsIndex {A} key xs places = (n : ℕ) → IsAtKey key xs n (kept_place places n)
 
 -- for each byte of functions the number of the one that has it, where the first has this number
 unfoldable pub owners : ℕ → List FunctionPart → List ℕ

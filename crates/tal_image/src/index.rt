@@ -1,6 +1,6 @@
 // Where rows stand by their offsets in the code: made once for an image, so that each look-up is one step.
 ghost use Rattle.std.specs.Prelude.{◌≡◌, ◌≤◌, ℕ, length, map, IfOk};
-ghost use Rattle.tal_image.specs.Kept.{RisesBy, IsIndex, place_in, owners};
+ghost use Rattle.tal_image.specs.Kept.{RisesBy, IsIndex, kept_place, owners};
 
 use crate::parts::{BlockPart, FunctionPart, MarkPart};
 use no_memory::NoMemory;
@@ -24,7 +24,7 @@ pub(crate) fn index_of(alloc: Global, rising: &[u32]) -> Result<Vec<u32>, NoMemo
 
 /// The place that an index has for a number.
 pub(crate) fn place_in(places: &[u32], number: u32) -> Option<usize>
-    ensures { result ≡ place_in places.now number }
+    ensures { result ≡ kept_place places.now number }
 {
     let next = places.get(number as usize).copied().unwrap_or(0);
     if next > 0 {

@@ -3,14 +3,14 @@ ghost use Rattle.std.specs.Prelude.{◌^◌};
 ghost use Rattle.file_fields.specs.Laws.{EndsBy};
 ghost use Rattle.tal_image.specs.Fields.{image_fields};
 ghost use Rattle.tal_image.specs.Rows.{RowMeanings, RowReaches};
-ghost use Rattle.tal_image.specs.CodeReading.{CodeLaws};
-ghost use Rattle.tal_image.specs.Laws.{OneMeaning, ReadAsFields, EachIsOne, FormedShapes};
+ghost use Rattle.tal_image.specs.CodeReading.{ReadCodeLaws};
+ghost use Rattle.tal_image.specs.Laws.{OneImageMeaning, ReadAsFields, EachIsImage, FormedShapes};
 
 use crate::image_reader::PlacedRows;
 
 /// What a file stands for is one thing: one image, or one first fault, and not both.
 pub fn one_meaning()
-    ensures { OneMeaning }
+    ensures { OneImageMeaning }
 {
     read_as_fields();
     file_fields::laws::one_meaning::<PlacedRows>();
@@ -28,7 +28,7 @@ pub fn read_as_fields()
 /// Each file stands for an image or has a first fault, so that by the law of one meaning what a file is told to be is
 /// pinned for every file.
 pub fn each_is_one()
-    ensures { EachIsOne }
+    ensures { EachIsImage }
 {
     read_as_fields();
     file_fields::laws::each_is_one::<PlacedRows>();
@@ -55,8 +55,8 @@ pub fn row_reaches()
 {}
 
 /// What is read of the code of functions, and how a condition on an offset in it is looked up.
-pub fn code_laws()
-    ensures { CodeLaws }
+pub fn read_code_laws()
+    ensures { ReadCodeLaws }
 {
     ia32_code::laws::decoded_law();
 }

@@ -12,7 +12,7 @@
 // A file of another kind may have the same rows. Where its conditions differ, the grammar takes the tests from it
 // (`header_where`, `function_where`, `array_where`, `block_where`, `mark_where`), and `header`, `function`, `class`, `array`
 // and `code` read by them, as does the reader of a block at `BlockPlaces`. `laws::row_meanings` says what each row stands
-// for, `laws::row_reaches` how many bytes it has at most, `laws::code_laws` what begins where in the code.
+// for, `laws::row_reaches` how many bytes it has at most, `laws::read_code_laws` what begins where in the code.
 #![tactic(auto)]
 
 mod class_reader;

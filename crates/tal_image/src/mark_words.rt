@@ -4,7 +4,7 @@ ghost use Rattle.object_layout.specs.Areas.{code_start};
 ghost use Rattle.tal_image.specs.Conditions.{fun_rows, same_number, most_words};
 ghost use Rattle.tal_image.specs.CodeReading.{mark_word_by};
 ghost use Rattle.tal_image.specs.Fields.{tables_of};
-ghost use Rattle.tal_image.specs.ImageReading.{front_parts_of, FitsMemory, places_of};
+ghost use Rattle.tal_image.specs.ImageReading.{front_parts_of, FitsMemory, places_of_arrays};
 ghost use Rattle.tal_image.specs.Kept.{array_offsets, data_place};
 
 use crate::image_reader::TableRows;
@@ -35,7 +35,7 @@ impl MarkWords {
         ensures tables { IfOk result (λ words. words.tables ≡ tables_of front.now.header) }
         ensures funs { IfOk result (λ words. words.funs.items ≡ fun_rows code_start front.now.functions.items) }
         ensures offsets { IfOk result (λ words. words.offsets.items ≡ array_offsets 0 front.now.arrays.items) }
-        ensures places { IfOk result (λ words. map (data_place words.statics) words.offsets.items ≡ places_of (front_parts_of front.now)) }
+        ensures places { IfOk result (λ words. map (data_place words.statics) words.offsets.items ≡ places_of_arrays (front_parts_of front.now)) }
     {
         let funs = fun_rows(alloc, &front.functions)?;
         let offsets = array_offsets(alloc, &front.arrays)?;

@@ -4,7 +4,7 @@ use Rattle.ia32_code.specs.declared.instruction.Inst.{Inst}
 use Rattle.ia32_code.specs.declared.decoding.Decoded.{Decoded}
 use Rattle.ia32_code.specs.declared.decoding.Decoded.TheVariants.{One}
 use Rattle.ia32_code.specs.Decoding.{decoded, instruction_of}
-use Rattle.tal_listing.specs.Lines.{Line, lines_then, lines_from, line_text, code_text}
+use Rattle.tal_listing.specs.Lines.{CodeLine, lines_then, lines_from, line_text, code_text}
 
 -- The bytes of an instruction that was listed are passed over.
 lines_from-skip : (k address : ℕ) (bytes : List ℕ) → k ≤ length bytes → lines_from k address bytes ≡ lines_from 0 (address + k) (drop k bytes)
@@ -22,12 +22,12 @@ unfolding lines_from
 lines_from-front address bytes i zero e some fits = absurd (omega arith)
 lines_from-front address [] i (suc n) e some fits = absurd (omega arith)
 lines_from-front address (b ∷ bytes) i (suc n) e some fits =
-    let line : Line = record { address = address; bytes = take (suc n) (b ∷ bytes); inst = i } in
+    let line : CodeLine = record { address = address; bytes = take (suc n) (b ∷ bytes); inst = i } in
     let k : (address + 1) + n ≡ address + suc n = omega arith in
     let s = lines_from-skip n (address + 1) bytes (omega arith) ∙ ap (λ (m : ℕ). lines_from zero m (drop n bytes)) k in
     let m : suc n - 1 ≡ n = omega arith in
     ap (λ (d : Decoded). lines_then address (b ∷ bytes) (λ inside. lines_from inside (address + 1) bytes) (instruction_of d)) e
-    ∙ ap (λ (y : ℕ). line ∷ lines_from y (address + 1) bytes) m ∙ ap (λ (t : List Line). line ∷ t) s
+    ∙ ap (λ (y : ℕ). line ∷ lines_from y (address + 1) bytes) m ∙ ap (λ (t : List CodeLine). line ∷ t) s
 
 -- Where no instruction is at the front there are no more lines.
 pub lines_from-end : (address : ℕ) (bytes : List ℕ) → instruction_of (decoded bytes) ≡ None → lines_from 0 address bytes ≡ []

@@ -13,7 +13,7 @@ use Rattle.tal_image.specs.Fields.{all_instructions, code_bytes}
 use Rattle.tal_image.specs.Formed.{IsBody, AreBodies, Formed}
 use Rattle.tal_image.specs.Image.{ImageParts}
 use Rattle.tal_image.specs.Shown.{spans}
-use Rattle.tal_listing.specs.Lines.{Line, lines_from}
+use Rattle.tal_listing.specs.Lines.{CodeLine, lines_from}
 use Rattle.tal_listing.specs.Listing.{functions_lines}
 use Rattle.tal_listing.specs.Laws.{HaveBytes}
 use Rattle.tal_listing.proofs.CodeLines.{lines_from-front}
@@ -28,20 +28,20 @@ drop-front xs ys n e = drop-append-le n xs ys (omega arith) ∙ ap (λ (t : List
 
 -- No lines have no bytes.
 none_have : HaveBytes [] []
-none_have = record { whole = refl; spelled = All-nil (λ (l : Line). Spells l.bytes l.inst) }
+none_have = record { whole = refl; spelled = All-nil (λ (l : CodeLine). Spells l.bytes l.inst) }
 
 -- A line before others has its bytes before theirs.
-one_more_has : (l : Line) (bytes : List ℕ) (lines : List Line) → Spells l.bytes l.inst → HaveBytes bytes lines → HaveBytes (l.bytes ++ bytes) (l ∷ lines)
+one_more_has : (l : CodeLine) (bytes : List ℕ) (lines : List CodeLine) → Spells l.bytes l.inst → HaveBytes bytes lines → HaveBytes (l.bytes ++ bytes) (l ∷ lines)
 one_more_has l bytes lines spells h = record {
   whole = ap (λ (t : List ℕ). l.bytes ++ t) h.whole;
-  spelled = All-cons (λ (k : Line). Spells k.bytes k.inst) l lines spells h.spelled;
+  spelled = All-cons (λ (k : CodeLine). Spells k.bytes k.inst) l lines spells h.spelled;
 }
 
 -- Lines before others have their bytes before theirs.
-both_have : (a b : List ℕ) (first later : List Line) → HaveBytes a first → HaveBytes b later → HaveBytes (a ++ b) (first ++ later)
+both_have : (a b : List ℕ) (first later : List CodeLine) → HaveBytes a first → HaveBytes b later → HaveBytes (a ++ b) (first ++ later)
 both_have a b first later h k = record {
-  whole = rw (flat_map-append (λ (l : Line). l.bytes) first later, h.whole, k.whole) refl;
-  spelled = All-append (λ (l : Line). Spells l.bytes l.inst) first later h.spelled k.spelled;
+  whole = rw (flat_map-append (λ (l : CodeLine). l.bytes) first later, h.whole, k.whole) refl;
+  spelled = All-append (λ (l : CodeLine). Spells l.bytes l.inst) first later h.spelled k.spelled;
 }
 
 module _ (front : FrontLaw) (long : (text : List ℕ) (i : Inst) → Spells text i → (0 < length text) × (length text ≤ 11)) where

@@ -14,7 +14,7 @@ use Rattle.tal_image.specs.Formed.{IsBody, AreBodies, Formed}
 use Rattle.tal_image.specs.Image.{ImageParts}
 use Rattle.tal_image.specs.Shown.{spans, function_in}
 use Rattle.tal_listing.specs.Lines.{code_text}
-use Rattle.tal_listing.specs.Listing.{head_text, size, functions_text}
+use Rattle.tal_listing.specs.Listing.{function_head_text, size, functions_text}
 
 -- code of so many bytes has room for these functions, one after another
 abbrev pub HasFunctions : ℕ → List Span → Type 0
@@ -92,10 +92,10 @@ past_functions i n e = drop-none (spans code_start i.functions) n e
 
 -- A function that was written is one less to write.
 pub function_is_written : (whole out new : List ℕ) (n : ℕ) (s : Span) (later : List Span) (code first rest : List ℕ) → first ≡ take (size s) code → rest ≡ drop (size s) code
-    → new ≡ out ++ (head_text n s.sig ++ code_text s.start first) → out ++ functions_text n code (s ∷ later) ≡ whole → new ++ functions_text (n + 1) rest later ≡ whole
+    → new ≡ out ++ (function_head_text n s.sig ++ code_text s.start first) → out ++ functions_text n code (s ∷ later) ≡ whole → new ++ functions_text (n + 1) rest later ≡ whole
 unfolding functions_text
 function_is_written whole out new n s later code first rest is_first is_rest is_new done =
-    rw (is_new, is_first, is_rest) (append_assoc out (head_text n s.sig ++ code_text s.start (take (size s) code)) (functions_text (n + 1) (drop (size s) code) later) ∙ done)
+    rw (is_new, is_first, is_rest) (append_assoc out (function_head_text n s.sig ++ code_text s.start (take (size s) code)) (functions_text (n + 1) (drop (size s) code) later) ∙ done)
 
 -- Where there are no more functions, all is written.
 pub functions_are_written : (whole out : List ℕ) (n : ℕ) (code : List ℕ) → out ++ functions_text n code [] ≡ whole → out ≡ whole

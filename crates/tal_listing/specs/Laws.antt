@@ -10,19 +10,19 @@ use Rattle.object_layout.specs.Areas.{code_start}
 use Rattle.tal_image.specs.Formed.{Formed}
 use Rattle.tal_image.specs.Image.{ImageParts}
 use Rattle.tal_image.specs.Shown.{spans}
-use Rattle.tal_listing.specs.Lines.{Line}
+use Rattle.tal_listing.specs.Lines.{CodeLine}
 use Rattle.tal_listing.specs.Listing.{functions_lines}
 
 -- The words of a line mean the canonical spelling of its instruction: an instruction that has these words has a canonical
 -- spelling, and that spells the instruction of the line. It need not be the bytes of the line.
 abbrev pub WordsMeanSpelling : Type 0
-WordsMeanSpelling = (l : Line) (i : Inst) (w : Words) → Spells l.bytes l.inst → HasByteCount l.inst → HasByteCount i
+WordsMeanSpelling = (l : CodeLine) (i : Inst) (w : Words) → Spells l.bytes l.inst → HasByteCount l.inst → HasByteCount i
     → said_of l.inst ≡ Some w → said_of i ≡ Some w → (text : List ℕ) × (Canonical i ≡ Some text) × Spells text l.inst
 
 -- the lines have these bytes, all of them and in their order, and in each line the bytes spell its instruction
-pub record HaveBytes (bytes : List ℕ) (lines : List Line) : Type 0 where
-  pub whole : flat_map (λ (l : Line). l.bytes) lines ≡ bytes
-  pub spelled : All (λ (l : Line). Spells l.bytes l.inst) lines
+pub record HaveBytes (bytes : List ℕ) (lines : List CodeLine) : Type 0 where
+  pub whole : flat_map (λ (l : CodeLine). l.bytes) lines ≡ bytes
+  pub spelled : All (λ (l : CodeLine). Spells l.bytes l.inst) lines
 
 -- Every byte of an image's code stands in a line.
 abbrev pub EveryByteListed : Type 0

@@ -1,7 +1,7 @@
 ghost use Rattle.std.specs.Prelude.{◌≡◌, ◌+◌, ◌-◌, ◌≤◌, ◌++◌, length, OnOk, IfOk};
 ghost use Rattle.std.specs.String.{string_bytes};
 ghost use Rattle.hex.specs.Hex.{encode_upper};
-ghost use Rattle.tal_listing.specs.Listing.{head_text, size, ListText};
+ghost use Rattle.tal_listing.specs.Listing.{function_head_text, size, ListText};
 ghost use Rattle.tal_listing.specs.Lines.{code_text};
 
 use crate::lines::push_code;
@@ -13,7 +13,7 @@ use tal_types::Span;
 
 // Appends the line over a function.
 fn push_head(out: &mut String, number: u32, sig: u32) -> Result<(), AllocError>
-    ensures { OnOk result (string_bytes out.new ≡ string_bytes out.old ++ head_text number sig) }
+    ensures { OnOk result (string_bytes out.new ≡ string_bytes out.old ++ function_head_text number sig) }
 {
     out.push_str("func ")?;
     push_decimal(out, number)?;
@@ -35,7 +35,7 @@ fn push_function(
     requires whole { length code.now ≡ size function }
     requires digits { digits.now ≡ encode_upper code.now }
     ensures { OnOk result (string_bytes out.new ≡ string_bytes out.old
-        ++ (head_text number function.sig ++ code_text function.start code.now)) }
+        ++ (function_head_text number function.sig ++ code_text function.start code.now)) }
 {
     push_head(out, number, function.sig)?;
     // The function's end is an address, so those of its instructions do not wrap.

@@ -5,7 +5,7 @@ use Rattle.std.specs.List.{list_any, position, position_or_len}
 use Rattle.std.specs.Str.{bytes_eq}
 use Rattle.std.specs.Global.{Vec}
 use Rattle.indexmap.specs.IndexSet.{insert_key}
-use Rattle.tal_names.specs.NameSets.{is_named, with_name, number_of}
+use Rattle.tal_names.specs.NameSets.{is_named, with_name, number_of_name}
 
 -- the names that keys hold
 abbrev pub held : List (Vec ℕ) → List (List ℕ)
@@ -21,7 +21,7 @@ place_held n [] = refl
 place_held n (k ∷ ks) = ap (λ t. cond (not (bytes_eq n k.items)) (1 + t) 0) (place_held n ks)
 
 -- the number of a name
-pub number_held : (n : List ℕ) (ks : List (Vec ℕ)) → position (λ (k : Vec ℕ). bytes_eq n k.items) ks ≡ number_of (held ks) n
+pub number_held : (n : List ℕ) (ks : List (Vec ℕ)) → position (λ (k : Vec ℕ). bytes_eq n k.items) ks ≡ number_of_name (held ks) n
 number_held n ks =
     ap (λ t. cond (nat_lt t (length ks)) (Some t) None) (place_held n ks)
     ∙ ap (λ m. cond (nat_lt (position_or_len (bytes_eq n) (held ks)) m) (Some (position_or_len (bytes_eq n) (held ks))) None) (sym (length-map ks (λ (k : Vec ℕ). k.items)))

@@ -11,7 +11,7 @@ use Rattle.tal_names.specs.declared.names.ClassNames.{ClassNames}
 use Rattle.tal_names.specs.declared.names.ModuleNames.{ModuleNames}
 use Rattle.tal_names.specs.declared.names.MemberSort.{MemberSort}
 use Rattle.tal_names.specs.declared.names.MemberSort.TheVariants as sort
-use Rattle.tal_names.specs.NameSets.{is_named, with_name, number_of}
+use Rattle.tal_names.specs.NameSets.{is_named, with_name, number_of_name}
 
 -- the names of each table; of each function the name of its signature, of each kind whether its elements are numbers, of each
 -- class what its own lines add
@@ -27,8 +27,8 @@ pub record Names : Type 0 where
   pub members : List ClassNames
 
 -- what the struct holds
-abbrev pub shown : ModuleNames → Names
-shown m = record {
+abbrev pub names_shown : ModuleNames → Names
+names_shown m = record {
   sigs = m.sigs;
   classes = m.classes;
   kinds = m.kinds;
@@ -47,9 +47,9 @@ no_names = record { sigs = []; classes = []; kinds = []; statics = []; arrays = 
 -- ---- classes
 
 -- the elements are numbers
-unfoldable pub is_number : TypeText → Bool
-is_number type.Num = true
-is_number _ = false
+unfoldable pub is_number_type : TypeText → Bool
+is_number_type type.Num = true
+is_number_type _ = false
 
 -- what the lines of a class add of either sort
 unfoldable pub own : MemberSort → ClassNames → List (List ℕ)
@@ -57,13 +57,13 @@ own sort.Field k = k.fields
 own sort.Method k = k.methods
 
 -- a class and those below which it is, itself first, at most n classes
-unfoldable pub lineage_within : ℕ → List ClassNames → Option ℕ → List ClassNames
-lineage_within zero classes c = []
-lineage_within (suc n) classes c = option_map_or (λ (k : ClassNames). k ∷ lineage_within n classes k.parent) (option_and_then (slice_get classes) c) []
+unfoldable pub ancestry_within : ℕ → List ClassNames → Option ℕ → List ClassNames
+ancestry_within zero classes c = []
+ancestry_within (suc n) classes c = option_map_or (λ (k : ClassNames). k ∷ ancestry_within n classes k.parent) (option_and_then (slice_get classes) c) []
 
 -- a class has seven ancestors at most
-abbrev pub lineage : List ClassNames → Option ℕ → List ClassNames
-lineage classes c = lineage_within 8 classes c
+abbrev pub ancestry : List ClassNames → Option ℕ → List ClassNames
+ancestry classes c = ancestry_within 8 classes c
 
 -- how many members of a sort the classes have
 unfoldable pub member_count : MemberSort → List ClassNames → ℕ
@@ -73,7 +73,7 @@ member_count s (k ∷ ks) = length (own s k) + member_count s ks
 -- the number of a member in the first of the classes, among its own and the inherited ones, which come first
 unfoldable pub member_number : MemberSort → List ClassNames → List ℕ → Option ℕ
 member_number s [] n = None
-member_number s (k ∷ ks) n = option_or (option_map (λ i. member_count s ks + i) (number_of (own s k) n)) (member_number s ks n)
+member_number s (k ∷ ks) n = option_or (option_map (λ i. member_count s ks + i) (number_of_name (own s k) n)) (member_number s ks n)
 
 -- A line of a class adds a field, or a method that the classes above do not have; none where the line is not of a class.
 unfoldable pub with_member : List ClassNames → ClassNames → Form → Option ClassNames
@@ -87,35 +87,35 @@ with_members above k [] = k
 with_members above k (l ∷ ls) = option_map_or (λ (more : ClassNames). with_members above more ls) (with_member above k l.form) k
 
 -- the number of the class below which a class is, where it is declared already
-unfoldable pub parent_number : Names → Option (List ℕ) → Option ℕ
-parent_number m parent = option_and_then (number_of m.classes) parent
+unfoldable pub named_parent : Names → Option (List ℕ) → Option ℕ
+named_parent m parent = option_and_then (number_of_name m.classes) parent
 
 -- the class that the lines up to its end make, below another one
 abbrev pub class_of : List ClassNames → Option ℕ → List TextLine → ClassNames
-class_of classes parent behind = with_members (lineage classes parent) (record { parent = parent; fields = []; methods = [] }) behind
+class_of classes parent behind = with_members (ancestry classes parent) (record { parent = parent; fields = []; methods = [] }) behind
 
 -- ---- lines
 
 -- a kind more, and whether its elements are numbers
-unfoldable pub with_kind : Names → List ℕ → TypeText → Names
-with_kind m n t = if is_named m.kinds n then m else record m { kinds = m.kinds ++ n ∷ []; number_kinds = m.number_kinds ++ is_number t ∷ [] }
+unfoldable pub with_named_kind : Names → List ℕ → TypeText → Names
+with_named_kind m n t = if is_named m.kinds n then m else record m { kinds = m.kinds ++ n ∷ []; number_kinds = m.number_kinds ++ is_number_type t ∷ [] }
 
 -- a class more, with what its lines add
-unfoldable pub with_class : Names → List ℕ → Option (List ℕ) → List TextLine → Names
-with_class m n parent behind = if is_named m.classes n then m else record m { classes = m.classes ++ n ∷ []; members = m.members ++ class_of m.members (parent_number m parent) behind ∷ [] }
+unfoldable pub with_named_class : Names → List ℕ → Option (List ℕ) → List TextLine → Names
+with_named_class m n parent behind = if is_named m.classes n then m else record m { classes = m.classes ++ n ∷ []; members = m.members ++ class_of m.members (named_parent m parent) behind ∷ [] }
 
 -- a function more, with the name of its signature
-unfoldable pub with_function : Names → List ℕ → List ℕ → Names
-with_function m n s = if is_named m.functions n then m else record m { functions = m.functions ++ n ∷ []; function_sigs = m.function_sigs ++ s ∷ [] }
+unfoldable pub with_named_function : Names → List ℕ → List ℕ → Names
+with_named_function m n s = if is_named m.functions n then m else record m { functions = m.functions ++ n ∷ []; function_sigs = m.function_sigs ++ s ∷ [] }
 
 -- what is declared with a line; of a class the lines behind it tell more
 unfoldable pub declare : Names → Form → List TextLine → Names
 declare m (form.Sig ext n ps r) behind = record m { sigs = with_name m.sigs n }
-declare m (form.Kind ext n t) behind = with_kind m n t
+declare m (form.Kind ext n t) behind = with_named_kind m n t
 declare m (form.Static ext n t) behind = record m { statics = with_name m.statics n }
 declare m (form.DataArray ext n k size ns) behind = record m { arrays = with_name m.arrays n }
-declare m (form.Class ext n p) behind = with_class m n p behind
-declare m (form.Func ext n s) behind = with_function m n s
+declare m (form.Class ext n p) behind = with_named_class m n p behind
+declare m (form.Func ext n s) behind = with_named_function m n s
 declare m _ behind = m
 
 -- what is declared with all these lines

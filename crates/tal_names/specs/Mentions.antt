@@ -94,5 +94,5 @@ with_mentions m names [] = names
 with_mentions m names (n ∷ ns) = with_mentions m (with_mention m names n) ns
 
 -- the names of the unit of these lines
-unfoldable pub unit_names : List TextLine → List (List ℕ)
-unit_names lines = with_mentions (names_of lines) [] (flat_map line_names lines)
+unfoldable pub mentioned_names : List TextLine → List (List ℕ)
+mentioned_names lines = with_mentions (names_of lines) [] (flat_map line_names lines)

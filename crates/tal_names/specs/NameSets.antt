@@ -12,5 +12,5 @@ abbrev pub with_name : List (List ℕ) → List ℕ → List (List ℕ)
 with_name names n = if is_named names n then names else names ++ n ∷ []
 
 -- the place of a name among them
-abbrev pub number_of : List (List ℕ) → List ℕ → Option ℕ
-number_of names n = position (bytes_eq n) names
+abbrev pub number_of_name : List (List ℕ) → List ℕ → Option ℕ
+number_of_name names n = position (bytes_eq n) names

@@ -1,6 +1,6 @@
 // What a name of a module stands for.
 ghost use Rattle.std.specs.Prelude.{◌≡◌, ◌<◌, ◌*◌, ◌^◌, IfSome};
-ghost use Rattle.tal_names.specs.Declarations.{shown};
+ghost use Rattle.tal_names.specs.Declarations.{names_shown};
 ghost use Rattle.tal_names.specs.LookUps.{type_of, field_byte, method_byte, depth, display_byte};
 
 use crate::names::{MemberSort, ModuleNames, lineage_length, member_number};
@@ -11,7 +11,7 @@ impl ModuleNames {
     /// The type that is written so. None where a name of it is not declared.
     #[tactic(auto, unfolding(crate::specs::LookUps::type_of))]
     pub fn type_of(&self, text: &TypeText) -> Option<Ty>
-        ensures { result ≡ type_of (shown self.now) text.now }
+        ensures { result ≡ type_of (names_shown self.now) text.now }
     {
         match text {
             TypeText::Num => Some(Ty::Num),
@@ -30,7 +30,7 @@ impl ModuleNames {
     /// At which byte of an object of class `class` a field lies. None where neither the class nor those above it have it.
     #[tactic(auto, unfolding(crate::specs::LookUps::field_byte))]
     pub fn field_byte(&self, class: u32, field: &[u8]) -> Option<u64>
-        ensures byte { result ≡ field_byte (shown self.now) class field.now }
+        ensures byte { result ≡ field_byte (names_shown self.now) class field.now }
         ensures few { IfSome result (λ byte. byte < 2 ^ 38) }
     {
         let number = member_number(&self.members, MemberSort::Field, Some(class), field)?;
@@ -41,7 +41,7 @@ impl ModuleNames {
     /// the method.
     #[tactic(auto, unfolding(crate::specs::LookUps::method_byte))]
     pub fn method_byte(&self, class: u32, method: &[u8]) -> Option<u64>
-        ensures byte { result ≡ method_byte (shown self.now) class method.now }
+        ensures byte { result ≡ method_byte (names_shown self.now) class method.now }
         ensures few { IfSome result (λ byte. byte < 2 ^ 38) }
     {
         let number = member_number(&self.members, MemberSort::Method, Some(class), method)?;
@@ -51,7 +51,7 @@ impl ModuleNames {
     /// How many ancestors class `class` has: 0 to 7, and 7 where it has more. 0 where there is no such class.
     #[tactic(auto, unfolding(crate::specs::LookUps::depth))]
     pub fn depth(&self, class: u32) -> u32
-        ensures depth { result ≡ depth (shown self.now) class }
+        ensures depth { result ≡ depth (names_shown self.now) class }
         ensures few { result < 8 }
     {
         let classes = lineage_length(&self.members, Some(class), 8);
@@ -61,7 +61,7 @@ impl ModuleNames {
     /// At which byte of its table class `class` has its own slot of the display.
     #[tactic(auto, unfolding(crate::specs::LookUps::display_byte))]
     pub fn display_byte(&self, class: u32) -> u32
-        ensures byte { result ≡ display_byte (shown self.now) class }
+        ensures byte { result ≡ display_byte (names_shown self.now) class }
         ensures few { result < 64 }
     {
         12 + 4 * self.depth(class)

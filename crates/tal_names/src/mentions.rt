@@ -1,8 +1,8 @@
 // The names of a module's rows, in the order of their first mention.
 ghost use Rattle.std.specs.Prelude.{◌≡◌, List, ℕ, IfOk, OnOk};
 ghost use Rattle.std.specs.List.{flat_map};
-ghost use Rattle.tal_names.specs.Declarations.{shown, names_of};
-ghost use Rattle.tal_names.specs.Mentions.{names_row, type_names, reg_type_names, term_names, arg_names, slot_names, form_names, line_names, with_mention, with_mentions, unit_names};
+ghost use Rattle.tal_names.specs.Declarations.{names_shown, names_of};
+ghost use Rattle.tal_names.specs.Mentions.{names_row, type_names, reg_type_names, term_names, arg_names, slot_names, form_names, line_names, with_mention, with_mentions, mentioned_names};
 
 use crate::name_set::NameSet;
 use crate::names::ModuleNames;
@@ -14,7 +14,7 @@ impl ModuleNames {
     // Whether a row has the name.
     #[tactic(auto, unfolding(crate::specs::Mentions::names_row))]
     fn names_row(&self, name: &[u8]) -> bool
-        ensures { result ≡ names_row (shown self.now) name.now }
+        ensures { result ≡ names_row (names_shown self.now) name.now }
     {
         self.sigs.contains(name)
             || self.classes.contains(name)
@@ -27,7 +27,7 @@ impl ModuleNames {
     // Adds a name that is mentioned, where a row has it and it is new.
     #[tactic(auto, unfolding(crate::specs::Mentions::with_mention))]
     fn mention(&self, alloc: Global, found: &mut NameSet, name: &Name) -> Result<(), NoMemory>
-        ensures { OnOk result (found.new ≡ with_mention (shown self.now) found.old name.now) }
+        ensures { OnOk result (found.new ≡ with_mention (names_shown self.now) found.old name.now) }
     {
         if self.names_row(name.bytes()) {
             found.add(alloc, name.bytes())?;
@@ -39,8 +39,8 @@ impl ModuleNames {
     /// role. The names of the module are those that the same lines declare.
     #[tactic(auto, unfolding(crate::specs::Mentions::unit_names))]
     pub fn unit_names(&self, alloc: Global, lines: &[TextLine]) -> Result<NameSet, NoMemory>
-        requires { shown self.now ≡ names_of lines.now }
-        ensures { IfOk result (λ names. names ≡ unit_names lines.now) }
+        requires { names_shown self.now ≡ names_of lines.now }
+        ensures { IfOk result (λ names. names ≡ mentioned_names lines.now) }
     {
         let mut found = NameSet::new(alloc);
         mention_each(alloc, self, &mut found, lines)?;
@@ -59,7 +59,7 @@ trait Mentions {
         names: &ModuleNames,
         found: &mut NameSet,
     ) -> Result<(), NoMemory>
-        ensures { OnOk result (found.new ≡ with_mentions (shown names.now) found.old (mentioned self.now)) };
+        ensures { OnOk result (found.new ≡ with_mentions (names_shown names.now) found.old (mentioned self.now)) };
 }
 
 // Adds the names of each item.
@@ -69,7 +69,7 @@ fn mention_each<T: Mentions>(
     found: &mut NameSet,
     items: &[T],
 ) -> Result<(), NoMemory>
-    ensures { OnOk result (found.new ≡ with_mentions (shown names.now) found.old (flat_map T.mentioned items.now)) }
+    ensures { OnOk result (found.new ≡ with_mentions (names_shown names.now) found.old (flat_map T.mentioned items.now)) }
 {
     for item in items {
         item.mention(alloc, names, found)?;
@@ -166,7 +166,7 @@ fn mention_slots(
     found: &mut NameSet,
     slots: &Option<TypeTextList>,
 ) -> Result<(), NoMemory>
-    ensures { OnOk result (found.new ≡ with_mentions (shown names.now) found.old (slot_names slots.now)) }
+    ensures { OnOk result (found.new ≡ with_mentions (names_shown names.now) found.old (slot_names slots.now)) }
 {
     match slots {
         Some(types) => mention_each(alloc, names, found, types.items()),

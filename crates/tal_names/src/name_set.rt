@@ -1,6 +1,6 @@
 // A set of names that numbers them in the order in which they came.
 ghost use Rattle.std.specs.Prelude.{ℕ, ◌≡◌, ◌<◌, ◌^◌, [], List, not, length, slice_get, MatchOption, IfSome, IfOk, OnOk, OnErr, None, Some};
-ghost use Rattle.tal_names.specs.NameSets.{is_named, with_name, number_of};
+ghost use Rattle.tal_names.specs.NameSets.{is_named, with_name, number_of_name};
 
 use indexmap::IndexSet;
 use no_memory::NoMemory;
@@ -61,7 +61,7 @@ impl NameSet {
 
     /// The number of a name. None exactly where it is not among them.
     pub fn number(&self, name: &[u8]) -> Option<u32>
-        ensures number { result ≡ number_of self.now name.now }
+        ensures number { result ≡ number_of_name self.now name.now }
         ensures within { IfSome result (λ i. i < length self.now) }
     {
         match self.names.get_index_of(name) {

@@ -1,7 +1,7 @@
 // What the lines of a module declare.
 ghost use Rattle.std.specs.Prelude.{◌≡◌, ◌≤◌, ◌*◌, ◌^◌, [], IfOk, OnOk, IfSome, length, Some, is_some, slice_get};
 ghost use Rattle.std.specs.Option.{option_and_then, option_copied, unwrap_or};
-ghost use Rattle.tal_names.specs.Declarations.{shown, no_names, is_number, own, lineage, lineage_within, member_count, member_number, with_member, class_of, parent_number, with_kind, with_class, with_function, declare, names_of};
+ghost use Rattle.tal_names.specs.Declarations.{names_shown, no_names, is_number_type, own, ancestry, ancestry_within, member_count, member_number, with_member, class_of, named_parent, with_named_kind, with_named_class, with_named_function, declare, names_of};
 
 use crate::name_set::NameSet;
 use no_memory::NoMemory;
@@ -65,7 +65,7 @@ fn class_at(classes: &[ClassNames], class: Option<u32>) -> Option<&ClassNames>
 /// How many classes a class and those above it are, in at most so many levels.
 #[tactic(auto, using(crate::proofs::Lineages::lineage_none, crate::proofs::Lineages::lineage_nowhere, crate::proofs::Lineages::lineage_behind))]
 pub(crate) fn lineage_length(classes: &[ClassNames], class: Option<u32>, levels: u32) -> u32
-    ensures count { result ≡ length (lineage_within levels classes.now class) }
+    ensures count { result ≡ length (ancestry_within levels classes.now class) }
     ensures few { result ≤ levels }
 {
     if levels == 0 {
@@ -81,7 +81,7 @@ pub(crate) fn lineage_length(classes: &[ClassNames], class: Option<u32>, levels:
 #[tactic(auto, using(crate::proofs::Lineages::lineage_none, crate::proofs::Lineages::lineage_nowhere, crate::proofs::Lineages::lineage_behind), unfolding(crate::specs::Declarations::member_count))]
 fn member_count(classes: &[ClassNames], sort: MemberSort, class: Option<u32>, levels: u32) -> u64
     requires { levels ≤ 8 }
-    ensures count { result ≡ member_count sort (lineage_within levels classes.now class) }
+    ensures count { result ≡ member_count sort (ancestry_within levels classes.now class) }
     ensures few { result ≤ levels * 2 ^ 32 }
 {
     if levels == 0 {
@@ -106,7 +106,7 @@ fn member_within(
     levels: u32,
 ) -> Option<u64>
     requires { levels ≤ 8 }
-    ensures number { result ≡ member_number sort (lineage_within levels classes.now class) name.now }
+    ensures number { result ≡ member_number sort (ancestry_within levels classes.now class) name.now }
     ensures few { IfSome result (λ i. i ≤ levels * 2 ^ 32) }
 {
     if levels == 0 {
@@ -129,7 +129,7 @@ pub(crate) fn member_number(
     class: Option<u32>,
     name: &[u8],
 ) -> Option<u64>
-    ensures number { result ≡ member_number sort (lineage classes.now class) name.now }
+    ensures number { result ≡ member_number sort (ancestry classes.now class) name.now }
     ensures few { IfSome result (λ i. i ≤ 8 * 2 ^ 32) }
 {
     member_within(classes, sort, class, name, 8)
@@ -138,7 +138,7 @@ pub(crate) fn member_number(
 // Whether elements of the type are numbers.
 #[tactic(auto, unfolding(crate::specs::Declarations::is_number))]
 fn is_number(element: &TypeText) -> bool
-    ensures { result ≡ is_number element.now }
+    ensures { result ≡ is_number_type element.now }
 {
     match element {
         TypeText::Num => true,
@@ -156,8 +156,8 @@ impl ClassNames {
         parent: Option<u32>,
         form: &Form,
     ) -> Result<bool, NoMemory>
-        ensures is_member { IfOk result (λ is_member. is_member ≡ is_some (with_member (lineage classes.now parent) self.old form.now)) }
-        ensures added { OnOk result (self.new ≡ unwrap_or (with_member (lineage classes.now parent) self.old form.now) self.old) }
+        ensures is_member { IfOk result (λ is_member. is_member ≡ is_some (with_member (ancestry classes.now parent) self.old form.now)) }
+        ensures added { OnOk result (self.new ≡ unwrap_or (with_member (ancestry classes.now parent) self.old form.now) self.old) }
     {
         match form {
             Form::Field { name, .. } => {
@@ -200,7 +200,7 @@ fn class_of(
 impl ModuleNames {
     // No names.
     fn new(alloc: Global) -> ModuleNames
-        ensures { shown result ≡ no_names }
+        ensures { names_shown result ≡ no_names }
     {
         ModuleNames {
             sigs: NameSet::new(alloc),
@@ -218,7 +218,7 @@ impl ModuleNames {
     // The number of the class below which a class is, where it is declared already.
     #[tactic(auto, unfolding(crate::specs::Declarations::parent_number))]
     fn parent_number(&self, parent: &Option<Name>) -> Option<u32>
-        ensures { result ≡ parent_number (shown self.now) parent.now }
+        ensures { result ≡ named_parent (names_shown self.now) parent.now }
     {
         match parent {
             Some(name) => self.classes.number(name.bytes()),
@@ -229,7 +229,7 @@ impl ModuleNames {
     // Declares a kind.
     #[tactic(auto, unfolding(crate::specs::Declarations::with_kind))]
     fn add_kind(&mut self, alloc: Global, name: &Name, element: &TypeText) -> Result<(), NoMemory>
-        ensures { OnOk result (shown self.new ≡ with_kind (shown self.old) name.now element.now) }
+        ensures { OnOk result (names_shown self.new ≡ with_named_kind (names_shown self.old) name.now element.now) }
     {
         if self.kinds.add(alloc, name.bytes())? {
             self.number_kinds.push(is_number(element))?;
@@ -246,7 +246,7 @@ impl ModuleNames {
         parent: &Option<Name>,
         behind: &[TextLine],
     ) -> Result<(), NoMemory>
-        ensures { OnOk result (shown self.new ≡ with_class (shown self.old) name.now parent.now behind.now) }
+        ensures { OnOk result (names_shown self.new ≡ with_named_class (names_shown self.old) name.now parent.now behind.now) }
     {
         let parent = self.parent_number(parent);
         if self.classes.add(alloc, name.bytes())? {
@@ -259,7 +259,7 @@ impl ModuleNames {
     // Declares a function.
     #[tactic(auto, unfolding(crate::specs::Declarations::with_function))]
     fn add_function(&mut self, alloc: Global, name: &Name, sig: &Name) -> Result<(), NoMemory>
-        ensures { OnOk result (shown self.new ≡ with_function (shown self.old) name.now sig.now) }
+        ensures { OnOk result (names_shown self.new ≡ with_named_function (names_shown self.old) name.now sig.now) }
     {
         if self.functions.add(alloc, name.bytes())? {
             self.function_sigs.push(Name::of(alloc, sig.bytes())?)?;
@@ -270,7 +270,7 @@ impl ModuleNames {
     // Declares what a line declares.
     #[tactic(auto, unfolding(crate::specs::Declarations::declare))]
     fn declare(&mut self, alloc: Global, form: &Form, behind: &[TextLine]) -> Result<(), NoMemory>
-        ensures { OnOk result (shown self.new ≡ declare (shown self.old) form.now behind.now) }
+        ensures { OnOk result (names_shown self.new ≡ declare (names_shown self.old) form.now behind.now) }
     {
         match form {
             Form::Sig { name, .. } => {
@@ -293,7 +293,7 @@ impl ModuleNames {
     /// What the lines of a module declare. It goes over them once, and once more over those of each class.
     #[tactic(auto, unfolding(crate::specs::Declarations::declared_with))]
     pub fn of(alloc: Global, lines: &[TextLine]) -> Result<ModuleNames, NoMemory>
-        ensures { IfOk result (λ names. shown names ≡ names_of lines.now) }
+        ensures { IfOk result (λ names. names_shown names ≡ names_of lines.now) }
     {
         let mut names = ModuleNames::new(alloc);
         let mut left = lines;

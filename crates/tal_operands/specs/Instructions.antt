@@ -12,7 +12,7 @@ use Rattle.tal_names.specs.Declarations.{Names}
 use Rattle.tal_operands.specs.declared.operands.OperandFaults.{OperandFaults}
 use Rattle.tal_operands.specs.declared.operands.Operand.{Operand}
 use Rattle.tal_operands.specs.declared.instructions.Instruction.{Instruction}
-use Rattle.tal_operands.specs.Operands.{no_faults, operand_of}
+use Rattle.tal_operands.specs.Operands.{no_faults, arg_operand}
 
 -- MOV, PUSH and CMP take `null`, `tab`, `desc`, `code` and `data`
 unfoldable pub takes_special : Mnemonic → Bool
@@ -60,11 +60,11 @@ without_operands mnemonic = record { words = record { mnemonic = mnemonic; opera
 -- the operands so far, with all these
 unfoldable pub with_args : Names → Bool → ℤ → Instruction → List Arg → Instruction
 with_args m call distance i [] = i
-with_args m call distance i (a ∷ args) = with_args m call distance (with_operand i (operand_of m call distance a)) args
+with_args m call distance i (a ∷ args) = with_args m call distance (with_operand i (arg_operand m call distance a)) args
 
 -- the instruction of a line, where its label is at this distance
-abbrev pub instruction_of : Names → Mnemonic → List Arg → ℤ → Instruction
-instruction_of m mnemonic args distance = with_args m (is_call mnemonic) distance (without_operands mnemonic) args
+abbrev pub line_instruction : Names → Mnemonic → List Arg → ℤ → Instruction
+line_instruction m mnemonic args distance = with_args m (is_call mnemonic) distance (without_operands mnemonic) args
 
 -- its operands cannot be spelled: an address has too many registers, or the instruction does not take such an operand
 unfoldable pub is_misplaced : Instruction → Bool

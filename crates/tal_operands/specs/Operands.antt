@@ -8,14 +8,14 @@ use Rattle.tal_syntax.specs.declared.form.Arg.TheVariants as arg
 use Rattle.tal_types.specs.declared.types.Ty.{Ty}
 use Rattle.tal_types.specs.declared.types.Ty.TheVariants as ty
 use Rattle.tal_names.specs.Declarations.{Names}
-use Rattle.tal_names.specs.NameSets.{number_of}
+use Rattle.tal_names.specs.NameSets.{number_of_name}
 use Rattle.tal_names.specs.LookUps.{type_of}
 use Rattle.tal_operands.specs.declared.addresses.Address.{Address}
 use Rattle.tal_operands.specs.declared.operands.Hole.{Hole}
 use Rattle.tal_operands.specs.declared.operands.Sense.{Sense}
 use Rattle.tal_operands.specs.declared.operands.OperandFaults.{OperandFaults}
 use Rattle.tal_operands.specs.declared.operands.Operand.{Operand}
-use Rattle.tal_operands.specs.Addresses.{word, address_of}
+use Rattle.tal_operands.specs.Addresses.{word, terms_address}
 
 -- The word that stands for a hole while an instruction is spelled: no byte, sign extended, so that the spelling has four bytes
 -- for it. 0 comes in its place.
@@ -32,8 +32,8 @@ abbrev pub no_faults : OperandFaults
 no_faults = record { unknown = false; crowded = false; special = false; range = false; null_type = false }
 
 -- an operand without a name
-abbrev pub plain : OperandWord → Operand
-plain w = record { word = w; near = None; far = None; sense = None; faults = no_faults }
+abbrev pub plain_operand : OperandWord → Operand
+plain_operand w = record { word = w; near = None; far = None; sense = None; faults = no_faults }
 
 -- an immediate number for a row, by the kind of its hole and the tag of its mark
 unfoldable pub row_operand : ℕ → ℕ → Option ℕ → Operand
@@ -63,12 +63,12 @@ memory_operand a = record {
 }
 
 -- the entries of the Nucleus are 0 to 10
-unfoldable pub is_entry : ℤ → Bool
-is_entry k = not (int_lt k (pos 0)) && not (int_lt (pos 10) k)
+unfoldable pub is_nucleus_entry : ℤ → Bool
+is_nucleus_entry k = not (int_lt k (pos 0)) && not (int_lt (pos 10) k)
 
 -- a call of the Nucleus
 unfoldable pub nucleus_operand : ℤ → Operand
-nucleus_operand k = record { word = say.Target (pos 0); near = None; far = hole 7 (word k); sense = None; faults = record no_faults { range = not (is_entry k) } }
+nucleus_operand k = record { word = say.Target (pos 0); near = None; far = hole 7 (word k); sense = None; faults = record no_faults { range = not (is_nucleus_entry k) } }
 
 -- a function that is called
 unfoldable pub called_operand : Option ℕ → Operand
@@ -76,15 +76,15 @@ called_operand None = record { word = say.Target (pos 0); near = None; far = hol
 called_operand (Some f) = record { word = say.Target (pos 0); near = None; far = hole 6 f; sense = None; faults = no_faults }
 
 -- An operand. A call's target is a function, another target a label at this distance.
-unfoldable pub operand_of : Names → Bool → ℤ → Arg → Operand
-operand_of m call distance (arg.Register r) = plain (say.Register r)
-operand_of m call distance arg.Cl = plain say.Cl
-operand_of m call distance (arg.Number n) = plain (say.Number (word n))
-operand_of m call distance (arg.Null t) = null_operand (type_of m t)
-operand_of m call distance (arg.Tab c) = row_operand 1 7 (number_of m.classes c)
-operand_of m call distance (arg.Desc k) = row_operand 2 8 (number_of m.kinds k)
-operand_of m call distance (arg.Code f) = row_operand 3 6 (number_of m.functions f)
-operand_of m call distance (arg.DataOf d) = row_operand 4 10 (number_of m.arrays d)
-operand_of m call distance (arg.Memory terms) = memory_operand (address_of m terms)
-operand_of m call distance (arg.Nucleus k) = nucleus_operand k
-operand_of m call distance (arg.Target n) = if call then called_operand (number_of m.functions n) else plain (say.Target distance)
+unfoldable pub arg_operand : Names → Bool → ℤ → Arg → Operand
+arg_operand m call distance (arg.Register r) = plain_operand (say.Register r)
+arg_operand m call distance arg.Cl = plain_operand say.Cl
+arg_operand m call distance (arg.Number n) = plain_operand (say.Number (word n))
+arg_operand m call distance (arg.Null t) = null_operand (type_of m t)
+arg_operand m call distance (arg.Tab c) = row_operand 1 7 (number_of_name m.classes c)
+arg_operand m call distance (arg.Desc k) = row_operand 2 8 (number_of_name m.kinds k)
+arg_operand m call distance (arg.Code f) = row_operand 3 6 (number_of_name m.functions f)
+arg_operand m call distance (arg.DataOf d) = row_operand 4 10 (number_of_name m.arrays d)
+arg_operand m call distance (arg.Memory terms) = memory_operand (terms_address m terms)
+arg_operand m call distance (arg.Nucleus k) = nucleus_operand k
+arg_operand m call distance (arg.Target n) = if call then called_operand (number_of_name m.functions n) else plain_operand (say.Target distance)

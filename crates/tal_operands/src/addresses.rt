@@ -1,7 +1,7 @@
 // The terms of an operand in memory.
 ghost use Rattle.std.specs.Prelude.{◌≡◌, ◌<◌, ◌^◌, IfSome};
-ghost use Rattle.tal_names.specs.Declarations.{shown};
-ghost use Rattle.tal_operands.specs.Addresses.{word, no_terms, with_register, scale_of, with_scaled, with_bytes, with_static, with_term, address_of};
+ghost use Rattle.tal_names.specs.Declarations.{names_shown};
+ghost use Rattle.tal_operands.specs.Addresses.{word, no_terms, with_unscaled, factor_scale, with_scaled, with_bytes, with_static, with_term, terms_address};
 
 use ia32_code::Reg;
 use tal_names::ModuleNames;
@@ -38,7 +38,7 @@ pub(crate) fn word(number: i64) -> u32
 // Two to the power of the scale is the factor.
 #[tactic(auto, unfolding(crate::specs::Addresses::scale_of))]
 fn scale_of(factor: u8) -> u8
-    ensures { result ≡ scale_of factor }
+    ensures { result ≡ factor_scale factor }
 {
     match factor {
         2 => 1,
@@ -69,7 +69,7 @@ impl Address {
     // A register more. The first is the base, one other the index.
     #[tactic(auto, unfolding(crate::specs::Addresses::with_register))]
     fn with_register(self, reg: Reg) -> Address
-        ensures { result ≡ with_register self reg }
+        ensures { result ≡ with_unscaled self reg }
     {
         if self.base.is_none() {
             Address {
@@ -152,7 +152,7 @@ impl Address {
     // A term more.
     #[tactic(auto, unfolding(crate::specs::Addresses::with_term))]
     fn with_term(self, names: &ModuleNames, term: &Term) -> Address
-        ensures { result ≡ with_term (shown names.now) self term.now }
+        ensures { result ≡ with_term (names_shown names.now) self term.now }
     {
         match term {
             Term::Register(reg) => self.with_register(*reg),
@@ -183,7 +183,7 @@ impl Address {
     /// What the terms make, from left to right.
     #[tactic(auto, using(crate::proofs::Steps::here), unfolding(crate::specs::Addresses::with_terms))]
     pub(crate) fn of(names: &ModuleNames, terms: &[Term]) -> Address
-        ensures { result ≡ address_of (shown names.now) terms.now }
+        ensures { result ≡ terms_address (names_shown names.now) terms.now }
     {
         let mut address = Address::empty();
         for term in terms {

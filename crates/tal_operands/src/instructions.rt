@@ -1,8 +1,8 @@
 // The operands of an instruction together.
 ghost use Rattle.std.specs.Prelude.{◌≡◌};
 ghost use Rattle.std.specs.Option.{option_or};
-ghost use Rattle.tal_names.specs.Declarations.{shown};
-ghost use Rattle.tal_operands.specs.Instructions.{takes_special, is_call, with_word, either_faults, with_operand, without_operands, instruction_of, is_misplaced, inst_fault};
+ghost use Rattle.tal_names.specs.Declarations.{names_shown};
+ghost use Rattle.tal_operands.specs.Instructions.{takes_special, is_call, with_word, either_faults, with_operand, without_operands, line_instruction, is_misplaced, inst_fault};
 
 use crate::operands::{Hole, Operand, OperandFaults, Sense, operand_of};
 use code_words::{Mnemonic, OperandWord, OperandWords, Words};
@@ -158,7 +158,7 @@ pub fn instruction_of(
     args: &[Arg],
     distance: i32,
 ) -> Instruction
-    ensures { result ≡ instruction_of (shown names.now) mnemonic args.now distance }
+    ensures { result ≡ line_instruction (names_shown names.now) mnemonic args.now distance }
 {
     let call = is_call(mnemonic);
     let mut instruction = Instruction::bare(mnemonic);

@@ -1,7 +1,7 @@
 // The operands of a module's instructions, each by itself.
 ghost use Rattle.std.specs.Prelude.{◌≡◌};
-ghost use Rattle.tal_names.specs.Declarations.{shown};
-ghost use Rattle.tal_operands.specs.Operands.{wide, no_faults, plain, row_operand, null_sense, null_operand, memory_operand, is_entry, nucleus_operand, called_operand, operand_of};
+ghost use Rattle.tal_names.specs.Declarations.{names_shown};
+ghost use Rattle.tal_operands.specs.Operands.{wide, no_faults, plain_operand, row_operand, null_sense, null_operand, memory_operand, is_nucleus_entry, nucleus_operand, called_operand, arg_operand};
 
 use crate::addresses::{Address, word};
 use code_words::OperandWord;
@@ -72,7 +72,7 @@ impl OperandFaults {
 
 // An operand without a name.
 fn plain(word: OperandWord) -> Operand
-    ensures { result ≡ plain word }
+    ensures { result ≡ plain_operand word }
 {
     Operand {
         word,
@@ -176,7 +176,7 @@ fn memory_operand(address: Address) -> Operand
 // Whether the Nucleus has the entry.
 #[tactic(auto, unfolding(crate::specs::Operands::is_entry))]
 fn is_entry(number: i64) -> bool
-    ensures { result ≡ is_entry number }
+    ensures { result ≡ is_nucleus_entry number }
 {
     !(number < 0) && !(10 < number)
 }
@@ -221,7 +221,7 @@ fn called_operand(function: Option<u32>) -> Operand
 /// An operand. A call's target is a function, another target a label at this distance from the next instruction.
 #[tactic(auto, unfolding(crate::specs::Operands::operand_of))]
 pub(crate) fn operand_of(names: &ModuleNames, call: bool, distance: i32, arg: &Arg) -> Operand
-    ensures { result ≡ operand_of (shown names.now) call distance arg.now }
+    ensures { result ≡ arg_operand (names_shown names.now) call distance arg.now }
 {
     match arg {
         Arg::Register(reg) => plain(OperandWord::Register(*reg)),

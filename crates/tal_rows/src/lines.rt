@@ -2,8 +2,8 @@
 // 12 one that is declared twice, 14 a class that breaks the rules of classes, 15 a function without an instruction, 16 a count
 // above its limit, 17 a number that does not fit, 18 a type that is not allowed.
 ghost use Rattle.std.specs.Prelude.{◌≡◌, ◌<◌, ◌^◌, IfSome};
-ghost use Rattle.tal_names.specs.Declarations.{shown};
-ghost use Rattle.tal_rows.specs.Lines.{is_twice, field_type, natural, sig_line, kind_line, static_line, is_too_long, numbers_fit, data_line, function_line, parent_fits, class_line, entry_line, label_line};
+ghost use Rattle.tal_names.specs.Declarations.{names_shown};
+ghost use Rattle.tal_rows.specs.Lines.{is_twice, field_type, natural, sig_line, kind_line, static_line, is_too_long, numbers_fit, data_line, function_line, parent_row_fits, class_line, entry_line, label_line};
 
 use crate::registers::{all_known, repeats, slots_known, slots_of, types_in};
 use object_layout::FieldTy;
@@ -72,7 +72,7 @@ pub fn sig_line(
     result_type: &TypeText,
     rows: u32,
 ) -> Result<Sig, u8>
-    ensures { result ≡ sig_line (shown names.now) name.now params.now result_type.now rows }
+    ensures { result ≡ sig_line (names_shown names.now) name.now params.now result_type.now rows }
 {
     if !all_known(names, params) {
         return Err(11);
@@ -103,7 +103,7 @@ pub fn kind_line(
     element: &TypeText,
     rows: u32,
 ) -> Result<FieldTy, u8>
-    ensures { result ≡ kind_line (shown names.now) name.now element.now rows }
+    ensures { result ≡ kind_line (names_shown names.now) name.now element.now rows }
 {
     let Some(found) = names.type_of(element) else {
         return Err(11);
@@ -130,7 +130,7 @@ pub fn static_line(
     rows: u32,
     words: u32,
 ) -> Result<FieldTy, u8>
-    ensures { result ≡ static_line (shown names.now) name.now ty.now rows words }
+    ensures { result ≡ static_line (names_shown names.now) name.now ty.now rows words }
 {
     let Some(found) = names.type_of(ty) else {
         return Err(11);
@@ -161,7 +161,7 @@ fn is_too_long(size: i64, words: u32) -> bool
 // Whether there are as many numbers as elements, and the elements are numbers; or no numbers are given.
 #[tactic(auto, unfolding(crate::specs::Lines::numbers_fit))]
 fn numbers_fit(names: &ModuleNames, kind: u32, length: u64, numbers: &Option<NumberList>) -> bool
-    ensures { result ≡ numbers_fit (shown names.now) kind length numbers.now }
+    ensures { result ≡ numbers_fit (names_shown names.now) kind length numbers.now }
 {
     match numbers {
         None => true,
@@ -187,7 +187,7 @@ pub fn data_line(
     rows: u32,
     words: u32,
 ) -> Result<DataLine, u8>
-    ensures { result ≡ data_line (shown names.now) name.now kind.now size numbers.now rows words }
+    ensures { result ≡ data_line (names_shown names.now) name.now kind.now size numbers.now rows words }
 {
     let Some(kind) = names.kinds.number(kind.bytes()) else {
         return Err(11);
@@ -217,7 +217,7 @@ pub fn function_line(
     has_code: bool,
     rows: u32,
 ) -> Result<u32, u8>
-    ensures { result ≡ function_line (shown names.now) name.now sig.now has_code rows }
+    ensures { result ≡ function_line (names_shown names.now) name.now sig.now has_code rows }
 {
     let Some(sig) = names.sigs.number(sig.bytes()) else {
         return Err(11);
@@ -243,7 +243,7 @@ pub fn class_line(
     parent: &Option<Name>,
     rows: u32,
 ) -> Result<Option<u32>, u8>
-    ensures { result ≡ class_line (shown names.now) name.now parent.now rows }
+    ensures { result ≡ class_line (names_shown names.now) name.now parent.now rows }
 {
     match parent {
         None => {
@@ -282,7 +282,7 @@ pub fn entry_line(
     function: &Name,
     is_given: bool,
 ) -> Result<EntryLine, u8>
-    ensures { result ≡ entry_line (shown names.now) stack function.now is_given }
+    ensures { result ≡ entry_line (names_shown names.now) stack function.now is_given }
 {
     let Some(function) = names.functions.number(function.bytes()) else {
         return Err(11);
@@ -309,7 +309,7 @@ pub fn label_line(
     is_placed: bool,
     blocks: u32,
 ) -> Result<[Ty; 7], u8>
-    ensures { result ≡ label_line (shown names.now) regs.now slots.now is_placed blocks }
+    ensures { result ≡ label_line (names_shown names.now) regs.now slots.now is_placed blocks }
 {
     if !all_known(names, regs) {
         return Err(11);

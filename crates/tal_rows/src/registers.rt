@@ -1,7 +1,7 @@
 // Registers with their types, as a signature or a label lists them.
 ghost use Rattle.std.specs.Prelude.{◌≡◌, []};
-ghost use Rattle.tal_names.specs.Declarations.{shown};
-ghost use Rattle.tal_rows.specs.Lines.{all_known, slots_of, slots_known, has_register, repeats, type_in, types_in};
+ghost use Rattle.tal_names.specs.Declarations.{names_shown};
+ghost use Rattle.tal_rows.specs.Lines.{all_known, slots_given, slots_known, has_register, repeats, type_in, types_in};
 
 use ia32_code::Reg;
 use tal_names::ModuleNames;
@@ -11,7 +11,7 @@ use tal_types::Ty;
 /// Whether the names of all types are declared.
 #[tactic(auto, using(crate::proofs::Steps::here), unfolding(crate::specs::Lines::all_known))]
 pub(crate) fn all_known(names: &ModuleNames, rows: &[RegType]) -> bool
-    ensures { result ≡ all_known (shown names.now) rows.now }
+    ensures { result ≡ all_known (names_shown names.now) rows.now }
 {
     for row in rows {
         let Some(_) = names.type_of(&row.ty) else {
@@ -24,7 +24,7 @@ pub(crate) fn all_known(names: &ModuleNames, rows: &[RegType]) -> bool
 /// The slots of a label: none where no list is given.
 #[tactic(auto, unfolding(crate::specs::Lines::slots_of))]
 pub(crate) fn slots_of(slots: &Option<TypeTextList>) -> &[TypeText]
-    ensures { result.now ≡ slots_of slots.now }
+    ensures { result.now ≡ slots_given slots.now }
 {
     match slots {
         Some(types) => types.items(),
@@ -35,7 +35,7 @@ pub(crate) fn slots_of(slots: &Option<TypeTextList>) -> &[TypeText]
 /// Whether the names of all slots' types are declared.
 #[tactic(auto, using(crate::proofs::Steps::here), unfolding(crate::specs::Lines::slots_known))]
 pub(crate) fn slots_known(names: &ModuleNames, types: &[TypeText]) -> bool
-    ensures { result ≡ slots_known (shown names.now) types.now }
+    ensures { result ≡ slots_known (names_shown names.now) types.now }
 {
     for ty in types {
         let Some(_) = names.type_of(ty) else {
@@ -74,7 +74,7 @@ pub fn repeats(rows: &[RegType]) -> bool
 // The type of a register: junk where it has no row.
 #[tactic(auto, using(crate::proofs::Steps::here), unfolding(crate::specs::Lines::type_in))]
 fn type_in(names: &ModuleNames, rows: &[RegType], reg: Reg) -> Ty
-    ensures { result ≡ type_in (shown names.now) rows.now reg }
+    ensures { result ≡ type_in (names_shown names.now) rows.now reg }
 {
     for row in rows {
         if row.reg.number() == reg.number() {
@@ -86,7 +86,7 @@ fn type_in(names: &ModuleNames, rows: &[RegType], reg: Reg) -> Ty
 
 /// The types of EAX, ECX, EDX, EBX, EBP, ESI and EDI: junk where a register has no row.
 pub fn types_in(names: &ModuleNames, rows: &[RegType]) -> [Ty; 7]
-    ensures { result ≡ types_in (shown names.now) rows.now }
+    ensures { result ≡ types_in (names_shown names.now) rows.now }
 {
     [
         type_in(names, rows, Reg::Eax),

@@ -10,12 +10,12 @@ use Rattle.tal_syntax.specs.declared.form.Arg.TheVariants as arg
 use Rattle.tal_syntax.specs.declared.instructions.Operands.{Operands}
 use Rattle.tal_syntax.specs.declared.instructions.Operands.TheVariants as operands
 use Rattle.tal_syntax.specs.Sentences.{◌⊕◌}
-use Rattle.tal_syntax.specs.Grammar.{mark, name, number, line_end, comma, type_says, terms_says, arg_says, count_says, called_says, target_says, alone_says, pair_says, up_to_three_say, none_says, args_say}
-use Rattle.tal_syntax.specs.Reading.{Read, reads, cons, name_at, end_at}
-use Rattle.tal_syntax.specs.Operands.{arg_of, arg_at, count_arg_of, count_at, called_of, called_at, target_at, last_at, alone, pair_at, third_of, third_at, second_of, second_at, up_to_three_at, args_at}
+use Rattle.tal_syntax.specs.Grammar.{mark, name, number_lexeme, end_lexeme, comma, type_says, terms_says, arg_says, count_says, called_says, target_says, alone_says, pair_says, up_to_three_say, none_says, args_say}
+use Rattle.tal_syntax.specs.Reading.{Read, reads, cons, name_at, line_end_at}
+use Rattle.tal_syntax.specs.Operands.{arg_of, arg_at, count_arg_of, count_at, called_of, called_at, target_at, last_at, alone, two_args_at, third_of, third_at, second_of, second_at, up_to_three_at, args_at}
 use Rattle.tal_syntax.proofs.Lawful.{Lawful, Made, Both, Nothing, nothing, Lawful-done, Lawful-both, Lawful-reads, Lawful-same}
 use Rattle.tal_syntax.proofs.LawfulChoices.{Chosen, Lawful-choose, Opened, opened_law, law_of, led, led_by_mark, lead}
-use Rattle.tal_syntax.proofs.TokenLaws.{Lawful-name, Lawful-number, Lawful-end, ended}
+use Rattle.tal_syntax.proofs.TokenLaws.{Lawful-name, Lawful-number_lexeme, Lawful-end, ended}
 use Rattle.tal_syntax.proofs.TypeLaws.{Lawful-type}
 use Rattle.tal_syntax.proofs.ListLaws.{Lawful-comma}
 use Rattle.tal_syntax.proofs.TermLaws.{Lawful-terms}
@@ -125,7 +125,7 @@ Lawful-count = Lawful-choose count_arg_of count_rest count_says count_laws count
 abbrev called_rest : Lexeme → Arg → List Lexeme → Type 0
 called_rest (Register r) = Nothing (arg.Register r)
 called_rest (Name n) = Nothing (arg.Target n)
-called_rest (Key key.Nucleus) = Made (λ k. arg.Nucleus k) number
+called_rest (Key key.Nucleus) = Made (λ k. arg.Nucleus k) number_lexeme
 called_rest (Mark b) = Opened 91 Memory b
 called_rest _ = λ x ts. ⊥
 
@@ -133,7 +133,7 @@ called_rest _ = λ x ts. ⊥
 called_laws : (t : Lexeme) (p : Read Arg) → called_of t ≡ Some p → Lawful p (called_rest t)
 called_laws (Register r) p e = law_of (Lawful-done (arg.Register r)) e
 called_laws (Name n) p e = law_of (Lawful-done (arg.Target n)) e
-called_laws (Key key.Nucleus) p e = law_of (Lawful-reads (λ k. arg.Nucleus k) Lawful-number) e
+called_laws (Key key.Nucleus) p e = law_of (Lawful-reads (λ k. arg.Nucleus k) Lawful-number_lexeme) e
 called_laws (Mark b) p e = opened_law 91 b (eqb b 91) (Lawful-reads (λ xs. arg.Memory xs) Lawful-terms) refl e
 called_laws _ p e = absurd cc
 
@@ -172,7 +172,7 @@ Lawful-target = Lawful-same (reads (λ n. arg.Target n) name_at) (Made (λ n. ar
 module _ (p : Read Arg) (S : Arg → List Lexeme → Type 0) (lp : Lawful p S) where
   -- an operand, and the line's end
   abbrev last_says : Arg → List Lexeme → Type 0
-  last_says x = S x ⊕ line_end
+  last_says x = S x ⊕ end_lexeme
 
   Lawful-last : Lawful (last_at p) last_says
   Lawful-last =
@@ -198,15 +198,15 @@ module _ (p : Read Arg) (S : Arg → List Lexeme → Type 0) (lp : Lawful p S) w
   pair_back (x ∷ y ∷ []) ts s = record { of = (x, y); value = refl; says = s }
   pair_back (x ∷ y ∷ z ∷ zs) ts s = absurd s
 
-  Lawful-pair_at : Lawful (pair_at p) (pair_says S)
-  Lawful-pair_at =
-      Lawful-same (pair_at p) two_made (pair_says S) (Lawful-reads (λ (x : Arg × Arg). x.0 ∷ x.1 ∷ []) (Lawful-both Lawful-arg (Lawful-comma (last_at p) last_says Lawful-last)))
+  Lawful-two_args_at : Lawful (two_args_at p) (pair_says S)
+  Lawful-two_args_at =
+      Lawful-same (two_args_at p) two_made (pair_says S) (Lawful-reads (λ (x : Arg × Arg). x.0 ∷ x.1 ∷ []) (Lawful-both Lawful-arg (Lawful-comma (last_at p) last_says Lawful-last)))
       (λ xs ts s. subst (λ (l : List Arg). pair_says S l ts) (sym s.value) s.says) pair_back
 
 -- the third operand, where there is one
 abbrev third_says : Option Arg → List Lexeme → Type 0
-third_says None = line_end
-third_says (Some z) = mark 44 ⊕ arg_says z ⊕ line_end
+third_says None = end_lexeme
+third_says (Some z) = mark 44 ⊕ arg_says z ⊕ end_lexeme
 
 abbrev third_rest : Lexeme → Option Arg → List Lexeme → Type 0
 third_rest EndOfLine = Nothing None
@@ -237,9 +237,9 @@ Lawful-third = Lawful-choose third_of third_rest third_says third_laws third_the
 
 -- the second, and what stands behind it
 abbrev second_says : List Arg → List Lexeme → Type 0
-second_says [] = line_end
-second_says (y ∷ []) = mark 44 ⊕ arg_says y ⊕ line_end
-second_says (y ∷ z ∷ []) = mark 44 ⊕ arg_says y ⊕ mark 44 ⊕ arg_says z ⊕ line_end
+second_says [] = end_lexeme
+second_says (y ∷ []) = mark 44 ⊕ arg_says y ⊕ end_lexeme
+second_says (y ∷ z ∷ []) = mark 44 ⊕ arg_says y ⊕ mark 44 ⊕ arg_says z ⊕ end_lexeme
 second_says _ = λ ts. ⊥
 
 -- the second with a third perhaps
@@ -310,16 +310,16 @@ none_back [] ts s = record { of = tt; value = refl; says = s }
 none_back (x ∷ xs) ts s = absurd s
 
 -- no operand is read exactly
-Lawful-none : Lawful (reads (λ u. []) end_at) none_says
-Lawful-none = Lawful-same (reads (λ u. []) end_at) (Made (λ (u : Unit {0}). []) ended) none_says (Lawful-reads (λ u. []) Lawful-end) (λ xs ts s. subst (λ (l : List Arg). none_says l ts) (sym s.value) s.says) none_back
+Lawful-none : Lawful (reads (λ u. []) line_end_at) none_says
+Lawful-none = Lawful-same (reads (λ u. []) line_end_at) (Made (λ (u : Unit {0}). []) ended) none_says (Lawful-reads (λ u. []) Lawful-end) (λ xs ts s. subst (λ (l : List Arg). none_says l ts) (sym s.value) s.says) none_back
 
 -- the operands that stand behind a mnemonic are read exactly
 pub Lawful-args : (o : Operands) → Lawful (args_at o) (args_say o)
 unfolding args_at
 Lawful-args operands.Zero = Lawful-none
 Lawful-args operands.One = Lawful-alone arg_at arg_says Lawful-arg
-Lawful-args operands.Two = Lawful-pair_at arg_at arg_says Lawful-arg
+Lawful-args operands.Two = Lawful-two_args_at arg_at arg_says Lawful-arg
 Lawful-args operands.UpToThree = Lawful-three
-Lawful-args operands.Shifted = Lawful-pair_at count_at count_says Lawful-count
+Lawful-args operands.Shifted = Lawful-two_args_at count_at count_says Lawful-count
 Lawful-args operands.Called = Lawful-alone called_at called_says Lawful-called
 Lawful-args operands.Target = Lawful-alone target_at target_says Lawful-target

@@ -9,8 +9,8 @@ use Rattle.tal_syntax.specs.declared.form.Form.TheVariants as form
 use Rattle.tal_syntax.specs.Grammar.{type_says, reg_type_says, list_says, slots_says, args_say, code_says}
 use Rattle.tal_syntax.specs.Reading.{Read, rows_at}
 use Rattle.tal_syntax.specs.Rows.{type_at}
-use Rattle.tal_syntax.specs.Operands.{operands_of, inst_at}
-use Rattle.tal_syntax.specs.Forms.{block_end_at, slots_of, slots_at, label_at, code_of, code_at}
+use Rattle.tal_syntax.specs.Operands.{operands_of, inst_line_at}
+use Rattle.tal_syntax.specs.Forms.{block_end_at, slots_behind, label_slots_at, label_at, code_of, function_line_at}
 use Rattle.tal_syntax.proofs.Lawful.{Lawful, Made, Both, Nothing, nothing, Lawful-done, Lawful-both, Lawful-reads}
 use Rattle.tal_syntax.proofs.LawfulChoices.{Chosen, Lawful-choose, Opened, opened_law, law_of, led, led_by_mark, lead}
 use Rattle.tal_syntax.proofs.TokenLaws.{Lawful-mark, Lawful-end, marked, ended}
@@ -31,7 +31,7 @@ slots_rest (Mark b) = Opened 91 (Made (λ x. Some x.0) (Both (list_says 93 type_
 slots_rest _ = λ x ts. ⊥
 
 -- each way to read slots
-slots_laws : (t : Lexeme) (p : Read (Option (List TypeText))) → slots_of t ≡ Some p → Lawful p (slots_rest t)
+slots_laws : (t : Lexeme) (p : Read (Option (List TypeText))) → slots_behind t ≡ Some p → Lawful p (slots_rest t)
 slots_laws EndOfLine p e = law_of (Lawful-done None) e
 slots_laws (Mark b) p e = opened_law 91 b (eqb b 91) (Lawful-reads (λ x. Some x.0) (Lawful-both Lawful-types Lawful-end)) refl e
 slots_laws _ p e = absurd cc
@@ -43,14 +43,14 @@ slots_there (Mark b) x ts s = led_by_mark slots_says 91 b x ts s (λ y us j. j)
 slots_there _ x ts s = absurd s
 
 -- slots by their first token
-slots_back : (x : Option (List TypeText)) (ts : List Lexeme) → slots_says x ts → Chosen slots_of slots_rest x ts
+slots_back : (x : Option (List TypeText)) (ts : List Lexeme) → slots_says x ts → Chosen slots_behind slots_rest x ts
 slots_back None ts s = record { token = EndOfLine; back = []; parts = s; way = _; picks = refl; two = nothing None }
 slots_back (Some xs) ts s = record { token = Mark 91; back = s.back; parts = lead (Mark 91) ts s; way = _; picks = refl; two = record { is = refl; two = record { of = (xs, tt); value = refl; says = s.two } } }
 
 -- slots are read exactly
-Lawful-slots : Lawful slots_at slots_says
-unfolding slots_at
-Lawful-slots = Lawful-choose slots_of slots_rest slots_says slots_laws slots_there slots_back (record { value = None; text = EndOfLine ∷ []; says = refl })
+Lawful-slots : Lawful label_slots_at slots_says
+unfolding label_slots_at
+Lawful-slots = Lawful-choose slots_behind slots_rest slots_says slots_laws slots_there slots_back (record { value = None; text = EndOfLine ∷ []; says = refl })
 
 -- ---- lines
 
@@ -63,7 +63,7 @@ rest _ = λ x ts. ⊥
 
 -- each way to read a line
 laws : (t : Lexeme) (p : Read Form) → code_of t ≡ Some p → Lawful p (rest t)
-unfolding block_end_at label_at inst_at
+unfolding block_end_at label_at inst_line_at
 laws (Key key.End) p e = law_of (Lawful-reads (λ u. form.End) Lawful-end) e
 laws (Name n) p e = law_of (Lawful-reads (λ x. form.Label n x.1.1.0 x.1.1.1) (Lawful-both (Lawful-mark 58) (Lawful-both (Lawful-mark 40) (Lawful-both Lawful-params Lawful-slots)))) e
 laws (Operation m) p e = law_of (Lawful-reads (λ xs. form.Inst m xs) (Lawful-args (operands_of m))) e
@@ -84,8 +84,8 @@ back (form.Inst m xs) ts s = record { token = Operation m; back = s.back; parts 
 back _ ts s = absurd s
 
 -- a line of a function is read exactly
-pub Lawful-code : Lawful code_at code_says
-unfolding code_at
+pub Lawful-code : Lawful function_line_at code_says
+unfolding function_line_at
 Lawful-code =
     Lawful-choose code_of rest code_says laws there back
     (record { value = form.End; text = Key key.End ∷ EndOfLine ∷ []; says = record { front = Key key.End ∷ []; back = EndOfLine ∷ []; parts = refl; one = refl; two = refl } })

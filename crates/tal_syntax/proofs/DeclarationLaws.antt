@@ -10,13 +10,13 @@ use Rattle.tal_syntax.specs.declared.form.RegType.{RegType}
 use Rattle.tal_syntax.specs.declared.form.Form.{Form}
 use Rattle.tal_syntax.specs.declared.form.Form.TheVariants as form
 use Rattle.tal_syntax.specs.Sentences.{token, ◌⊕◌}
-use Rattle.tal_syntax.specs.Grammar.{name, number, type_says, typed_says, reg_type_says, list_says, numbers_says, parent_says, outside_says}
+use Rattle.tal_syntax.specs.Grammar.{name, number_lexeme, type_says, typed_says, reg_type_says, list_says, numbers_says, parent_says, outside_says}
 use Rattle.tal_syntax.specs.Reading.{Read, both, reads, by_key, is_mark, number_at, rows_at, typed_at, of_typed, typed}
 use Rattle.tal_syntax.specs.Rows.{type_at, reg_type, reg_type_at}
-use Rattle.tal_syntax.specs.Forms.{numbers_of, numbers_at, parent_of, parent_at, extern_key, extern_at, outside_key, outside_at, heap_at, stacks_at, entry_at, sig_at, kind_at, static_at, data_at, outer_data_at, class_at, func_at}
+use Rattle.tal_syntax.specs.Forms.{numbers_of, numbers_at, parent_behind, parent_at, extern_key, extern_at, outside_key, outside_at, heap_at, stacks_at, entry_at, sig_at, kind_at, static_at, data_at, outer_data_at, class_at, func_at}
 use Rattle.tal_syntax.proofs.Lawful.{Lawful, Made, Both, Nothing, nothing, Lawful-done, Lawful-both, Lawful-reads, Lawful-same}
 use Rattle.tal_syntax.proofs.LawfulChoices.{Chosen, Lawful-choose, Lawful-one, Opened, opened_law, behind_key, each_key, key_there, law_of, led, led_by_mark, lead}
-use Rattle.tal_syntax.proofs.TokenLaws.{Lawful-name, Lawful-number, Lawful-mark, Lawful-end, marked, ended, some_is}
+use Rattle.tal_syntax.proofs.TokenLaws.{Lawful-name, Lawful-number_lexeme, Lawful-mark, Lawful-end, marked, ended, some_is}
 use Rattle.tal_syntax.proofs.TypeLaws.{Lawful-type}
 use Rattle.tal_syntax.proofs.ListLaws.{Lawful-rows, Starts}
 
@@ -53,12 +53,12 @@ Lawful-params = Lawful-rows 41 reg_type_at reg_type_says Lawful-reg_type refl re
 
 -- ---- numbers of arrays
 
-Lawful-list : Lawful (rows_at 125 number_at) (list_says 125 number)
-Lawful-list = Lawful-rows 125 number_at number Lawful-number refl (λ x ts s. record { token = Number x; back = []; parts = s; is = refl })
+Lawful-list : Lawful (rows_at 125 number_at) (list_says 125 number_lexeme)
+Lawful-list = Lawful-rows 125 number_at number_lexeme Lawful-number_lexeme refl (λ x ts s. record { token = Number x; back = []; parts = s; is = refl })
 
 -- a list behind its opening mark, and the line's end
 abbrev listed : Option (List ℤ) → List Lexeme → Type 0
-listed = Made (λ x. Some x.0) (Both (list_says 125 number) ended)
+listed = Made (λ x. Some x.0) (Both (list_says 125 number_lexeme) ended)
 
 abbrev numbers_rest : Lexeme → Option (List ℤ) → List Lexeme → Type 0
 numbers_rest EndOfLine = Nothing None
@@ -90,7 +90,7 @@ parent_rest EndOfLine = Nothing None
 parent_rest (Key key.Below) = Made (λ x. Some x.0) (Both name ended)
 parent_rest _ = λ x ts. ⊥
 
-parent_laws : (t : Lexeme) (p : Read (Option (List ℕ))) → parent_of t ≡ Some p → Lawful p (parent_rest t)
+parent_laws : (t : Lexeme) (p : Read (Option (List ℕ))) → parent_behind t ≡ Some p → Lawful p (parent_rest t)
 parent_laws EndOfLine p e = law_of (Lawful-done None) e
 parent_laws (Key key.Below) p e = law_of (Lawful-reads (λ x. Some x.0) (Lawful-both Lawful-name Lawful-end)) e
 parent_laws _ p e = absurd cc
@@ -100,13 +100,13 @@ parent_there EndOfLine x ts s = rw (s.none, s.value) refl
 parent_there (Key key.Below) x ts s = led parent_says (Key key.Below) x ts s (λ y us j. j)
 parent_there _ x ts s = absurd s
 
-parent_back : (x : Option (List ℕ)) (ts : List Lexeme) → parent_says x ts → Chosen parent_of parent_rest x ts
+parent_back : (x : Option (List ℕ)) (ts : List Lexeme) → parent_says x ts → Chosen parent_behind parent_rest x ts
 parent_back None ts s = record { token = EndOfLine; back = []; parts = s; way = _; picks = refl; two = nothing None }
 parent_back (Some p) ts s = record { token = Key key.Below; back = s.back; parts = lead (Key key.Below) ts s; way = _; picks = refl; two = record { of = (p, tt); value = refl; says = s.two } }
 
 Lawful-parent : Lawful parent_at parent_says
 unfolding parent_at
-Lawful-parent = Lawful-choose parent_of parent_rest parent_says parent_laws parent_there parent_back (record { value = None; text = EndOfLine ∷ []; says = refl })
+Lawful-parent = Lawful-choose parent_behind parent_rest parent_says parent_laws parent_there parent_back (record { value = None; text = EndOfLine ∷ []; says = refl })
 
 -- ---- behind `extern`
 
@@ -118,7 +118,7 @@ abbrev outer_rest : Keyword → Form → List Lexeme → Type 0
 outer_rest key.Sig = Made (λ x. form.Sig true x.0 x.1.1.0 x.1.1.1.0) (Both name (Both (marked 40) (Both (list_says 41 reg_type_says) (Both type_says ended))))
 outer_rest key.Kind = Made (λ x. form.Kind true x.0 x.1.0) (Both name (Both type_says ended))
 outer_rest key.Static = Made (λ x. form.Static true x.0 x.1.0) (Both name (Both type_says ended))
-outer_rest key.Data = Made (λ x. form.DataArray true x.0 x.1.0 x.1.1.0 None) (Both name (Both name (Both number ended)))
+outer_rest key.Data = Made (λ x. form.DataArray true x.0 x.1.0 x.1.1.0 None) (Both name (Both name (Both number_lexeme ended)))
 outer_rest key.Class = Made (λ x. form.Class true x.0 x.1) (Both name parent_says)
 outer_rest key.Func = Made (λ x. form.Func true x.0 x.1.0) (Both name (Both name ended))
 outer_rest _ = λ x ts. ⊥
@@ -128,7 +128,7 @@ unfolding sig_at kind_at static_at outer_data_at class_at func_at
 outer_laws key.Sig p e = law_of (Lawful-reads (λ x. form.Sig true x.0 x.1.1.0 x.1.1.1.0) (Lawful-both Lawful-name (Lawful-both (Lawful-mark 40) (Lawful-both Lawful-params (Lawful-both Lawful-type Lawful-end))))) e
 outer_laws key.Kind p e = law_of (Lawful-reads (λ x. form.Kind true x.0 x.1.0) (Lawful-both Lawful-name (Lawful-both Lawful-type Lawful-end))) e
 outer_laws key.Static p e = law_of (Lawful-reads (λ x. form.Static true x.0 x.1.0) (Lawful-both Lawful-name (Lawful-both Lawful-type Lawful-end))) e
-outer_laws key.Data p e = law_of (Lawful-reads (λ x. form.DataArray true x.0 x.1.0 x.1.1.0 None) (Lawful-both Lawful-name (Lawful-both Lawful-name (Lawful-both Lawful-number Lawful-end)))) e
+outer_laws key.Data p e = law_of (Lawful-reads (λ x. form.DataArray true x.0 x.1.0 x.1.1.0 None) (Lawful-both Lawful-name (Lawful-both Lawful-name (Lawful-both Lawful-number_lexeme Lawful-end)))) e
 outer_laws key.Class p e = law_of (Lawful-reads (λ x. form.Class true x.0 x.1) (Lawful-both Lawful-name Lawful-parent)) e
 outer_laws key.Func p e = law_of (Lawful-reads (λ x. form.Func true x.0 x.1.0) (Lawful-both Lawful-name (Lawful-both Lawful-name Lawful-end))) e
 outer_laws _ p e = absurd cc
@@ -185,13 +185,13 @@ Lawful-extern =
 -- ---- all of them
 
 abbrev rest : Keyword → Form → List Lexeme → Type 0
-rest key.Heap = Made (λ x. form.Heap x.0) (Both number ended)
-rest key.Stacks = Made (λ x. form.Stacks x.0) (Both number ended)
-rest key.Entry = Made (λ x. form.Entry x.0 x.1.0) (Both number (Both name ended))
+rest key.Heap = Made (λ x. form.Heap x.0) (Both number_lexeme ended)
+rest key.Stacks = Made (λ x. form.Stacks x.0) (Both number_lexeme ended)
+rest key.Entry = Made (λ x. form.Entry x.0 x.1.0) (Both number_lexeme (Both name ended))
 rest key.Sig = Made (λ x. form.Sig false x.0 x.1.1.0 x.1.1.1.0) (Both name (Both (marked 40) (Both (list_says 41 reg_type_says) (Both type_says ended))))
 rest key.Kind = Made (λ x. form.Kind false x.0 x.1.0) (Both name (Both type_says ended))
 rest key.Static = Made (λ x. form.Static false x.0 x.1.0) (Both name (Both type_says ended))
-rest key.Data = Made (λ x. form.DataArray false x.0 x.1.0 x.1.1.0 x.1.1.1) (Both name (Both name (Both number numbers_says)))
+rest key.Data = Made (λ x. form.DataArray false x.0 x.1.0 x.1.1.0 x.1.1.1) (Both name (Both name (Both number_lexeme numbers_says)))
 rest key.Class = Made (λ x. form.Class false x.0 x.1) (Both name parent_says)
 rest key.Func = Made (λ x. form.Func false x.0 x.1.0) (Both name (Both name ended))
 rest key.Extern = outer_says
@@ -199,13 +199,13 @@ rest _ = λ x ts. ⊥
 
 laws : (k : Keyword) (p : Read Form) → outside_key k ≡ Some p → Lawful p (rest k)
 unfolding heap_at stacks_at entry_at sig_at kind_at static_at data_at class_at func_at
-laws key.Heap p e = law_of (Lawful-reads (λ x. form.Heap x.0) (Lawful-both Lawful-number Lawful-end)) e
-laws key.Stacks p e = law_of (Lawful-reads (λ x. form.Stacks x.0) (Lawful-both Lawful-number Lawful-end)) e
-laws key.Entry p e = law_of (Lawful-reads (λ x. form.Entry x.0 x.1.0) (Lawful-both Lawful-number (Lawful-both Lawful-name Lawful-end))) e
+laws key.Heap p e = law_of (Lawful-reads (λ x. form.Heap x.0) (Lawful-both Lawful-number_lexeme Lawful-end)) e
+laws key.Stacks p e = law_of (Lawful-reads (λ x. form.Stacks x.0) (Lawful-both Lawful-number_lexeme Lawful-end)) e
+laws key.Entry p e = law_of (Lawful-reads (λ x. form.Entry x.0 x.1.0) (Lawful-both Lawful-number_lexeme (Lawful-both Lawful-name Lawful-end))) e
 laws key.Sig p e = law_of (Lawful-reads (λ x. form.Sig false x.0 x.1.1.0 x.1.1.1.0) (Lawful-both Lawful-name (Lawful-both (Lawful-mark 40) (Lawful-both Lawful-params (Lawful-both Lawful-type Lawful-end))))) e
 laws key.Kind p e = law_of (Lawful-reads (λ x. form.Kind false x.0 x.1.0) (Lawful-both Lawful-name (Lawful-both Lawful-type Lawful-end))) e
 laws key.Static p e = law_of (Lawful-reads (λ x. form.Static false x.0 x.1.0) (Lawful-both Lawful-name (Lawful-both Lawful-type Lawful-end))) e
-laws key.Data p e = law_of (Lawful-reads (λ x. form.DataArray false x.0 x.1.0 x.1.1.0 x.1.1.1) (Lawful-both Lawful-name (Lawful-both Lawful-name (Lawful-both Lawful-number Lawful-numbers)))) e
+laws key.Data p e = law_of (Lawful-reads (λ x. form.DataArray false x.0 x.1.0 x.1.1.0 x.1.1.1) (Lawful-both Lawful-name (Lawful-both Lawful-name (Lawful-both Lawful-number_lexeme Lawful-numbers)))) e
 laws key.Class p e = law_of (Lawful-reads (λ x. form.Class false x.0 x.1) (Lawful-both Lawful-name Lawful-parent)) e
 laws key.Func p e = law_of (Lawful-reads (λ x. form.Func false x.0 x.1.0) (Lawful-both Lawful-name (Lawful-both Lawful-name Lawful-end))) e
 laws key.Extern p e = law_of Lawful-extern e

@@ -2,7 +2,7 @@
 use Rattle.std.proofs.Common.{◌≡◌, inl, inr, ℕ, ◌≤◌, Bool, true, false, cond, List, [], ◌∷◌, ◌++◌, Option, Some, None, Result, Ok, Err, refl, sym, ap, subst, ◌∙◌, append_assoc, append-nil, arith}
 use Rattle.text_tokens.specs.Token.{Lexeme, Name, Bad, EndOfLine, PlacedLexeme, lexemes_of, long_name, is_long}
 use Rattle.tal_syntax.specs.Reading.{Read}
-use Rattle.tal_syntax.specs.Text.{place, passed, LineFault, At, whole, refusal, refused_or_long, taken_or_long}
+use Rattle.tal_syntax.specs.Text.{column_behind, passed, LineFault, At, whole, refusal, refused_or_long, taken_or_long}
 use Rattle.tal_syntax.specs.Faults.{BeginsForm, NoLong, TokenFault, FirstTokenFault}
 use Rattle.tal_syntax.specs.declared.form.Form.{Form}
 use Rattle.tal_syntax.proofs.Lawful.{Lawful, Stuck}
@@ -116,7 +116,7 @@ module _ (p : Read Form) (S : Form → List Lexeme → Type 0) (l : Lawful p S) 
   refused_least front t ts items column code c e (inl f) = let same : 3 ≡ code = cc in let g = f.0 in omega (arith, same, g)
   refused_least front t ts items column code c e (inr f) = let same : 3 ≡ code = cc in let g = f.0 in omega (arith, same, g)
 
-  refused_place : (t : Lexeme) (ts : List Lexeme) (items : List PlacedLexeme) (column code : ℕ) → refusal items (t ∷ ts) ≡ At column code → place items (t ∷ ts) ≡ column
+  refused_place : (t : Lexeme) (ts : List Lexeme) (items : List PlacedLexeme) (column code : ℕ) → refusal items (t ∷ ts) ≡ At column code → column_behind items (t ∷ ts) ≡ column
   refused_place EndOfLine ts items column code e = absurd cc
   refused_place (Bad d) ts items column code e = cc
   refused_place t ts items column code e = cc

@@ -7,7 +7,7 @@ use Rattle.text_tokens.specs.Token.{Lexeme, Key, Register, Mnemonic, Name, Numbe
 use Rattle.text_tokens.specs.Lexing.{placed, tokens_from, line_tokens}
 use Rattle.text_tokens.specs.Pieces.{PieceView, piece_in, piece_at, token_of, glues}
 use Rattle.text_tokens.specs.Numbers.{number_token, unsigned}
-use Rattle.text_tokens.specs.Words.{word_of}
+use Rattle.text_tokens.specs.Words.{word_written}
 use Rattle.text_tokens.specs.declared.words.Word.{Word}
 use Rattle.text_tokens.specs.declared.words.Word.TheVariants as word
 use Rattle.text_tokens.specs.declared.pieces.Mode.{Mode}
@@ -22,7 +22,7 @@ use Rattle.tal_syntax.specs.declared.instructions.Operands.{Operands}
 use Rattle.tal_syntax.specs.declared.instructions.Operands.TheVariants as operands
 use Rattle.tal_syntax.specs.Operands.{operands_of}
 use Rattle.tal_syntax.specs.Sentences.{Joined, ◌⊕◌}
-use Rattle.tal_syntax.specs.Grammar.{line_end, parent_says, numbers_says, slots_says, alone_says, pair_says, up_to_three_say, none_says, args_say, outside_says, member_says, code_says, form_says}
+use Rattle.tal_syntax.specs.Grammar.{end_lexeme, parent_says, numbers_says, slots_says, alone_says, pair_says, up_to_three_say, none_says, args_say, outside_says, member_says, code_says, form_says}
 
 -- ---- tokens of a line
 
@@ -49,7 +49,7 @@ word_plain (Some (word.Mnemonic m)) letters = tt
 
 -- nor are letters,
 token_plain : (letters : List ℕ) → IsPlain (token_of letters)
-token_plain letters = word_plain (word_of letters) letters
+token_plain letters = word_plain (word_written letters) letters
 
 -- nor is a number in range or out of it,
 number_plain : (r : Bool) (n : ℤ) → IsPlain (cond r (Number n) (Bad 2))
@@ -133,7 +133,7 @@ pub record Ends (ts : List Lexeme) : Type 0 where
   pub parts : ts ≡ front ++ EndOfLine ∷ []
 
 -- the line's end alone
-ended : {ts : List Lexeme} → line_end ts → Ends ts
+ended : {ts : List Lexeme} → end_lexeme ts → Ends ts
 ended s = record { front = []; parts = s }
 
 -- a sentence before one that ends
@@ -141,10 +141,10 @@ behind : {L M : List Lexeme → Type 0} {ts : List Lexeme} (s : Joined L M ts) �
 behind s e = record { front = s.front ++ e.front; parts = s.parts ∙ ap (λ (l : List Lexeme). s.front ++ l) e.parts ∙ sym (append_assoc s.front e.front (EndOfLine ∷ [])) }
 
 -- three behind one another, and the line's end; and five
-row_ends : {K L M : List Lexeme → Type 0} {ts : List Lexeme} (s : (K ⊕ L ⊕ M ⊕ line_end) ts) → Ends ts
+row_ends : {K L M : List Lexeme → Type 0} {ts : List Lexeme} (s : (K ⊕ L ⊕ M ⊕ end_lexeme) ts) → Ends ts
 row_ends s = behind s (behind s.two (behind s.two.two (ended s.two.two.two)))
 
-sig_ends : {I J K L M : List Lexeme → Type 0} {ts : List Lexeme} (s : (I ⊕ J ⊕ K ⊕ L ⊕ M ⊕ line_end) ts) → Ends ts
+sig_ends : {I J K L M : List Lexeme → Type 0} {ts : List Lexeme} (s : (I ⊕ J ⊕ K ⊕ L ⊕ M ⊕ end_lexeme) ts) → Ends ts
 sig_ends s = behind s (behind s.two (row_ends s.two.two))
 
 -- the sentences of each row end with the line's end

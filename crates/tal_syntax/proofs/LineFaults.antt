@@ -3,7 +3,7 @@ use Rattle.std.proofs.Common.{◌≡◌, ℕ, Bool, true, false, cond, List, Opt
 use Rattle.text_tokens.specs.Token.{PlacedLexeme, lexemes_of}
 use Rattle.tal_syntax.specs.Grammar.{code_says, member_says, outside_says}
 use Rattle.tal_syntax.specs.Faults.{FirstTokenFault}
-use Rattle.tal_syntax.specs.Forms.{form_at, code_at, member_at, outside_at}
+use Rattle.tal_syntax.specs.Forms.{any_line_at, function_line_at, member_at, outside_at}
 use Rattle.tal_syntax.specs.Text.{LineFault, At, line_at, whole, no_token}
 use Rattle.tal_syntax.specs.declared.form.Form.{Form}
 use Rattle.tal_syntax.specs.declared.form.Scope.TheVariants.{InClass, InFunc, Outside}
@@ -19,15 +19,15 @@ not_empty false read column code e = e
 
 -- the fault of a line of a class
 pub class_fault : (items : List PlacedLexeme) (column code : ℕ) → line_at InClass items ≡ Err (At column code) → FirstTokenFault member_says items column code
-unfolding line_at form_at
+unfolding line_at any_line_at
 class_fault items column code e = first_fault member_at member_says Lawful-member items column code (not_empty (no_token (lexemes_of items)) (whole items (member_at (lexemes_of items))) column code e)
 
 -- the fault of a line outside classes and functions
 pub outside_fault : (items : List PlacedLexeme) (column code : ℕ) → line_at Outside items ≡ Err (At column code) → FirstTokenFault outside_says items column code
-unfolding line_at form_at
+unfolding line_at any_line_at
 outside_fault items column code e = first_fault outside_at outside_says Lawful-outside items column code (not_empty (no_token (lexemes_of items)) (whole items (outside_at (lexemes_of items))) column code e)
 
 -- the fault of a line of a function
 pub code_fault : (items : List PlacedLexeme) (column code : ℕ) → line_at InFunc items ≡ Err (At column code) → FirstTokenFault code_says items column code
-unfolding line_at form_at
-code_fault items column code e = first_fault code_at code_says Lawful-code items column code (not_empty (no_token (lexemes_of items)) (whole items (code_at (lexemes_of items))) column code e)
+unfolding line_at any_line_at
+code_fault items column code e = first_fault function_line_at code_says Lawful-code items column code (not_empty (no_token (lexemes_of items)) (whole items (function_line_at (lexemes_of items))) column code e)

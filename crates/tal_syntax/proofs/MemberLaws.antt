@@ -7,7 +7,7 @@ use Rattle.tal_syntax.specs.declared.form.Form.{Form}
 use Rattle.tal_syntax.specs.declared.form.Form.TheVariants as form
 use Rattle.tal_syntax.specs.Grammar.{name, type_says, member_says}
 use Rattle.tal_syntax.specs.Reading.{Read, by_key}
-use Rattle.tal_syntax.specs.Forms.{class_key, member_at, field_at, method_at, block_end_at}
+use Rattle.tal_syntax.specs.Forms.{class_key, member_at, field_line_at, method_at, block_end_at}
 use Rattle.tal_syntax.proofs.Lawful.{Lawful, Made, Both, Lawful-both, Lawful-reads}
 use Rattle.tal_syntax.proofs.LawfulChoices.{Chosen, Lawful-choose, behind_key, each_key, key_there, law_of, led, lead}
 use Rattle.tal_syntax.proofs.TokenLaws.{Lawful-name, Lawful-end, ended}
@@ -21,7 +21,7 @@ rest key.End = Made (λ u. form.End) ended
 rest _ = λ x ts. ⊥
 
 laws : (k : Keyword) (p : Read Form) → class_key k ≡ Some p → Lawful p (rest k)
-unfolding field_at method_at block_end_at
+unfolding field_line_at method_at block_end_at
 laws key.Field p e = law_of (Lawful-reads (λ x. form.Field x.0 x.1.0) (Lawful-both Lawful-name (Lawful-both Lawful-type Lawful-end))) e
 laws key.Method p e = law_of (Lawful-reads (λ x. form.Method x.0 x.1.0 x.1.1.0) (Lawful-both Lawful-name (Lawful-both Lawful-name (Lawful-both Lawful-name Lawful-end)))) e
 laws key.End p e = law_of (Lawful-reads (λ u. form.End) Lawful-end) e

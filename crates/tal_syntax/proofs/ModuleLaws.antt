@@ -3,9 +3,9 @@ use Rattle.std.proofs.Common.{◌≡◌, ℕ, ◌+◌, Bool, true, false, cond, 
 use Rattle.text_tokens.specs.Token.{Lexeme, EndOfLine, PlacedLexeme, lexemes_of, long_name, is_long}
 use Rattle.text_tokens.specs.Lexing.{line_tokens}
 use Rattle.tal_syntax.specs.Faults.{NoLong}
-use Rattle.tal_syntax.specs.Forms.{form_at, outside_at, member_at, code_at}
+use Rattle.tal_syntax.specs.Forms.{any_line_at, outside_at, member_at, function_line_at}
 use Rattle.tal_syntax.specs.Grammar.{form_says}
-use Rattle.tal_syntax.specs.Text.{LineFault, passed, whole, taken_or_long, no_token, line_at, after_line, is_outside, numbered, line_fault, is_last, fault, text_end, behind_line, read_lines, text_at, GivesText}
+use Rattle.tal_syntax.specs.Text.{LineFault, passed, whole, taken_or_long, no_token, line_at, after_line, is_outside, numbered_line, line_fault, is_last, fault, text_end, behind_line, read_lines, text_at, GivesText}
 use Rattle.tal_syntax.specs.Modules.{LineOf, LinesOf, TextOf, NoModule}
 use Rattle.std.specs.Prelude.{IfOk}
 use Rattle.tal_syntax.specs.declared.fault.TextFault.{TextFault}
@@ -26,21 +26,21 @@ use Rattle.tal_syntax.proofs.TextSteps.{some_lines}
 
 -- ---- any line
 
-pub Lawful-form : (scope : Scope) → Lawful (form_at scope) (form_says scope)
-unfolding form_at
+pub Lawful-form : (scope : Scope) → Lawful (any_line_at scope) (form_says scope)
+unfolding any_line_at
 Lawful-form Outside = Lawful-outside
 Lawful-form InClass = Lawful-member
 Lawful-form InFunc = Lawful-code
 
 -- no form begins with the line's end
-end_refused : (scope : Scope) (ts : List Lexeme) → form_at scope (EndOfLine ∷ ts) ≡ Err (EndOfLine ∷ ts)
-unfolding form_at outside_at member_at code_at
+end_refused : (scope : Scope) (ts : List Lexeme) → any_line_at scope (EndOfLine ∷ ts) ≡ Err (EndOfLine ∷ ts)
+unfolding any_line_at outside_at member_at function_line_at
 end_refused Outside ts = refl
 end_refused InClass ts = refl
 end_refused InFunc ts = refl
 
 -- a form that is read has all tokens of a line
-all_read : (scope : Scope) (f : Form) (ts rest : List Lexeme) → EndsOnce ts → form_at scope ts ≡ Ok (f, rest) → (rest ≡ []) × form_says scope f ts
+all_read : (scope : Scope) (f : Form) (ts rest : List Lexeme) → EndsOnce ts → any_line_at scope ts ≡ Ok (f, rest) → (rest ≡ []) × form_says scope f ts
 all_read scope f ts rest once e =
     let took = (Lawful-form scope).took ts f rest e in
     let ends = form_ends scope f took.front took.says in
@@ -48,8 +48,8 @@ all_read scope f ts rest once e =
     (none, subst (λ (l : List Lexeme). form_says scope f l) (sym (took.parts ∙ ap (λ (l : List Lexeme). took.front ++ l) none ∙ append-nil took.front)) took.says)
 
 -- and a sentence is read to its end
-all_said : (scope : Scope) (f : Form) (ts : List Lexeme) → form_says scope f ts → form_at scope ts ≡ Ok (f, [])
-all_said scope f ts s = ap (form_at scope) (sym (append-nil ts)) ∙ (Lawful-form scope).again f ts [] s
+all_said : (scope : Scope) (f : Form) (ts : List Lexeme) → form_says scope f ts → any_line_at scope ts ≡ Ok (f, [])
+all_said scope f ts s = ap (any_line_at scope) (sym (append-nil ts)) ∙ (Lawful-form scope).again f ts [] s
 
 -- ---- a line
 
@@ -74,7 +74,7 @@ taken_is None f found e = (refl, cc)
 taken_is (Some c) f found e = absurd cc
 
 -- a form that is read is that of the line,
-form_line : (scope : Scope) (items : List PlacedLexeme) (x : Form × List Lexeme) (o : Option Form) → EndsOnce (lexemes_of items) → form_at scope (lexemes_of items) ≡ Ok x → whole items (Ok x) ≡ Ok o → LineOf scope items o
+form_line : (scope : Scope) (items : List PlacedLexeme) (x : Form × List Lexeme) (o : Option Form) → EndsOnce (lexemes_of items) → any_line_at scope (lexemes_of items) ≡ Ok x → whole items (Ok x) ≡ Ok o → LineOf scope items o
 form_line scope items x o once e h =
     let all = all_read scope x.0 (lexemes_of items) x.1 once e in
     let same : passed items x.1 ≡ items = ap (passed items) all.0 ∙ passed_all items in
@@ -82,7 +82,7 @@ form_line scope items x o once e h =
     subst (λ (p : Option Form). LineOf scope items p) (sym k.1) (all.1, no_long items (ap long_name (sym same) ∙ k.0))
 
 -- whatever was read
-read_line : (scope : Scope) (items : List PlacedLexeme) (r : Result (Form × List Lexeme) (List Lexeme)) (o : Option Form) → EndsOnce (lexemes_of items) → form_at scope (lexemes_of items) ≡ r → whole items r ≡ Ok o → LineOf scope items o
+read_line : (scope : Scope) (items : List PlacedLexeme) (r : Result (Form × List Lexeme) (List Lexeme)) (o : Option Form) → EndsOnce (lexemes_of items) → any_line_at scope (lexemes_of items) ≡ r → whole items r ≡ Ok o → LineOf scope items o
 read_line scope items (Ok x) o once e h = form_line scope items x o once e h
 read_line scope items (Err left) o once e h = absurd cc
 
@@ -93,11 +93,11 @@ empty_is (EndOfLine ∷ ts) e once = ap (λ (l : List Lexeme). EndOfLine ∷ l) 
 empty_is (t ∷ ts) e once = absurd cc
 
 -- a line is empty or has a form
-line_case : (scope : Scope) (items : List PlacedLexeme) (o : Option Form) (r : Bool) → no_token (lexemes_of items) ≡ r → EndsOnce (lexemes_of items) → cond r (Ok None) (whole items (form_at scope (lexemes_of items))) ≡ Ok o → LineOf scope items o
+line_case : (scope : Scope) (items : List PlacedLexeme) (o : Option Form) (r : Bool) → no_token (lexemes_of items) ≡ r → EndsOnce (lexemes_of items) → cond r (Ok None) (whole items (any_line_at scope (lexemes_of items))) ≡ Ok o → LineOf scope items o
 line_case scope items o true e once h =
     let same : None ≡ o = cc in
     subst (λ (p : Option Form). LineOf scope items p) same (empty_is (lexemes_of items) e once)
-line_case scope items o false e once h = read_line scope items (form_at scope (lexemes_of items)) o once refl h
+line_case scope items o false e once h = read_line scope items (any_line_at scope (lexemes_of items)) o once refl h
 
 -- what is read of a line is what its tokens say
 pub line_is : (scope : Scope) (bytes : List ℕ) (o : Option Form) → line_at scope (line_tokens bytes) ≡ Ok o → LineOf scope (line_tokens bytes) o
@@ -117,7 +117,7 @@ line_said scope items None s = rw s refl
 line_said scope items (Some f) s =
     let e = some_token scope f (lexemes_of items) s.0 in
     let long : long_name (passed items []) ≡ None = ap long_name (passed_all items) ∙ none_long items s.1 in
-    ap (λ (r : Bool). cond r (Ok None) (whole items (form_at scope (lexemes_of items)))) e ∙ ap (whole items) (all_said scope f (lexemes_of items) s.0) ∙ ap (λ (c : Option ℕ). taken_or_long c f) long
+    ap (λ (r : Bool). cond r (Ok None) (whole items (any_line_at scope (lexemes_of items)))) e ∙ ap (whole items) (all_said scope f (lexemes_of items) s.0) ∙ ap (λ (c : Option ℕ). taken_or_long c f) long
 
 -- ---- a text
 
@@ -137,7 +137,7 @@ tail_at n scope l o [] = text_end n (after_line scope o) l
 tail_at n scope l o (m ∷ ms) = read_lines (n + 1) (after_line scope o) (m ∷ ms)
 
 -- a line with a form, and the lines behind it
-line_then : (n : ℕ) (scope : Scope) (l : List ℕ) (ls : List (List ℕ)) (o : Option Form) → line_at scope (line_tokens l) ≡ Ok o → read_lines n scope (l ∷ ls) ≡ behind_line (numbered n o) (tail_at n scope l o ls)
+line_then : (n : ℕ) (scope : Scope) (l : List ℕ) (ls : List (List ℕ)) (o : Option Form) → line_at scope (line_tokens l) ≡ Ok o → read_lines n scope (l ∷ ls) ≡ behind_line (numbered_line n o) (tail_at n scope l o ls)
 unfolding read_lines
 line_then n scope l [] o e = rw (e, read_lines) refl
 line_then n scope l (m ∷ ms) o e = rw (e, read_lines) refl
@@ -152,7 +152,7 @@ step_is : (n : ℕ) (scope : Scope) (l : List ℕ) (ls : List (List ℕ)) (found
     → ((o : Option Form) (more : List TextLine) → tail_at n scope l o ls ≡ Ok more → LinesOf (n + 1) (after_line scope o) ls more) → LinesOf n scope (l ∷ ls) found
 step_is n scope l ls found (Err f) e h next = absurd (let k = sym (line_fails n scope l ls f e) ∙ h in cc)
 step_is n scope l ls found (Ok o) e h next =
-    let b = behind_is (numbered n o) found (tail_at n scope l o ls) (sym (line_then n scope l ls o e) ∙ h) in
+    let b = behind_is (numbered_line n o) found (tail_at n scope l o ls) (sym (line_then n scope l ls o e) ∙ h) in
     (o, b.0, line_is scope l o e, b.2, next o b.0 b.1)
 
 -- and so all lines
@@ -161,9 +161,9 @@ read_is [] n scope l found e = step_is n scope l [] found (line_at scope (line_t
 read_is (m ∷ ms) n scope l found e = step_is n scope l (m ∷ ms) found (line_at scope (line_tokens l)) refl e (λ o more h. read_is ms (n + 1) (after_line scope o) m more h)
 
 -- a line that is said is read,
-step_said : (n : ℕ) (scope : Scope) (l : List ℕ) (ls : List (List ℕ)) (found : List TextLine) (o : Option Form) (more : List TextLine) → LineOf scope (line_tokens l) o → found ≡ numbered n o ++ more → tail_at n scope l o ls ≡ Ok more → read_lines n scope (l ∷ ls) ≡ Ok found
+step_said : (n : ℕ) (scope : Scope) (l : List ℕ) (ls : List (List ℕ)) (found : List TextLine) (o : Option Form) (more : List TextLine) → LineOf scope (line_tokens l) o → found ≡ numbered_line n o ++ more → tail_at n scope l o ls ≡ Ok more → read_lines n scope (l ∷ ls) ≡ Ok found
 step_said n scope l ls found o more line parts next =
-    line_then n scope l ls o (line_said scope (line_tokens l) o line) ∙ ap (λ (r : Result (List TextLine) TextFault). behind_line (numbered n o) r) next ∙ ap (λ (ts : List TextLine). Ok ts) (sym parts)
+    line_then n scope l ls o (line_said scope (line_tokens l) o line) ∙ ap (λ (r : Result (List TextLine) TextFault). behind_line (numbered_line n o) r) next ∙ ap (λ (ts : List TextLine). Ok ts) (sym parts)
 
 -- and so are all
 said_is : (ls : List (List ℕ)) (n : ℕ) (scope : Scope) (l : List ℕ) (found : List TextLine) → LinesOf n scope (l ∷ ls) found → read_lines n scope (l ∷ ls) ≡ Ok found

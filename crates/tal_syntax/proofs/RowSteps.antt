@@ -5,7 +5,7 @@ use Rattle.std.proofs.lemmas.Bool.{eqb-true}
 use Rattle.std.proofs.lemmas.Bool.Decides.{nat_tests}
 use lib.Dec.{eqb}
 use Rattle.text_tokens.specs.Token.{Lexeme, Mark}
-use Rattle.tal_syntax.specs.Reading.{Read, ◌>>=◌, Gives, GivesVia, pure, both, reads, cons, if_mark, mark_at, more_at}
+use Rattle.tal_syntax.specs.Reading.{Read, ◌>>=◌, GivesSame, GivesVia, pure, both, reads, cons, if_mark, mark_at, more_at}
 use Rattle.tal_syntax.specs.declared.tokens_read.Stop.{Stop}
 use Rattle.tal_syntax.specs.declared.tokens_read.Stop.TheVariants.{Refused, Memory}
 
@@ -19,7 +19,7 @@ regroup {A} front x (Ok y) = ap (λ (l : List A). Ok (l, y.1)) (sym (append_asso
 regroup front x (Err e) = refl
 
 -- an error of a part is one of the whole
-pub err_via : {X A B : Type 0} (view : A → B) (e : Stop) (part : Result (X × List Lexeme) (List Lexeme)) (total : Result (B × List Lexeme) (List Lexeme)) (left : List Lexeme) → Gives {A = X} (Err e) part left → (part ≡ Err left → total ≡ Err left) → GivesVia view (Err e) total left
+pub err_via : {X A B : Type 0} (view : A → B) (e : Stop) (part : Result (X × List Lexeme) (List Lexeme)) (total : Result (B × List Lexeme) (List Lexeme)) (left : List Lexeme) → GivesSame {A = X} (Err e) part left → (part ≡ Err left → total ≡ Err left) → GivesVia view (Err e) total left
 err_via view Refused part total left h f = f h
 err_via view Memory part total left h f = tt
 

@@ -10,13 +10,13 @@ use Rattle.text_tokens.specs.Token.{Lexeme, Key, Register, Number, Mark}
 use Rattle.text_tokens.specs.declared.token.Keyword.TheVariants as key
 use Rattle.tal_syntax.specs.declared.form.Term.{Term}
 use Rattle.tal_syntax.specs.declared.form.Term.TheVariants as term
-use Rattle.tal_syntax.specs.Grammar.{name, number, factor_says, term_says, Negative, signed_says, terms_says}
+use Rattle.tal_syntax.specs.Grammar.{name, number_lexeme, factor_says, term_says, Negative, signed_says, terms_says}
 use Rattle.tal_syntax.specs.Reading.{Read, pure, both, reads, cons, is_mark, if_mark, number_at, more_at, most, some_rows}
 use Rattle.tal_syntax.specs.Operands.{factor, of_factor, factor_at, register_at, term_of, term_at, negated, signed_of, signed_at, terms_at}
 use Rattle.tal_syntax.proofs.Lawful.{Lawful, Lives, Made, Both, Nothing, nothing, Lawful-done, Lawful-both, Lawful-reads, Lawful-same}
 use Rattle.tal_syntax.proofs.LawfulChoices.{Chosen, Lawful-one, led, lead}
 use Rattle.tal_syntax.proofs.LawfulFollowed.{Lawful-as, Lawful-choose_then, both_mark}
-use Rattle.tal_syntax.proofs.TokenLaws.{Lawful-name, Lawful-number, some_is}
+use Rattle.tal_syntax.proofs.TokenLaws.{Lawful-name, Lawful-number_lexeme, some_is}
 use Rattle.tal_syntax.proofs.ListLaws.{Starts, Unless, More, Lawful-unless, Lawful-more}
 
 -- ---- factors
@@ -103,7 +103,7 @@ signed_back x ts (inr s) = record { token = Mark 45; back = s.back; parts = lead
 
 -- the negative of a number is read exactly
 Lawful-negative : Lawful (reads negated number_at) Negative
-Lawful-negative = Lawful-same (reads negated number_at) (Made negated number) Negative (Lawful-reads negated Lawful-number) (λ x ts s. record { written = s.of; value = s.value; says = s.says }) (λ x ts s. record { of = s.written; value = s.value; says = s.says })
+Lawful-negative = Lawful-same (reads negated number_at) (Made negated number_lexeme) Negative (Lawful-reads negated Lawful-number_lexeme) (λ x ts s. record { written = s.of; value = s.value; says = s.says }) (λ x ts s. record { of = s.written; value = s.value; says = s.says })
 
 -- one sign is not the other
 plus_alone : (b : ℕ) (x : Term) (ts : List Lexeme) → eqb b 43 ≡ true → SignRest b x ts → term_says x ts

@@ -4,8 +4,8 @@ use Rattle.std.proofs.lemmas.Bool.{eqb-true}
 use Rattle.std.proofs.lemmas.Bool.Decides.{nat_tests}
 use lib.Dec.{eqb}
 use Rattle.text_tokens.specs.Token.{Lexeme, Name, Number, Mark, EndOfLine}
-use Rattle.tal_syntax.specs.Grammar.{mark, name, number, line_end}
-use Rattle.tal_syntax.specs.Reading.{mark_at, of_mark, name_at, of_name, end_at, of_end, number_at, of_number}
+use Rattle.tal_syntax.specs.Grammar.{mark, name, number_lexeme, end_lexeme}
+use Rattle.tal_syntax.specs.Reading.{mark_at, of_mark, name_at, of_name, line_end_at, of_end, number_at, of_number}
 use Rattle.tal_syntax.proofs.Lawful.{Lawful}
 use Rattle.tal_syntax.proofs.LawfulChoices.{Lawful-one}
 
@@ -24,13 +24,13 @@ Lawful-name = Lawful-one of_name name name_there (λ x ts s. (Name x, s, refl)) 
 
 -- ---- numbers
 
-number_there : (x : ℤ) (t : Lexeme) → of_number t ≡ Some x → number x (t ∷ [])
+number_there : (x : ℤ) (t : Lexeme) → of_number t ≡ Some x → number_lexeme x (t ∷ [])
 number_there x (Number n) e = ap (λ (m : ℤ). Number m ∷ []) (some_is n x e)
 number_there x t e = absurd cc
 
-pub Lawful-number : Lawful number_at number
+pub Lawful-number_lexeme : Lawful number_at number_lexeme
 unfolding number_at
-Lawful-number = Lawful-one of_number number number_there (λ x ts s. (Number x, s, refl)) (record { value = pos 0; text = Number (pos 0) ∷ []; says = refl })
+Lawful-number_lexeme = Lawful-one of_number number_lexeme number_there (λ x ts s. (Number x, s, refl)) (record { value = pos 0; text = Number (pos 0) ∷ []; says = refl })
 
 -- ---- marks
 
@@ -60,12 +60,12 @@ Lawful-mark m = Lawful-one (of_mark m) (marked m) (mark_there m) (λ x ts s. (Ma
 
 -- the sentence of the line's end
 abbrev pub ended : Unit {0} → List Lexeme → Type 0
-ended u = line_end
+ended u = end_lexeme
 
 end_there : (x : Unit {0}) (t : Lexeme) → of_end t ≡ Some x → ended x (t ∷ [])
 end_there x EndOfLine e = refl
 end_there x t e = absurd cc
 
-pub Lawful-end : Lawful end_at ended
-unfolding end_at
+pub Lawful-end : Lawful line_end_at ended
+unfolding line_end_at
 Lawful-end = Lawful-one of_end ended end_there (λ x ts s. (EndOfLine, s, refl)) (record { value = tt; text = EndOfLine ∷ []; says = refl })

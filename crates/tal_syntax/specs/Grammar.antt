@@ -33,11 +33,11 @@ mark m = token (Mark m)
 abbrev pub name : List ℕ → List Lexeme → Type 0
 name n = token (Name n)
 
-abbrev pub number : ℤ → List Lexeme → Type 0
-number n = token (Number n)
+abbrev pub number_lexeme : ℤ → List Lexeme → Type 0
+number_lexeme n = token (Number n)
 
-abbrev pub line_end : List Lexeme → Type 0
-line_end = token EndOfLine
+abbrev pub end_lexeme : List Lexeme → Type 0
+end_lexeme = token EndOfLine
 
 -- ---- types
 
@@ -86,34 +86,34 @@ external false L = L
 
 -- the numbers of a data array, where they are given
 abbrev pub numbers_says : Option (List ℤ) → List Lexeme → Type 0
-numbers_says None = line_end
-numbers_says (Some ns) = mark 123 ⊕ list_says 125 number ns ⊕ line_end
+numbers_says None = end_lexeme
+numbers_says (Some ns) = mark 123 ⊕ list_says 125 number_lexeme ns ⊕ end_lexeme
 
 -- the class below which a class is, where it is given
 abbrev pub parent_says : Option (List ℕ) → List Lexeme → Type 0
-parent_says None = line_end
-parent_says (Some p) = keyword key.Below ⊕ name p ⊕ line_end
+parent_says None = end_lexeme
+parent_says (Some p) = keyword key.Below ⊕ name p ⊕ end_lexeme
 
 abbrev pub outside_says : Form → List Lexeme → Type 0
-outside_says (form.Heap n) = keyword key.Heap ⊕ number n ⊕ line_end
-outside_says (form.Stacks n) = keyword key.Stacks ⊕ number n ⊕ line_end
-outside_says (form.Entry s f) = keyword key.Entry ⊕ number s ⊕ name f ⊕ line_end
-outside_says (form.Sig ext n rs t) = external ext (keyword key.Sig ⊕ name n ⊕ mark 40 ⊕ list_says 41 reg_type_says rs ⊕ type_says t ⊕ line_end)
-outside_says (form.Kind ext n t) = external ext (keyword key.Kind ⊕ name n ⊕ type_says t ⊕ line_end)
-outside_says (form.Static ext n t) = external ext (keyword key.Static ⊕ name n ⊕ type_says t ⊕ line_end)
-outside_says (form.DataArray false n k l ns) = keyword key.Data ⊕ name n ⊕ name k ⊕ number l ⊕ numbers_says ns
-outside_says (form.DataArray true n k l None) = keyword key.Extern ⊕ keyword key.Data ⊕ name n ⊕ name k ⊕ number l ⊕ line_end
+outside_says (form.Heap n) = keyword key.Heap ⊕ number_lexeme n ⊕ end_lexeme
+outside_says (form.Stacks n) = keyword key.Stacks ⊕ number_lexeme n ⊕ end_lexeme
+outside_says (form.Entry s f) = keyword key.Entry ⊕ number_lexeme s ⊕ name f ⊕ end_lexeme
+outside_says (form.Sig ext n rs t) = external ext (keyword key.Sig ⊕ name n ⊕ mark 40 ⊕ list_says 41 reg_type_says rs ⊕ type_says t ⊕ end_lexeme)
+outside_says (form.Kind ext n t) = external ext (keyword key.Kind ⊕ name n ⊕ type_says t ⊕ end_lexeme)
+outside_says (form.Static ext n t) = external ext (keyword key.Static ⊕ name n ⊕ type_says t ⊕ end_lexeme)
+outside_says (form.DataArray false n k l ns) = keyword key.Data ⊕ name n ⊕ name k ⊕ number_lexeme l ⊕ numbers_says ns
+outside_says (form.DataArray true n k l None) = keyword key.Extern ⊕ keyword key.Data ⊕ name n ⊕ name k ⊕ number_lexeme l ⊕ end_lexeme
 outside_says (form.DataArray true n k l (Some ns)) = λ ts. ⊥
 outside_says (form.Class ext n p) = external ext (keyword key.Class ⊕ name n ⊕ parent_says p)
-outside_says (form.Func ext n s) = external ext (keyword key.Func ⊕ name n ⊕ name s ⊕ line_end)
+outside_says (form.Func ext n s) = external ext (keyword key.Func ⊕ name n ⊕ name s ⊕ end_lexeme)
 outside_says _ = λ ts. ⊥
 
 -- ---- lines of a class
 
 abbrev pub member_says : Form → List Lexeme → Type 0
-member_says (form.Field n t) = keyword key.Field ⊕ name n ⊕ type_says t ⊕ line_end
-member_says (form.Method n s f) = keyword key.Method ⊕ name n ⊕ name s ⊕ name f ⊕ line_end
-member_says form.End = keyword key.End ⊕ line_end
+member_says (form.Field n t) = keyword key.Field ⊕ name n ⊕ type_says t ⊕ end_lexeme
+member_says (form.Method n s f) = keyword key.Method ⊕ name n ⊕ name s ⊕ name f ⊕ end_lexeme
+member_says form.End = keyword key.End ⊕ end_lexeme
 member_says _ = λ ts. ⊥
 
 -- ---- operands
@@ -125,7 +125,7 @@ factor_says k ts = token (Number (pos k)) ts × (factor (pos k) ≡ Some k)
 abbrev pub term_says : Term → List Lexeme → Type 0
 term_says (term.Register r) = token (Register r)
 term_says (term.Scaled r k) = token (Register r) ⊕ mark 42 ⊕ factor_says k
-term_says (term.Number n) = number n
+term_says (term.Number n) = number_lexeme n
 term_says (term.FieldByte c f) = keyword key.Field ⊕ name c ⊕ name f
 term_says (term.MethodByte c m) = keyword key.Method ⊕ name c ⊕ name m
 term_says (term.DisplayByte c) = keyword key.Display ⊕ name c
@@ -135,7 +135,7 @@ term_says (term.StaticAt n) = keyword key.Static ⊕ name n
 pub record Negative (x : Term) (ts : List Lexeme) : Type 0 where
   pub written : ℤ
   pub value : x ≡ negated written
-  pub says : number written ts
+  pub says : number_lexeme written ts
 
 -- a further term, with the sign before it
 abbrev pub signed_says : Term → List Lexeme → Type 0
@@ -148,7 +148,7 @@ terms_says (x ∷ xs) ts = (term_says x ⊕ more_says 93 signed_says xs) ts × (
 
 abbrev pub arg_says : Arg → List Lexeme → Type 0
 arg_says (arg.Register r) = token (Register r)
-arg_says (arg.Number n) = number n
+arg_says (arg.Number n) = number_lexeme n
 arg_says (arg.Null t) = keyword key.Null ⊕ type_says t
 arg_says (arg.Tab c) = keyword key.Tab ⊕ name c
 arg_says (arg.Desc k) = keyword key.Desc ⊕ name k
@@ -166,7 +166,7 @@ count_says x = arg_says x
 abbrev pub called_says : Arg → List Lexeme → Type 0
 called_says (arg.Register r) = token (Register r)
 called_says (arg.Target f) = name f
-called_says (arg.Nucleus n) = keyword key.Nucleus ⊕ number n
+called_says (arg.Nucleus n) = keyword key.Nucleus ⊕ number_lexeme n
 called_says (arg.Memory xs) = mark 91 ⊕ terms_says xs
 called_says _ = λ ts. ⊥
 
@@ -177,24 +177,24 @@ target_says _ = λ ts. ⊥
 
 -- one operand alone
 abbrev pub alone_says : (Arg → List Lexeme → Type 0) → List Arg → List Lexeme → Type 0
-alone_says says (x ∷ []) = says x ⊕ line_end
+alone_says says (x ∷ []) = says x ⊕ end_lexeme
 alone_says says _ = λ ts. ⊥
 
 -- two operands
 abbrev pub pair_says : (Arg → List Lexeme → Type 0) → List Arg → List Lexeme → Type 0
-pair_says says (x ∷ y ∷ []) = arg_says x ⊕ mark 44 ⊕ says y ⊕ line_end
+pair_says says (x ∷ y ∷ []) = arg_says x ⊕ mark 44 ⊕ says y ⊕ end_lexeme
 pair_says says _ = λ ts. ⊥
 
 -- one to three operands
 abbrev pub up_to_three_say : List Arg → List Lexeme → Type 0
-up_to_three_say (x ∷ []) = arg_says x ⊕ line_end
-up_to_three_say (x ∷ y ∷ []) = arg_says x ⊕ mark 44 ⊕ arg_says y ⊕ line_end
-up_to_three_say (x ∷ y ∷ z ∷ []) = arg_says x ⊕ mark 44 ⊕ arg_says y ⊕ mark 44 ⊕ arg_says z ⊕ line_end
+up_to_three_say (x ∷ []) = arg_says x ⊕ end_lexeme
+up_to_three_say (x ∷ y ∷ []) = arg_says x ⊕ mark 44 ⊕ arg_says y ⊕ end_lexeme
+up_to_three_say (x ∷ y ∷ z ∷ []) = arg_says x ⊕ mark 44 ⊕ arg_says y ⊕ mark 44 ⊕ arg_says z ⊕ end_lexeme
 up_to_three_say _ = λ ts. ⊥
 
 -- no operand
 abbrev pub none_says : List Arg → List Lexeme → Type 0
-none_says [] = line_end
+none_says [] = end_lexeme
 none_says _ = λ ts. ⊥
 
 -- the operands that stand behind a mnemonic
@@ -211,11 +211,11 @@ args_say operands.Target = alone_says target_says
 
 -- the slots of a label, where they are given
 abbrev pub slots_says : Option (List TypeText) → List Lexeme → Type 0
-slots_says None = line_end
-slots_says (Some ts) = mark 91 ⊕ list_says 93 type_says ts ⊕ line_end
+slots_says None = end_lexeme
+slots_says (Some ts) = mark 91 ⊕ list_says 93 type_says ts ⊕ end_lexeme
 
 abbrev pub code_says : Form → List Lexeme → Type 0
-code_says form.End = keyword key.End ⊕ line_end
+code_says form.End = keyword key.End ⊕ end_lexeme
 code_says (form.Label n rs slots) = name n ⊕ mark 58 ⊕ mark 40 ⊕ list_says 41 reg_type_says rs ⊕ slots_says slots
 code_says (form.Inst m xs) = token (Operation m) ⊕ args_say (operands_of m) xs
 code_says _ = λ ts. ⊥

@@ -5,7 +5,7 @@ use Rattle.text_tokens.specs.Lexing.{line_tokens}
 use Rattle.tal_syntax.specs.Faults.{NoLong}
 use Rattle.tal_syntax.specs.Grammar.{form_says}
 use Rattle.tal_syntax.specs.Lines.{lines}
-use Rattle.tal_syntax.specs.Text.{after_line, is_outside, numbered}
+use Rattle.tal_syntax.specs.Text.{after_line, is_outside, numbered_line}
 use Rattle.tal_syntax.specs.declared.fault.TextAnswer.{TextAnswer}
 use Rattle.tal_syntax.specs.declared.fault.TextAnswer.TheVariants as answer
 use Rattle.tal_syntax.specs.declared.form.Form.{Form}
@@ -21,7 +21,7 @@ LineOf scope items (Some f) = form_says scope f (lexemes_of items) × NoLong (le
 -- The lines from a number on are these, and at their end no class and no function is left open.
 abbrev pub LinesOf : ℕ → Scope → List (List ℕ) → List TextLine → Type 0
 LinesOf n scope [] found = (found ≡ []) × (is_outside scope ≡ true)
-LinesOf n scope (l ∷ ls) found = (o : Option Form) × (more : List TextLine) × LineOf scope (line_tokens l) o × (found ≡ numbered n o ++ more) × LinesOf (n + 1) (after_line scope o) ls more
+LinesOf n scope (l ∷ ls) found = (o : Option Form) × (more : List TextLine) × LineOf scope (line_tokens l) o × (found ≡ numbered_line n o ++ more) × LinesOf (n + 1) (after_line scope o) ls more
 
 -- The text is a module of these lines.
 abbrev pub TextOf : List ℕ → List TextLine → Type 0

@@ -19,7 +19,7 @@ use Rattle.tal_syntax.specs.declared.instructions.Operands.{Operands}
 use Rattle.tal_syntax.specs.declared.instructions.Operands.TheVariants as operands
 use Rattle.tal_syntax.specs.declared.instructions.Role.{Role}
 use Rattle.tal_syntax.specs.declared.instructions.Role.TheVariants as role
-use Rattle.tal_syntax.specs.Reading.{Read, pure, both, reads, choose, one_of, if_mark, name_at, number_at, end_at, cons, some_rows, comma_at}
+use Rattle.tal_syntax.specs.Reading.{Read, pure, both, reads, choose, one_of, if_mark, name_at, number_at, line_end_at, cons, some_rows, comma_at}
 use Rattle.tal_syntax.specs.Rows.{type_at}
 
 -- ---- terms of memory operands
@@ -166,15 +166,15 @@ operand_at role.Target = target_at
 
 -- an operand, and the line's end
 abbrev pub last_at : Read Arg → Read Arg
-last_at p = reads (λ x. x.0) (both p end_at)
+last_at p = reads (λ x. x.0) (both p line_end_at)
 
 -- one operand alone
 abbrev pub alone : Read Arg → Read (List Arg)
 alone p = reads (λ x. x ∷ []) (last_at p)
 
 -- two operands
-abbrev pub pair_at : Read Arg → Read (List Arg)
-pair_at second = reads (λ x. x.0 ∷ x.1 ∷ []) (both arg_at (comma_at (last_at second)))
+abbrev pub two_args_at : Read Arg → Read (List Arg)
+two_args_at second = reads (λ x. x.0 ∷ x.1 ∷ []) (both arg_at (comma_at (last_at second)))
 
 -- the third operand, or the line's end
 abbrev pub third_of : Lexeme → Option (Read (Option Arg))
@@ -200,14 +200,14 @@ up_to_three_at = reads cons (both arg_at second_at)
 
 -- the operands, and the line's end
 unfoldable pub args_at : Operands → Read (List Arg)
-args_at operands.Zero = reads (λ u. []) end_at
+args_at operands.Zero = reads (λ u. []) line_end_at
 args_at operands.One = alone (operand_at role.Any)
-args_at operands.Two = pair_at (operand_at role.Any)
+args_at operands.Two = two_args_at (operand_at role.Any)
 args_at operands.UpToThree = up_to_three_at
-args_at operands.Shifted = pair_at (operand_at role.Count)
+args_at operands.Shifted = two_args_at (operand_at role.Count)
 args_at operands.Called = alone (operand_at role.Called)
 args_at operands.Target = alone (operand_at role.Target)
 
 -- an instruction behind its mnemonic
-unfoldable pub inst_at : Mnemonic → Read Form
-inst_at m = reads (λ xs. form.Inst m xs) (args_at (operands_of m))
+unfoldable pub inst_line_at : Mnemonic → Read Form
+inst_line_at m = reads (λ xs. form.Inst m xs) (args_at (operands_of m))

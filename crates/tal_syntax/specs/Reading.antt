@@ -24,10 +24,10 @@ GivesVia view (Err Refused) read left = read ≡ Err left
 GivesVia view (Err Memory) read left = Unit {0}
 
 -- the same where the value is what the definition has
-abbrev pub Gives : {A : Type 0} → Result A Stop → Result (A × List Lexeme) (List Lexeme) → List Lexeme → Type 0
-Gives (Ok x) read left = read ≡ Ok (x, left)
-Gives (Err Refused) read left = read ≡ Err left
-Gives (Err Memory) read left = Unit {0}
+abbrev pub GivesSame : {A : Type 0} → Result A Stop → Result (A × List Lexeme) (List Lexeme) → List Lexeme → Type 0
+GivesSame (Ok x) read left = read ≡ Ok (x, left)
+GivesSame (Err Refused) read left = read ≡ Err left
+GivesSame (Err Memory) read left = Unit {0}
 
 -- a value, and no token
 abbrev pub pure : {A : Type 0} → A → Read A
@@ -92,8 +92,8 @@ abbrev pub of_end : Lexeme → Option (Unit {0})
 of_end EndOfLine = Some tt
 of_end _ = None
 
-unfoldable pub end_at : Read (Unit {0})
-end_at = one_of of_end
+unfoldable pub line_end_at : Read (Unit {0})
+line_end_at = one_of of_end
 
 -- a register that may have a type
 abbrev pub typed : Reg → Option Reg

@@ -2,7 +2,7 @@
 use Rattle.std.specs.Prelude.{◌≡◌, ℕ, ◌+◌, ◌-◌, List, [], ◌∷◌, ◌++◌, length, take, drop, Bool, true, false, ◌&&◌, not, Option, Some, None, Result, Ok, Err, if◌then◌else◌}
 use Rattle.text_tokens.specs.Token.{Lexeme, Bad, EndOfLine, PlacedLexeme, lexemes_of, column_of, long_name}
 use Rattle.text_tokens.specs.Lexing.{line_tokens}
-use Rattle.tal_syntax.specs.Forms.{form_at}
+use Rattle.tal_syntax.specs.Forms.{any_line_at}
 use Rattle.tal_syntax.specs.Lines.{lines}
 use Rattle.tal_syntax.specs.declared.form.Scope.{Scope}
 use Rattle.tal_syntax.specs.declared.form.Scope.TheVariants.{Outside, InClass, InFunc}
@@ -22,8 +22,8 @@ abbrev pub passed : List PlacedLexeme → List Lexeme → List PlacedLexeme
 passed line left = take (length line - length left) line
 
 -- the column of the first of the tokens that are left
-abbrev pub place : List PlacedLexeme → List Lexeme → ℕ
-place line left = column_of (drop (length line - length left) line)
+abbrev pub column_behind : List PlacedLexeme → List Lexeme → ℕ
+column_behind line left = column_of (drop (length line - length left) line)
 
 -- how a line fails: at a column with a code, or it is no whole form
 pub data LineFault : Type 0 where
@@ -38,7 +38,7 @@ code_of ts = 3
 abbrev pub refusal : List PlacedLexeme → List Lexeme → LineFault
 refusal items [] = Unfinished
 refusal items (EndOfLine ∷ ts) = Unfinished
-refusal items left = At (place items left) (code_of left)
+refusal items left = At (column_behind items left) (code_of left)
 
 abbrev pub refused_or_long : Option ℕ → LineFault → LineFault
 refused_or_long None fault = fault
@@ -59,7 +59,7 @@ no_token _ = false
 
 -- a line's form, or none where it is empty
 unfoldable pub line_at : Scope → List PlacedLexeme → Result (Option Form) LineFault
-line_at scope items = if no_token (lexemes_of items) then Ok None else whole items (form_at scope (lexemes_of items))
+line_at scope items = if no_token (lexemes_of items) then Ok None else whole items (any_line_at scope (lexemes_of items))
 
 -- what the code answers for a line
 abbrev pub GivesLine : Result (Option Form) LineStop → Result (Option Form) LineFault → Type 0
@@ -91,9 +91,9 @@ abbrev pub is_outside : Scope → Bool
 is_outside Outside = true
 is_outside _ = false
 
-abbrev pub numbered : ℕ → Option Form → List TextLine
-numbered n None = []
-numbered n (Some f) = record { number = n; form = f } ∷ []
+abbrev pub numbered_line : ℕ → Option Form → List TextLine
+numbered_line n None = []
+numbered_line n (Some f) = record { number = n; form = f } ∷ []
 
 abbrev pub fault : ℕ → ℕ → ℕ → TextFault
 fault line column code = record { line = line; column = column; code = code }
@@ -105,7 +105,7 @@ is_last _ = false
 -- A line that is no whole form is a fault at its first token, unless the text ends in it within a class or a function.
 abbrev pub line_fault : ℕ → Scope → List ℕ → Bool → LineFault → TextFault
 line_fault n scope l last (At column code) = fault n column code
-line_fault n scope l last Unfinished = if last && not (is_outside scope) then fault n (length l + 1) 5 else fault n (place (line_tokens l) (lexemes_of (line_tokens l))) 3
+line_fault n scope l last Unfinished = if last && not (is_outside scope) then fault n (length l + 1) 5 else fault n (column_behind (line_tokens l) (lexemes_of (line_tokens l))) 3
 
 -- the text ends after this line
 abbrev pub text_end : ℕ → Scope → List ℕ → Result (List TextLine) TextFault
@@ -120,7 +120,7 @@ unfoldable pub read_lines : ℕ → Scope → List (List ℕ) → Result (List T
 read_lines n scope [] = Ok []
 read_lines n scope (l ∷ ls) = elim (line_at scope (line_tokens l)) [
   | Err f ↦ Err (line_fault n scope l (is_last ls) f)
-  | Ok o ↦ behind_line (numbered n o) (elim ls [ [] ↦ text_end n (after_line scope o) l | m ∷ ms ↦ read_lines (n + 1) (after_line scope o) ls ])
+  | Ok o ↦ behind_line (numbered_line n o) (elim ls [ [] ↦ text_end n (after_line scope o) l | m ∷ ms ↦ read_lines (n + 1) (after_line scope o) ls ])
 ]
 
 abbrev pub text_at : List ℕ → Result (List TextLine) TextFault
@@ -139,7 +139,7 @@ GivesText (Err (answer.Fault f)) read = read ≡ Err f
 GivesText (Err answer.NoMemory) read = Unit {0}
 
 -- A line was taken: its form stands at the end, and the scope is that behind it.
-abbrev pub IsTaken : Result Scope TextAnswer → Result (Option Form) LineFault → ℕ → Scope → List ℕ → Bool → List TextLine → List TextLine → Type 0
-IsTaken (Ok b) read n scope l last old new = (o : Option Form) × (read ≡ Ok o) × (b ≡ after_line scope o) × (new ≡ old ++ numbered n o)
-IsTaken (Err (answer.Fault f)) read n scope l last old new = (g : LineFault) × (read ≡ Err g) × (f ≡ line_fault n scope l last g)
-IsTaken (Err answer.NoMemory) read n scope l last old new = Unit {0}
+abbrev pub IsLineTaken : Result Scope TextAnswer → Result (Option Form) LineFault → ℕ → Scope → List ℕ → Bool → List TextLine → List TextLine → Type 0
+IsLineTaken (Ok b) read n scope l last old new = (o : Option Form) × (read ≡ Ok o) × (b ≡ after_line scope o) × (new ≡ old ++ numbered_line n o)
+IsLineTaken (Err (answer.Fault f)) read n scope l last old new = (g : LineFault) × (read ≡ Err g) × (f ≡ line_fault n scope l last g)
+IsLineTaken (Err answer.NoMemory) read n scope l last old new = Unit {0}

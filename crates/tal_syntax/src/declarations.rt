@@ -1,6 +1,6 @@
 // Reading lines outside classes and functions.
 ghost use Rattle.std.specs.Prelude.{◌≡◌};
-ghost use Rattle.tal_syntax.specs.Reading.{Gives};
+ghost use Rattle.tal_syntax.specs.Reading.{GivesSame};
 ghost use Rattle.tal_syntax.specs.Forms.{heap_at, stacks_at, entry_at, sig_at, kind_at, static_at, numbers_at, data_at, outer_data_at, parent_at, class_at, func_at, extern_at, outside_at};
 
 use crate::form::Form;
@@ -15,7 +15,7 @@ use text_tokens::{Keyword, Token, Tokens};
 // The words of the heap, behind `heap`.
 #[tactic(auto, unfolding(crate::specs::Forms::heap_at))]
 fn heap(tokens: &mut Tokens<'_>) -> Result<Form, Stop>
-    ensures gives { Gives result (heap_at tokens.old.left) tokens.new.left }
+    ensures gives { GivesSame result (heap_at tokens.old.left) tokens.new.left }
     ensures line { tokens.new.line ≡ tokens.old.line }
 {
     let words = number(tokens)?;
@@ -26,7 +26,7 @@ fn heap(tokens: &mut Tokens<'_>) -> Result<Form, Stop>
 // The number of stacks, behind `stacks`.
 #[tactic(auto, unfolding(crate::specs::Forms::stacks_at))]
 fn stacks(tokens: &mut Tokens<'_>) -> Result<Form, Stop>
-    ensures gives { Gives result (stacks_at tokens.old.left) tokens.new.left }
+    ensures gives { GivesSame result (stacks_at tokens.old.left) tokens.new.left }
     ensures line { tokens.new.line ≡ tokens.old.line }
 {
     let stacks = number(tokens)?;
@@ -37,7 +37,7 @@ fn stacks(tokens: &mut Tokens<'_>) -> Result<Form, Stop>
 // A stack and the function that it begins with, behind `entry`.
 #[tactic(auto, unfolding(crate::specs::Forms::entry_at))]
 fn entry(alloc: Global, tokens: &mut Tokens<'_>) -> Result<Form, Stop>
-    ensures gives { Gives result (entry_at tokens.old.left) tokens.new.left }
+    ensures gives { GivesSame result (entry_at tokens.old.left) tokens.new.left }
     ensures line { tokens.new.line ≡ tokens.old.line }
 {
     let stack = number(tokens)?;
@@ -49,7 +49,7 @@ fn entry(alloc: Global, tokens: &mut Tokens<'_>) -> Result<Form, Stop>
 // A signature, behind `sig`.
 #[tactic(auto, unfolding(crate::specs::Forms::sig_at))]
 fn sig(alloc: Global, tokens: &mut Tokens<'_>, ext: bool) -> Result<Form, Stop>
-    ensures gives { Gives result (sig_at ext tokens.old.left) tokens.new.left }
+    ensures gives { GivesSame result (sig_at ext tokens.old.left) tokens.new.left }
     ensures line { tokens.new.line ≡ tokens.old.line }
 {
     let name = name(alloc, tokens)?;
@@ -68,7 +68,7 @@ fn sig(alloc: Global, tokens: &mut Tokens<'_>, ext: bool) -> Result<Form, Stop>
 // A kind of array, behind `kind`.
 #[tactic(auto, unfolding(crate::specs::Forms::kind_at))]
 fn kind(alloc: Global, tokens: &mut Tokens<'_>, ext: bool) -> Result<Form, Stop>
-    ensures gives { Gives result (kind_at ext tokens.old.left) tokens.new.left }
+    ensures gives { GivesSame result (kind_at ext tokens.old.left) tokens.new.left }
     ensures line { tokens.new.line ≡ tokens.old.line }
 {
     let name = name(alloc, tokens)?;
@@ -80,7 +80,7 @@ fn kind(alloc: Global, tokens: &mut Tokens<'_>, ext: bool) -> Result<Form, Stop>
 // A static, behind `static`.
 #[tactic(auto, unfolding(crate::specs::Forms::static_at))]
 fn static_word(alloc: Global, tokens: &mut Tokens<'_>, ext: bool) -> Result<Form, Stop>
-    ensures gives { Gives result (static_at ext tokens.old.left) tokens.new.left }
+    ensures gives { GivesSame result (static_at ext tokens.old.left) tokens.new.left }
     ensures line { tokens.new.line ≡ tokens.old.line }
 {
     let name = name(alloc, tokens)?;
@@ -92,7 +92,7 @@ fn static_word(alloc: Global, tokens: &mut Tokens<'_>, ext: bool) -> Result<Form
 // The numbers of a data array, where they are given, and the line's end.
 #[tactic(auto, unfolding(crate::specs::Forms::numbers_at))]
 fn data_numbers(alloc: Global, tokens: &mut Tokens<'_>) -> Result<Option<NumberList>, Stop>
-    ensures gives { Gives result (numbers_at tokens.old.left) tokens.new.left }
+    ensures gives { GivesSame result (numbers_at tokens.old.left) tokens.new.left }
     ensures line { tokens.new.line ≡ tokens.old.line }
 {
     match tokens.peek() {
@@ -113,7 +113,7 @@ fn data_numbers(alloc: Global, tokens: &mut Tokens<'_>) -> Result<Option<NumberL
 // A data array, behind `data`.
 #[tactic(auto, unfolding(crate::specs::Forms::data_at))]
 fn data(alloc: Global, tokens: &mut Tokens<'_>) -> Result<Form, Stop>
-    ensures gives { Gives result (data_at tokens.old.left) tokens.new.left }
+    ensures gives { GivesSame result (data_at tokens.old.left) tokens.new.left }
     ensures line { tokens.new.line ≡ tokens.old.line }
 {
     let array = name(alloc, tokens)?;
@@ -132,7 +132,7 @@ fn data(alloc: Global, tokens: &mut Tokens<'_>) -> Result<Form, Stop>
 // A data array of another unit, behind `extern data`.
 #[tactic(auto, unfolding(crate::specs::Forms::outer_data_at))]
 fn outer_data(alloc: Global, tokens: &mut Tokens<'_>) -> Result<Form, Stop>
-    ensures gives { Gives result (outer_data_at tokens.old.left) tokens.new.left }
+    ensures gives { GivesSame result (outer_data_at tokens.old.left) tokens.new.left }
     ensures line { tokens.new.line ≡ tokens.old.line }
 {
     let array = name(alloc, tokens)?;
@@ -151,7 +151,7 @@ fn outer_data(alloc: Global, tokens: &mut Tokens<'_>) -> Result<Form, Stop>
 // The class below which a class is, where it is given, and the line's end.
 #[tactic(auto, unfolding(crate::specs::Forms::parent_at))]
 fn parent(alloc: Global, tokens: &mut Tokens<'_>) -> Result<Option<Name>, Stop>
-    ensures gives { Gives result (parent_at tokens.old.left) tokens.new.left }
+    ensures gives { GivesSame result (parent_at tokens.old.left) tokens.new.left }
     ensures line { tokens.new.line ≡ tokens.old.line }
 {
     match tokens.peek() {
@@ -172,7 +172,7 @@ fn parent(alloc: Global, tokens: &mut Tokens<'_>) -> Result<Option<Name>, Stop>
 // A class, behind `class`.
 #[tactic(auto, unfolding(crate::specs::Forms::class_at))]
 fn class(alloc: Global, tokens: &mut Tokens<'_>, ext: bool) -> Result<Form, Stop>
-    ensures gives { Gives result (class_at ext tokens.old.left) tokens.new.left }
+    ensures gives { GivesSame result (class_at ext tokens.old.left) tokens.new.left }
     ensures line { tokens.new.line ≡ tokens.old.line }
 {
     let name = name(alloc, tokens)?;
@@ -183,7 +183,7 @@ fn class(alloc: Global, tokens: &mut Tokens<'_>, ext: bool) -> Result<Form, Stop
 // A function, behind `func`.
 #[tactic(auto, unfolding(crate::specs::Forms::func_at))]
 fn func(alloc: Global, tokens: &mut Tokens<'_>, ext: bool) -> Result<Form, Stop>
-    ensures gives { Gives result (func_at ext tokens.old.left) tokens.new.left }
+    ensures gives { GivesSame result (func_at ext tokens.old.left) tokens.new.left }
     ensures line { tokens.new.line ≡ tokens.old.line }
 {
     let func = name(alloc, tokens)?;
@@ -199,7 +199,7 @@ fn func(alloc: Global, tokens: &mut Tokens<'_>, ext: bool) -> Result<Form, Stop>
 // What stands behind `extern`.
 #[tactic(auto, unfolding(crate::specs::Forms::extern_at))]
 fn outer(alloc: Global, tokens: &mut Tokens<'_>) -> Result<Form, Stop>
-    ensures gives { Gives result (extern_at tokens.old.left) tokens.new.left }
+    ensures gives { GivesSame result (extern_at tokens.old.left) tokens.new.left }
     ensures line { tokens.new.line ≡ tokens.old.line }
 {
     let Some(Token::Key(keyword)) = tokens.peek() else {
@@ -237,7 +237,7 @@ fn outer(alloc: Global, tokens: &mut Tokens<'_>) -> Result<Form, Stop>
 /// A line outside classes and functions.
 #[tactic(auto, unfolding(crate::specs::Forms::outside_at))]
 pub fn declaration(alloc: Global, tokens: &mut Tokens<'_>) -> Result<Form, Stop>
-    ensures gives { Gives result (outside_at tokens.old.left) tokens.new.left }
+    ensures gives { GivesSame result (outside_at tokens.old.left) tokens.new.left }
     ensures line { tokens.new.line ≡ tokens.old.line }
 {
     let Some(Token::Key(keyword)) = tokens.peek() else {

@@ -1,7 +1,7 @@
 // Reading the lines of classes and functions, and any line.
 ghost use Rattle.std.specs.Prelude.{◌≡◌};
-ghost use Rattle.tal_syntax.specs.Reading.{Gives};
-ghost use Rattle.tal_syntax.specs.Forms.{field_at, method_at, block_end_at, member_at, slots_at, label_at, code_at, form_at};
+ghost use Rattle.tal_syntax.specs.Reading.{GivesSame};
+ghost use Rattle.tal_syntax.specs.Forms.{field_line_at, method_at, block_end_at, member_at, label_slots_at, label_at, function_line_at, any_line_at};
 
 use crate::declarations::declaration;
 use crate::form::{Form, Scope};
@@ -17,7 +17,7 @@ use text_tokens::{Keyword, Token, Tokens};
 // A field, behind `field`.
 #[tactic(auto, unfolding(crate::specs::Forms::field_at))]
 fn field(alloc: Global, tokens: &mut Tokens<'_>) -> Result<Form, Stop>
-    ensures gives { Gives result (field_at tokens.old.left) tokens.new.left }
+    ensures gives { GivesSame result (field_line_at tokens.old.left) tokens.new.left }
     ensures line { tokens.new.line ≡ tokens.old.line }
 {
     let name = name(alloc, tokens)?;
@@ -29,7 +29,7 @@ fn field(alloc: Global, tokens: &mut Tokens<'_>) -> Result<Form, Stop>
 // A method, behind `method`.
 #[tactic(auto, unfolding(crate::specs::Forms::method_at))]
 fn method(alloc: Global, tokens: &mut Tokens<'_>) -> Result<Form, Stop>
-    ensures gives { Gives result (method_at tokens.old.left) tokens.new.left }
+    ensures gives { GivesSame result (method_at tokens.old.left) tokens.new.left }
     ensures line { tokens.new.line ≡ tokens.old.line }
 {
     let method = name(alloc, tokens)?;
@@ -46,7 +46,7 @@ fn method(alloc: Global, tokens: &mut Tokens<'_>) -> Result<Form, Stop>
 // The end of a class or a function, behind `end`.
 #[tactic(auto, unfolding(crate::specs::Forms::block_end_at))]
 fn block_end(tokens: &mut Tokens<'_>) -> Result<Form, Stop>
-    ensures gives { Gives result (block_end_at tokens.old.left) tokens.new.left }
+    ensures gives { GivesSame result (block_end_at tokens.old.left) tokens.new.left }
     ensures line { tokens.new.line ≡ tokens.old.line }
 {
     line_end(tokens)?;
@@ -56,7 +56,7 @@ fn block_end(tokens: &mut Tokens<'_>) -> Result<Form, Stop>
 // A line of a class.
 #[tactic(auto, unfolding(crate::specs::Forms::member_at))]
 fn member(alloc: Global, tokens: &mut Tokens<'_>) -> Result<Form, Stop>
-    ensures gives { Gives result (member_at tokens.old.left) tokens.new.left }
+    ensures gives { GivesSame result (member_at tokens.old.left) tokens.new.left }
     ensures line { tokens.new.line ≡ tokens.old.line }
 {
     let Some(Token::Key(keyword)) = tokens.peek() else {
@@ -82,7 +82,7 @@ fn member(alloc: Global, tokens: &mut Tokens<'_>) -> Result<Form, Stop>
 // The slots of a label, where they are given, and the line's end.
 #[tactic(auto, unfolding(crate::specs::Forms::slots_at))]
 fn slots(alloc: Global, tokens: &mut Tokens<'_>) -> Result<Option<TypeTextList>, Stop>
-    ensures gives { Gives result (slots_at tokens.old.left) tokens.new.left }
+    ensures gives { GivesSame result (label_slots_at tokens.old.left) tokens.new.left }
     ensures line { tokens.new.line ≡ tokens.old.line }
 {
     match tokens.peek() {
@@ -103,7 +103,7 @@ fn slots(alloc: Global, tokens: &mut Tokens<'_>) -> Result<Option<TypeTextList>,
 // A label, behind its name.
 #[tactic(auto, unfolding(crate::specs::Forms::label_at))]
 fn label(alloc: Global, tokens: &mut Tokens<'_>, name: Name) -> Result<Form, Stop>
-    ensures gives { Gives result (label_at name tokens.old.left) tokens.new.left }
+    ensures gives { GivesSame result (label_at name tokens.old.left) tokens.new.left }
     ensures line { tokens.new.line ≡ tokens.old.line }
 {
     mark(tokens, b':')?;
@@ -116,7 +116,7 @@ fn label(alloc: Global, tokens: &mut Tokens<'_>, name: Name) -> Result<Form, Sto
 // A line of a function.
 #[tactic(auto, unfolding(crate::specs::Forms::code_at))]
 fn code(alloc: Global, tokens: &mut Tokens<'_>) -> Result<Form, Stop>
-    ensures gives { Gives result (code_at tokens.old.left) tokens.new.left }
+    ensures gives { GivesSame result (function_line_at tokens.old.left) tokens.new.left }
     ensures line { tokens.new.line ≡ tokens.old.line }
 {
     match tokens.peek() {
@@ -140,7 +140,7 @@ fn code(alloc: Global, tokens: &mut Tokens<'_>) -> Result<Form, Stop>
 /// A line that is not empty, where the lines before have begun a scope.
 #[tactic(auto, unfolding(crate::specs::Forms::form_at))]
 pub fn form(alloc: Global, tokens: &mut Tokens<'_>, scope: Scope) -> Result<Form, Stop>
-    ensures gives { Gives result (form_at scope tokens.old.left) tokens.new.left }
+    ensures gives { GivesSame result (any_line_at scope tokens.old.left) tokens.new.left }
     ensures line { tokens.new.line ≡ tokens.old.line }
 {
     match scope {

@@ -1,7 +1,7 @@
 // Reading instructions.
 ghost use Rattle.std.specs.Prelude.{◌≡◌};
-ghost use Rattle.tal_syntax.specs.Reading.{Gives, comma_at};
-ghost use Rattle.tal_syntax.specs.Operands.{operand_at, last_at, alone, pair_at, third_at, up_to_three_at, operands_of, args_at, inst_at};
+ghost use Rattle.tal_syntax.specs.Reading.{GivesSame, comma_at};
+ghost use Rattle.tal_syntax.specs.Operands.{operand_at, last_at, alone, two_args_at, third_at, up_to_three_at, operands_of, args_at, inst_line_at};
 
 use crate::form::{Arg, Form};
 use crate::lists::ArgList;
@@ -69,7 +69,7 @@ enum Role {
 
 // An operand.
 fn operand(alloc: Global, tokens: &mut Tokens<'_>, role: Role) -> Result<Arg, Stop>
-    ensures gives { Gives result (operand_at role tokens.old.left) tokens.new.left }
+    ensures gives { GivesSame result (operand_at role tokens.old.left) tokens.new.left }
     ensures line { tokens.new.line ≡ tokens.old.line }
 {
     match role {
@@ -82,7 +82,7 @@ fn operand(alloc: Global, tokens: &mut Tokens<'_>, role: Role) -> Result<Arg, St
 
 // An operand, and the line's end.
 fn last(alloc: Global, tokens: &mut Tokens<'_>, role: Role) -> Result<Arg, Stop>
-    ensures gives { Gives result (last_at (operand_at role) tokens.old.left) tokens.new.left }
+    ensures gives { GivesSame result (last_at (operand_at role) tokens.old.left) tokens.new.left }
     ensures line { tokens.new.line ≡ tokens.old.line }
 {
     let last = operand(alloc, tokens, role)?;
@@ -92,7 +92,7 @@ fn last(alloc: Global, tokens: &mut Tokens<'_>, role: Role) -> Result<Arg, Stop>
 
 // One operand alone.
 fn alone(alloc: Global, tokens: &mut Tokens<'_>, role: Role) -> Result<ArgList, Stop>
-    ensures gives { Gives result (alone (operand_at role) tokens.old.left) tokens.new.left }
+    ensures gives { GivesSame result (alone (operand_at role) tokens.old.left) tokens.new.left }
     ensures line { tokens.new.line ≡ tokens.old.line }
 {
     let mut args = ArgList::new(alloc);
@@ -103,7 +103,7 @@ fn alone(alloc: Global, tokens: &mut Tokens<'_>, role: Role) -> Result<ArgList, 
 // The last operand behind a comma.
 #[tactic(auto, unfolding(crate::specs::Reading::comma_at))]
 fn last_behind_comma(alloc: Global, tokens: &mut Tokens<'_>, role: Role) -> Result<Arg, Stop>
-    ensures gives { Gives result (comma_at (last_at (operand_at role)) tokens.old.left) tokens.new.left }
+    ensures gives { GivesSame result (comma_at (last_at (operand_at role)) tokens.old.left) tokens.new.left }
     ensures line { tokens.new.line ≡ tokens.old.line }
 {
     mark(tokens, b',')?;
@@ -112,7 +112,7 @@ fn last_behind_comma(alloc: Global, tokens: &mut Tokens<'_>, role: Role) -> Resu
 
 // Two operands.
 fn pair(alloc: Global, tokens: &mut Tokens<'_>, second: Role) -> Result<ArgList, Stop>
-    ensures gives { Gives result (pair_at (operand_at second) tokens.old.left) tokens.new.left }
+    ensures gives { GivesSame result (two_args_at (operand_at second) tokens.old.left) tokens.new.left }
     ensures line { tokens.new.line ≡ tokens.old.line }
 {
     let mut args = ArgList::new(alloc);
@@ -124,7 +124,7 @@ fn pair(alloc: Global, tokens: &mut Tokens<'_>, second: Role) -> Result<ArgList,
 // The third operand, or the line's end.
 #[tactic(auto, unfolding(crate::specs::Operands::third_at))]
 fn third(alloc: Global, tokens: &mut Tokens<'_>) -> Result<Option<Arg>, Stop>
-    ensures gives { Gives result (third_at tokens.old.left) tokens.new.left }
+    ensures gives { GivesSame result (third_at tokens.old.left) tokens.new.left }
     ensures line { tokens.new.line ≡ tokens.old.line }
 {
     match tokens.peek() {
@@ -143,7 +143,7 @@ fn third(alloc: Global, tokens: &mut Tokens<'_>) -> Result<Option<Arg>, Stop>
 // One to three operands.
 #[tactic(auto, unfolding(crate::specs::Operands::second_at))]
 fn up_to_three(alloc: Global, tokens: &mut Tokens<'_>) -> Result<ArgList, Stop>
-    ensures gives { Gives result (up_to_three_at tokens.old.left) tokens.new.left }
+    ensures gives { GivesSame result (up_to_three_at tokens.old.left) tokens.new.left }
     ensures line { tokens.new.line ≡ tokens.old.line }
 {
     let mut args = ArgList::new(alloc);
@@ -171,7 +171,7 @@ fn up_to_three(alloc: Global, tokens: &mut Tokens<'_>) -> Result<ArgList, Stop>
 // The operands of a mnemonic, and the line's end.
 #[tactic(auto, unfolding(crate::specs::Operands::args_at))]
 fn args(alloc: Global, tokens: &mut Tokens<'_>, operands: Operands) -> Result<ArgList, Stop>
-    ensures gives { Gives result (args_at operands tokens.old.left) tokens.new.left }
+    ensures gives { GivesSame result (args_at operands tokens.old.left) tokens.new.left }
     ensures line { tokens.new.line ≡ tokens.old.line }
 {
     match operands {
@@ -191,7 +191,7 @@ fn args(alloc: Global, tokens: &mut Tokens<'_>, operands: Operands) -> Result<Ar
 /// An instruction, behind its mnemonic.
 #[tactic(auto, unfolding(crate::specs::Operands::inst_at))]
 pub fn inst(alloc: Global, tokens: &mut Tokens<'_>, mnemonic: Mnemonic) -> Result<Form, Stop>
-    ensures gives { Gives result (inst_at mnemonic tokens.old.left) tokens.new.left }
+    ensures gives { GivesSame result (inst_line_at mnemonic tokens.old.left) tokens.new.left }
     ensures line { tokens.new.line ≡ tokens.old.line }
 {
     let args = args(alloc, tokens, operands_of(mnemonic))?;

@@ -2,7 +2,7 @@
 ghost use Rattle.std.specs.Prelude.{◌≡◌, ◌<◌, ◌^◌, length};
 ghost use Rattle.text_tokens.specs.Token.{lexemes_of, long_name};
 ghost use Rattle.text_tokens.specs.Lexing.{line_tokens};
-ghost use Rattle.tal_syntax.specs.Text.{passed, place, refusal, refused_or_long, IsRefusal, line_at, GivesLine};
+ghost use Rattle.tal_syntax.specs.Text.{passed, column_behind, refusal, refused_or_long, IsRefusal, line_at, GivesLine};
 
 use crate::form::{Form, Scope};
 use crate::forms::form;
@@ -21,7 +21,7 @@ pub enum LineStop {
 
 // The column of the next token.
 fn column(tokens: &Tokens<'_>) -> usize
-    ensures { result ≡ place tokens.now.line tokens.now.left }
+    ensures { result ≡ column_behind tokens.now.line tokens.now.left }
 {
     tokens.column()
 }
@@ -52,7 +52,7 @@ fn refused(tokens: &Tokens<'_>) -> LineStop
 /// The column of a line's first token, or of its end.
 pub fn first_column(line: &[u8]) -> usize
     requires { length line.now < 2 ^ 32 }
-    ensures { result ≡ place (line_tokens line.now) (lexemes_of (line_tokens line.now)) }
+    ensures { result ≡ column_behind (line_tokens line.now) (lexemes_of (line_tokens line.now)) }
 {
     let tokens = Tokens::of(line);
     column(&tokens)

@@ -3,7 +3,7 @@ ghost use Rattle.std.specs.Prelude.{◌≡◌, ◌<◌, ◌≤◌, ◌+◌, ◌-
 ghost use Rattle.text_tokens.specs.Lexing.{line_tokens};
 ghost use Rattle.tal_syntax.specs.Lines.{CutIs};
 ghost use Rattle.tal_syntax.specs.Modules.{NoModule, TextOf};
-ghost use Rattle.tal_syntax.specs.Text.{after, IsTaken, behind_line, text_end, IsFault, line_fault, GivesText, text_at, line_at};
+ghost use Rattle.tal_syntax.specs.Text.{after, IsLineTaken, behind_line, text_end, IsFault, line_fault, GivesText, text_at, line_at};
 
 use crate::fault::{TextAnswer, TextFault};
 use crate::form::{Form, Scope};
@@ -98,7 +98,7 @@ fn take_line(
 ) -> Result<Scope, TextAnswer>
     requires line { length line.now < 2 ^ 32 }
     requires number { number < 2 ^ 32 }
-    ensures { IsTaken result (line_at scope (line_tokens line.now)) number scope line.now is_last lines.old.items lines.new.items }
+    ensures { IsLineTaken result (line_at scope (line_tokens line.now)) number scope line.now is_last lines.old.items lines.new.items }
 {
     match read_line(alloc, line, scope) {
         Err(stop) => Err(fault_of(stop, number, scope, line, is_last)),

@@ -1,6 +1,6 @@
 // Reading operands.
 ghost use Rattle.std.specs.Prelude.{◌≡◌};
-ghost use Rattle.tal_syntax.specs.Reading.{Gives, choose, by_key};
+ghost use Rattle.tal_syntax.specs.Reading.{GivesSame, choose, by_key};
 ghost use Rattle.tal_syntax.specs.Operands.{factor, factor_at, register_at, two_names, term_key, term_at, signed_at, terms_at, arg_key, arg_at, count_at, called_at};
 
 use crate::form::{Arg, Term};
@@ -33,7 +33,7 @@ fn factor(number: i64) -> Option<u8>
 // A factor behind `*`.
 #[tactic(auto, unfolding(crate::specs::Operands::factor_at))]
 fn factor_read(tokens: &mut Tokens<'_>) -> Result<u8, Stop>
-    ensures gives { Gives result (factor_at tokens.old.left) tokens.new.left }
+    ensures gives { GivesSame result (factor_at tokens.old.left) tokens.new.left }
     ensures line { tokens.new.line ≡ tokens.old.line }
 {
     let Some(Token::Number(number)) = tokens.peek() else {
@@ -51,7 +51,7 @@ fn factor_read(tokens: &mut Tokens<'_>) -> Result<u8, Stop>
 // A register in a memory operand, behind its name: it may have a factor.
 #[tactic(auto, unfolding(crate::specs::Operands::register_at))]
 fn register(tokens: &mut Tokens<'_>, reg: Reg) -> Result<Term, Stop>
-    ensures gives { Gives result (register_at reg tokens.old.left) tokens.new.left }
+    ensures gives { GivesSame result (register_at reg tokens.old.left) tokens.new.left }
     ensures line { tokens.new.line ≡ tokens.old.line }
 {
     if takes(tokens, b'*') {
@@ -62,7 +62,7 @@ fn register(tokens: &mut Tokens<'_>, reg: Reg) -> Result<Term, Stop>
 
 // Two names.
 fn two_names(alloc: Global, tokens: &mut Tokens<'_>) -> Result<(Name, Name), Stop>
-    ensures gives { Gives result (two_names tokens.old.left) tokens.new.left }
+    ensures gives { GivesSame result (two_names tokens.old.left) tokens.new.left }
     ensures line { tokens.new.line ≡ tokens.old.line }
 {
     let first = name(alloc, tokens)?;
@@ -72,7 +72,7 @@ fn two_names(alloc: Global, tokens: &mut Tokens<'_>) -> Result<(Name, Name), Sto
 
 // A term that a word begins.
 fn keyed_term(alloc: Global, tokens: &mut Tokens<'_>) -> Result<Term, Stop>
-    ensures gives { Gives result (choose (by_key term_key) tokens.old.left) tokens.new.left }
+    ensures gives { GivesSame result (choose (by_key term_key) tokens.old.left) tokens.new.left }
     ensures line { tokens.new.line ≡ tokens.old.line }
 {
     let Some(Token::Key(keyword)) = tokens.peek() else {
@@ -104,7 +104,7 @@ fn keyed_term(alloc: Global, tokens: &mut Tokens<'_>) -> Result<Term, Stop>
 // A term of a memory operand.
 #[tactic(auto, unfolding(crate::specs::Operands::term_at))]
 fn term(alloc: Global, tokens: &mut Tokens<'_>) -> Result<Term, Stop>
-    ensures gives { Gives result (term_at tokens.old.left) tokens.new.left }
+    ensures gives { GivesSame result (term_at tokens.old.left) tokens.new.left }
     ensures line { tokens.new.line ≡ tokens.old.line }
 {
     match tokens.peek() {
@@ -124,7 +124,7 @@ fn term(alloc: Global, tokens: &mut Tokens<'_>) -> Result<Term, Stop>
 // A further term, with the sign before it.
 #[tactic(auto, unfolding(crate::specs::Operands::signed_at))]
 fn signed_term(alloc: Global, tokens: &mut Tokens<'_>) -> Result<Term, Stop>
-    ensures gives { Gives result (signed_at tokens.old.left) tokens.new.left }
+    ensures gives { GivesSame result (signed_at tokens.old.left) tokens.new.left }
     ensures line { tokens.new.line ≡ tokens.old.line }
 {
     match tokens.peek() {
@@ -158,7 +158,7 @@ impl Row for Term {
 // The terms of a memory operand behind its opening bracket.
 #[tactic(auto, unfolding(crate::specs::Operands::terms_at))]
 fn terms(alloc: Global, tokens: &mut Tokens<'_>) -> Result<TermList, Stop>
-    ensures gives { Gives result (terms_at tokens.old.left) tokens.new.left }
+    ensures gives { GivesSame result (terms_at tokens.old.left) tokens.new.left }
     ensures line { tokens.new.line ≡ tokens.old.line }
 {
     let terms: Vec<Term> = some_rows(alloc, tokens, b']')?;
@@ -167,7 +167,7 @@ fn terms(alloc: Global, tokens: &mut Tokens<'_>) -> Result<TermList, Stop>
 
 // An operand that a word begins.
 fn keyed_arg(alloc: Global, tokens: &mut Tokens<'_>) -> Result<Arg, Stop>
-    ensures gives { Gives result (choose (by_key arg_key) tokens.old.left) tokens.new.left }
+    ensures gives { GivesSame result (choose (by_key arg_key) tokens.old.left) tokens.new.left }
     ensures line { tokens.new.line ≡ tokens.old.line }
 {
     let Some(Token::Key(keyword)) = tokens.peek() else {
@@ -201,7 +201,7 @@ fn keyed_arg(alloc: Global, tokens: &mut Tokens<'_>) -> Result<Arg, Stop>
 /// An operand.
 #[tactic(auto, unfolding(crate::specs::Operands::arg_at))]
 pub fn arg(alloc: Global, tokens: &mut Tokens<'_>) -> Result<Arg, Stop>
-    ensures gives { Gives result (arg_at tokens.old.left) tokens.new.left }
+    ensures gives { GivesSame result (arg_at tokens.old.left) tokens.new.left }
     ensures line { tokens.new.line ≡ tokens.old.line }
 {
     match tokens.peek() {
@@ -225,7 +225,7 @@ pub fn arg(alloc: Global, tokens: &mut Tokens<'_>) -> Result<Arg, Stop>
 /// The count of a shift.
 #[tactic(auto, unfolding(crate::specs::Operands::count_at, crate::specs::Operands::arg_at))]
 pub fn count(alloc: Global, tokens: &mut Tokens<'_>) -> Result<Arg, Stop>
-    ensures gives { Gives result (count_at tokens.old.left) tokens.new.left }
+    ensures gives { GivesSame result (count_at tokens.old.left) tokens.new.left }
     ensures line { tokens.new.line ≡ tokens.old.line }
 {
     if let Some(Token::Key(Keyword::Cl)) = tokens.peek() {
@@ -238,7 +238,7 @@ pub fn count(alloc: Global, tokens: &mut Tokens<'_>) -> Result<Arg, Stop>
 /// What a call goes to.
 #[tactic(auto, unfolding(crate::specs::Operands::called_at))]
 pub fn called(alloc: Global, tokens: &mut Tokens<'_>) -> Result<Arg, Stop>
-    ensures gives { Gives result (called_at tokens.old.left) tokens.new.left }
+    ensures gives { GivesSame result (called_at tokens.old.left) tokens.new.left }
     ensures line { tokens.new.line ≡ tokens.old.line }
 {
     match tokens.peek() {

@@ -1,6 +1,6 @@
 // Lists of rows, up to a closing mark.
 ghost use Rattle.std.specs.Prelude.{◌≡◌, ◌∷◌, [], ◌≢◌};
-ghost use Rattle.tal_syntax.specs.Reading.{Read, Gives, GivesVia, some_rows, rows_at, comma_at, number_at};
+ghost use Rattle.tal_syntax.specs.Reading.{Read, GivesSame, GivesVia, some_rows, rows_at, comma_at, number_at};
 ghost use Rattle.tal_syntax.specs.Rows.{type_at, reg_type_at};
 
 use crate::form::{RegType, TypeText};
@@ -18,12 +18,12 @@ pub trait Row: Drop {
 
     /// The first row.
     fn read(alloc: Global, tokens: &mut Tokens<'_>) -> Result<Self, Stop>
-        ensures gives { Gives result (reads tokens.old.left) tokens.new.left }
+        ensures gives { GivesSame result (reads tokens.old.left) tokens.new.left }
         ensures line { tokens.new.line ≡ tokens.old.line };
 
     /// A further row, with what stands before it.
     fn read_next(alloc: Global, tokens: &mut Tokens<'_>) -> Result<Self, Stop>
-        ensures gives { Gives result (reads_next tokens.old.left) tokens.new.left }
+        ensures gives { GivesSame result (reads_next tokens.old.left) tokens.new.left }
         ensures line { tokens.new.line ≡ tokens.old.line };
 }
 
@@ -95,7 +95,7 @@ pub fn some_rows<R: Row>(alloc: Global, tokens: &mut Tokens<'_>, close: u8) -> R
 /// Registers with their types between commas, up to the closing parenthesis.
 #[tactic(auto, unfolding(crate::specs::Reading::rows_at))]
 pub fn reg_types(alloc: Global, tokens: &mut Tokens<'_>) -> Result<RegTypeList, Stop>
-    ensures gives { Gives result (rows_at 41 reg_type_at tokens.old.left) tokens.new.left }
+    ensures gives { GivesSame result (rows_at 41 reg_type_at tokens.old.left) tokens.new.left }
     ensures line { tokens.new.line ≡ tokens.old.line }
 {
     if takes(tokens, b')') {
@@ -108,7 +108,7 @@ pub fn reg_types(alloc: Global, tokens: &mut Tokens<'_>) -> Result<RegTypeList, 
 /// Types between commas, up to the closing bracket.
 #[tactic(auto, unfolding(crate::specs::Reading::rows_at))]
 pub fn types(alloc: Global, tokens: &mut Tokens<'_>) -> Result<TypeTextList, Stop>
-    ensures gives { Gives result (rows_at 93 type_at tokens.old.left) tokens.new.left }
+    ensures gives { GivesSame result (rows_at 93 type_at tokens.old.left) tokens.new.left }
     ensures line { tokens.new.line ≡ tokens.old.line }
 {
     if takes(tokens, b']') {
@@ -121,7 +121,7 @@ pub fn types(alloc: Global, tokens: &mut Tokens<'_>) -> Result<TypeTextList, Sto
 /// Numbers between commas, up to the closing brace.
 #[tactic(auto, unfolding(crate::specs::Reading::rows_at))]
 pub fn numbers(alloc: Global, tokens: &mut Tokens<'_>) -> Result<NumberList, Stop>
-    ensures gives { Gives result (rows_at 125 number_at tokens.old.left) tokens.new.left }
+    ensures gives { GivesSame result (rows_at 125 number_at tokens.old.left) tokens.new.left }
     ensures line { tokens.new.line ≡ tokens.old.line }
 {
     if takes(tokens, b'}') {

@@ -1,6 +1,6 @@
 // Reading single tokens.
 ghost use Rattle.std.specs.Prelude.{◌≡◌, IsTrue, ◌↔◌, true, false, if◌then◌else◌};
-ghost use Rattle.tal_syntax.specs.Reading.{Gives, mark_at, name_at, number_at, end_at, typed_at};
+ghost use Rattle.tal_syntax.specs.Reading.{GivesSame, mark_at, name_at, number_at, line_end_at, typed_at};
 ghost use Rattle.tal_syntax.specs.Rows.{Peels};
 ghost use Rattle.tal_syntax.specs.declared.tokens_read.Stop.TheVariants.{Memory};
 
@@ -59,7 +59,7 @@ pub fn takes(tokens: &mut Tokens<'_>, byte: u8) -> bool
 /// A mark.
 #[tactic(auto, unfolding(crate::specs::Reading::mark_at))]
 pub fn mark(tokens: &mut Tokens<'_>, byte: u8) -> Result<(), Stop>
-    ensures gives { Gives result (mark_at byte tokens.old.left) tokens.new.left }
+    ensures gives { GivesSame result (mark_at byte tokens.old.left) tokens.new.left }
     ensures line { tokens.new.line ≡ tokens.old.line }
 {
     match tokens.peek() {
@@ -74,7 +74,7 @@ pub fn mark(tokens: &mut Tokens<'_>, byte: u8) -> Result<(), Stop>
 /// A name.
 #[tactic(auto, unfolding(crate::specs::Reading::name_at))]
 pub fn name(alloc: Global, tokens: &mut Tokens<'_>) -> Result<Name, Stop>
-    ensures gives { Gives result (name_at tokens.old.left) tokens.new.left }
+    ensures gives { GivesSame result (name_at tokens.old.left) tokens.new.left }
     ensures line { tokens.new.line ≡ tokens.old.line }
 {
     match tokens.peek() {
@@ -89,7 +89,7 @@ pub fn name(alloc: Global, tokens: &mut Tokens<'_>) -> Result<Name, Stop>
 /// A number.
 #[tactic(auto, unfolding(crate::specs::Reading::number_at))]
 pub fn number(tokens: &mut Tokens<'_>) -> Result<i64, Stop>
-    ensures gives { Gives result (number_at tokens.old.left) tokens.new.left }
+    ensures gives { GivesSame result (number_at tokens.old.left) tokens.new.left }
     ensures line { tokens.new.line ≡ tokens.old.line }
 {
     match tokens.peek() {
@@ -104,7 +104,7 @@ pub fn number(tokens: &mut Tokens<'_>) -> Result<i64, Stop>
 /// The line's end.
 #[tactic(auto, unfolding(crate::specs::Reading::end_at))]
 pub fn line_end(tokens: &mut Tokens<'_>) -> Result<(), Stop>
-    ensures gives { Gives result (end_at tokens.old.left) tokens.new.left }
+    ensures gives { GivesSame result (line_end_at tokens.old.left) tokens.new.left }
     ensures line { tokens.new.line ≡ tokens.old.line }
 {
     match tokens.peek() {
@@ -119,7 +119,7 @@ pub fn line_end(tokens: &mut Tokens<'_>) -> Result<(), Stop>
 /// A register that may have a type: each but the stack pointer.
 #[tactic(auto, unfolding(crate::specs::Reading::typed_at))]
 pub fn typed_register(tokens: &mut Tokens<'_>) -> Result<Reg, Stop>
-    ensures gives { Gives result (typed_at tokens.old.left) tokens.new.left }
+    ensures gives { GivesSame result (typed_at tokens.old.left) tokens.new.left }
     ensures line { tokens.new.line ≡ tokens.old.line }
 {
     match tokens.peek() {

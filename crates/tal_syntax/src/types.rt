@@ -1,6 +1,6 @@
 // Reading types.
 ghost use Rattle.std.specs.Prelude.{◌≡◌};
-ghost use Rattle.tal_syntax.specs.Reading.{Gives};
+ghost use Rattle.tal_syntax.specs.Reading.{GivesSame};
 ghost use Rattle.tal_syntax.specs.Rows.{type_at, reg_type_at};
 
 use crate::form::{RegType, TypeText};
@@ -11,7 +11,7 @@ use text_tokens::{Keyword, Token, Tokens};
 /// A type.
 #[tactic(auto, unfolding(crate::specs::Rows::type_at))]
 pub fn type_text(alloc: Global, tokens: &mut Tokens<'_>) -> Result<TypeText, Stop>
-    ensures gives { Gives result (type_at tokens.old.left) tokens.new.left }
+    ensures gives { GivesSame result (type_at tokens.old.left) tokens.new.left }
     ensures line { tokens.new.line ≡ tokens.old.line }
 {
     let Some(Token::Key(keyword)) = tokens.peek() else {
@@ -65,7 +65,7 @@ pub fn type_text(alloc: Global, tokens: &mut Tokens<'_>) -> Result<TypeText, Sto
 /// A register with its type.
 #[tactic(auto, unfolding(crate::specs::Rows::reg_type_at))]
 pub fn reg_type(alloc: Global, tokens: &mut Tokens<'_>) -> Result<RegType, Stop>
-    ensures gives { Gives result (reg_type_at tokens.old.left) tokens.new.left }
+    ensures gives { GivesSame result (reg_type_at tokens.old.left) tokens.new.left }
     ensures line { tokens.new.line ≡ tokens.old.line }
 {
     let reg = typed_register(tokens)?;

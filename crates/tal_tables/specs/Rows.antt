@@ -4,6 +4,7 @@
 use Rattle.std.specs.Prelude.{ℕ, ℤ, ◌+◌, ◌==◌, Bool, true, false, not, List, [], ◌∷◌, ◌++◌, length, map, replicate, Option, Some, None, Result, Ok, Err, slice_index_or, if◌then◌else◌}
 use Rattle.std.specs.List.{list_any}
 use Rattle.std.specs.Option.{option_map_or, unwrap_or}
+use Rattle.asm_faults.specs.Answers.{at_line}
 use Rattle.asm_faults.specs.declared.AsmFault.{AsmFault}
 use Rattle.object_layout.specs.declared.rows.ClassRow.{ClassRow}
 use Rattle.object_layout.specs.declared.rows.FieldTy.{FieldTy}
@@ -24,9 +25,9 @@ use Rattle.unit_files.specs.declared.parts.UnitBlock.{UnitBlock}
 use Rattle.unit_files.specs.declared.parts.UnitMark.{UnitMark}
 use Rattle.unit_files.specs.declared.parts.FixUp.{FixUp}
 use Rattle.tal_names.specs.Declarations.{Names}
-use Rattle.tal_names.specs.NameSets.{number_of}
+use Rattle.tal_names.specs.NameSets.{number_of_name}
 use Rattle.tal_operands.specs.Addresses.{word}
-use Rattle.tal_rows.specs.Trials.{need, unless}
+use Rattle.tal_rows.specs.Trials.{need_value, unless}
 use Rattle.tal_rows.specs.Lines.{natural, sig_line, kind_line, static_line, data_line, function_line, class_line, entry_line}
 use Rattle.tal_rows.specs.declared.lines.DataLine.{DataLine}
 use Rattle.tal_rows.specs.declared.lines.EntryLine.{EntryLine}
@@ -54,11 +55,11 @@ no_tables = record { heap_words = 0; stacks = 0; sigs = []; functions = []; entr
 
 -- the heap: it is given once; its words fit
 unfoldable pub heap_line : ℕ → ℤ → Result ℕ ℕ
-heap_line given n = unless (not (given == 0)) 12 (need (natural n) 17 (λ words. unless (not (heap_fits words)) 17 (Ok words)))
+heap_line given n = unless (not (given == 0)) 12 (need_value (natural n) 17 (λ words. unless (not (heap_fits words)) 17 (Ok words)))
 
 -- the stacks: the same
 unfoldable pub stacks_line : ℕ → ℤ → Result ℕ ℕ
-stacks_line given n = unless (not (given == 0)) 12 (need (natural n) 17 (λ stacks. unless (not (stacks_fit stacks)) 17 (Ok stacks)))
+stacks_line given n = unless (not (given == 0)) 12 (need_value (natural n) 17 (λ stacks. unless (not (stacks_fit stacks)) 17 (Ok stacks)))
 
 -- a stack has an entry
 unfoldable pub has_entry : List UnitEntry → ℤ → Bool
@@ -75,12 +76,7 @@ array_numbers m false kind size None = if slice_index_or m.number_kinds kind fal
 
 -- the number of a row's name among the unit's names
 abbrev pub name_number : List (List ℕ) → List ℕ → ℕ
-name_number names n = unwrap_or (number_of names n) 0
-
--- a code is a fault at the line
-abbrev pub at_line : {A : Type 0} → ℕ → Result A ℕ → Result A AsmFault
-at_line line (Ok x) = Ok x
-at_line line (Err code) = Err (record { line = line; code = code })
+name_number names n = unwrap_or (number_of_name names n) 0
 
 -- what is made where there is no fault
 abbrev pub make : {A B : Type 0} → (A → B) → Result A AsmFault → Result B AsmFault

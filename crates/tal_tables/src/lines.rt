@@ -1,11 +1,11 @@
 // The lines of a module that make rows, a function each.
 ghost use Rattle.std.specs.Prelude.{◌≡◌, ◌<◌, true, length, IfOk, OnOk};
-ghost use Rattle.asm_faults.specs.Answers.{AnswersBy};
-ghost use Rattle.tal_names.specs.Declarations.{shown};
+ghost use Rattle.asm_faults.specs.Answers.{AnswersBy, at_line};
+ghost use Rattle.tal_names.specs.Declarations.{names_shown};
 ghost use Rattle.tal_rows.specs.Lines.{sig_line, kind_line, static_line, data_line, function_line, class_line, entry_line};
 ghost use Rattle.tal_classes.specs.Members.{class_row};
 ghost use Rattle.tal_tables.specs.Kept.{IsMade};
-ghost use Rattle.tal_tables.specs.Rows.{heap_line, stacks_line, has_entry, array_numbers, name_number, at_line, make, then_make, and_sig, and_kind, and_static, and_array, and_class, and_function, and_entry, take_row};
+ghost use Rattle.tal_tables.specs.Rows.{heap_line, stacks_line, has_entry, array_numbers, name_number, make, then_make, and_sig, and_kind, and_static, and_array, and_class, and_function, and_entry, take_row};
 
 use crate::tables::ModuleTables;
 use crate::trials::{array_numbers, has_entry, heap_line, name_number, stacks_line};
@@ -66,7 +66,7 @@ impl ModuleTables {
         stack: i64,
         function: &Name,
     ) -> Result<(), AsmAnswer>
-        ensures { IsMade result (make (and_entry self.old) (at_line line (entry_line (shown names.now) stack function.now (has_entry self.old.entries stack)))) self.new }
+        ensures { IsMade result (make (and_entry self.old) (at_line line (entry_line (names_shown names.now) stack function.now (has_entry self.old.entries stack)))) self.new }
     {
         let is_given = has_entry(&self.entries, stack);
         match entry_line(names, stack, function, is_given) {
@@ -92,7 +92,7 @@ impl ModuleTables {
         params: &[RegType],
         answer: &TypeText,
     ) -> Result<(), AsmAnswer>
-        ensures { IsMade result (make (and_sig self.old (name_number unit_names.now name.now) ext) (at_line line (sig_line (shown names.now) name.now params.now answer.now (length self.old.sigs)))) self.new }
+        ensures { IsMade result (make (and_sig self.old (name_number unit_names.now name.now) ext) (at_line line (sig_line (names_shown names.now) name.now params.now answer.now (length self.old.sigs)))) self.new }
     {
         let rows = self.sigs.len() as u32;
         match sig_line(names, name, params, answer, rows) {
@@ -118,7 +118,7 @@ impl ModuleTables {
         name: &Name,
         element: &TypeText,
     ) -> Result<(), AsmAnswer>
-        ensures { IsMade result (make (and_kind self.old (name_number unit_names.now name.now) ext) (at_line line (kind_line (shown names.now) name.now element.now (length self.old.kinds)))) self.new }
+        ensures { IsMade result (make (and_kind self.old (name_number unit_names.now name.now) ext) (at_line line (kind_line (names_shown names.now) name.now element.now (length self.old.kinds)))) self.new }
     {
         let rows = self.kinds.len() as u32;
         match kind_line(names, name, element, rows) {
@@ -144,7 +144,7 @@ impl ModuleTables {
         name: &Name,
         ty: &TypeText,
     ) -> Result<(), AsmAnswer>
-        ensures { IsMade result (make (and_static self.old (name_number unit_names.now name.now) ext) (at_line line (static_line (shown names.now) name.now ty.now (length self.old.statics) self.old.words))) self.new }
+        ensures { IsMade result (make (and_static self.old (name_number unit_names.now name.now) ext) (at_line line (static_line (names_shown names.now) name.now ty.now (length self.old.statics) self.old.words))) self.new }
     {
         let rows = self.statics.len() as u32;
         match static_line(names, name, ty, rows, self.words) {
@@ -175,7 +175,7 @@ impl ModuleTables {
         size: i64,
         numbers: &Option<NumberList>,
     ) -> Result<(), AsmAnswer>
-        ensures { IsMade result (make (λ l. and_array self.old (name_number unit_names.now name.now) ext l (array_numbers (shown names.now) ext l.kind l.length numbers.now)) (at_line line (data_line (shown names.now) name.now kind.now size numbers.now (length self.old.arrays) self.old.words))) self.new }
+        ensures { IsMade result (make (λ l. and_array self.old (name_number unit_names.now name.now) ext l (array_numbers (names_shown names.now) ext l.kind l.length numbers.now)) (at_line line (data_line (names_shown names.now) name.now kind.now size numbers.now (length self.old.arrays) self.old.words))) self.new }
     {
         let rows = self.arrays.len() as u32;
         match data_line(names, name, kind, size, numbers, rows, self.words) {
@@ -209,7 +209,7 @@ impl ModuleTables {
         parent: &Option<Name>,
         behind: &[TextLine],
     ) -> Result<(), AsmAnswer>
-        ensures { IsMade result (then_make (at_line line (class_line (shown names.now) name.now parent.now (length self.old.classes))) (λ above. make (and_class self.old (name_number unit_names.now name.now) ext) (class_row (shown names.now) self.old.classes above behind.now))) self.new }
+        ensures { IsMade result (then_make (at_line line (class_line (names_shown names.now) name.now parent.now (length self.old.classes))) (λ above. make (and_class self.old (name_number unit_names.now name.now) ext) (class_row (names_shown names.now) self.old.classes above behind.now))) self.new }
     {
         let rows = self.classes.len() as u32;
         match class_line(names, name, parent, rows) {
@@ -236,7 +236,7 @@ impl ModuleTables {
         sig: &Name,
         has_code: bool,
     ) -> Result<u32, AsmAnswer>
-        ensures sig { AnswersBy result (at_line line (function_line (shown names.now) name.now sig.now has_code (length self.now.functions))) }
+        ensures sig { AnswersBy result (at_line line (function_line (names_shown names.now) name.now sig.now has_code (length self.now.functions))) }
         ensures room { IfOk result (λ _. length self.now.functions < 16384) }
     {
         match function_line(names, name, sig, has_code, self.functions()) {
@@ -275,7 +275,7 @@ impl ModuleTables {
         name: &Name,
         sig: &Name,
     ) -> Result<(), AsmAnswer>
-        ensures { IsMade result (make (and_function self.old (name_number unit_names.now name.now) true 0) (at_line line (function_line (shown names.now) name.now sig.now true (length self.old.functions)))) self.new }
+        ensures { IsMade result (make (and_function self.old (name_number unit_names.now name.now) true 0) (at_line line (function_line (names_shown names.now) name.now sig.now true (length self.old.functions)))) self.new }
     {
         let sig = self.function_line(names, line, name, sig, true)?;
         self.add_function(unit_names, name, true, 0, sig)?;
@@ -293,7 +293,7 @@ impl ModuleTables {
         line: &TextLine,
         behind: &[TextLine],
     ) -> Result<(), AsmAnswer>
-        ensures { IsMade result (take_row (shown names.now) unit_names.now self.old line.now.number line.now.form behind.now) self.new }
+        ensures { IsMade result (take_row (names_shown names.now) unit_names.now self.old line.now.number line.now.form behind.now) self.new }
     {
         let number = line.number;
         match &line.form {

@@ -1,7 +1,7 @@
 // What single lines need: numbers within their limits, and the numbers of data arrays. The codes: 12 what is given twice, 17 a
 // number that does not fit.
 ghost use Rattle.std.specs.Prelude.{◌≡◌, ◌<◌, ◌^◌, IfOk, IfSome, map};
-ghost use Rattle.tal_names.specs.Declarations.{shown};
+ghost use Rattle.tal_names.specs.Declarations.{names_shown};
 ghost use Rattle.tal_operands.specs.Addresses.{word};
 ghost use Rattle.tal_rows.specs.Lines.{natural};
 ghost use Rattle.tal_tables.specs.Rows.{heap_line, stacks_line, has_entry, array_numbers, name_number};
@@ -106,7 +106,7 @@ pub(crate) fn array_numbers(
     numbers: &Option<NumberList>,
 ) -> Result<Vec<u32>, NoMemory>
     requires { length < 2 ^ 32 }
-    ensures { IfOk result (λ found. found.items ≡ array_numbers (shown names.now) ext kind length numbers.now) }
+    ensures { IfOk result (λ found. found.items ≡ array_numbers (names_shown names.now) ext kind length numbers.now) }
 {
     if ext {
         return Ok(Vec::new(alloc));

@@ -1,6 +1,6 @@
 // What a text's lines declare or mean, as text.
 ghost use Rattle.std.specs.Prelude.{◌≡◌};
-ghost use Rattle.tal_names.specs.Declarations.{shown, names_of};
+ghost use Rattle.tal_names.specs.Declarations.{names_shown, names_of};
 
 use crate::case::Case;
 use crate::unplayed::Unplayed;
@@ -139,7 +139,7 @@ fn tell_names(
     names: &ModuleNames,
     lines: &[TextLine],
 ) -> Result<(), Unplayed>
-    requires { shown names.now ≡ names_of lines.now }
+    requires { names_shown names.now ≡ names_of lines.now }
 {
     let found = names.unit_names(alloc, lines)?;
     Ok(tell_set(told, &found)?)
@@ -178,7 +178,7 @@ fn tell_all(
     lines: &[TextLine],
     case: &Case,
 ) -> Result<(), Unplayed>
-    requires { shown names.now ≡ names_of lines.now }
+    requires { names_shown names.now ≡ names_of lines.now }
 {
     tell_lines(told, names, lines, case)?;
     if case.shows_names {

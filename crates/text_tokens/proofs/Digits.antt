@@ -3,7 +3,7 @@ use Rattle.std.proofs.Common.{◌≡◌, ℕ, ◌+◌, ◌*◌, ◌^◌, ◌≤�
 use Rattle.std.proofs.Math.Seq.{drop-cons}
 use Rattle.std.proofs.lemmas.List.{drop_all}
 use Rattle.text_tokens.specs.Bytes.{digit_of}
-use Rattle.text_tokens.specs.Numbers.{value_of}
+use Rattle.text_tokens.specs.Numbers.{digits_value}
 
 abbrev pub IsBase : ℕ → Type 0
 IsBase base = (base ≡ 10) ⊎ (base ≡ 16)
@@ -12,8 +12,8 @@ no_less : (base acc d : ℕ) → IsBase base → acc ≤ acc * base + d
 no_less base acc d (inl e) = subst (λ (b : ℕ). acc ≤ acc * b + d) (sym e) (omega arith)
 no_less base acc d (inr e) = subst (λ (b : ℕ). acc ≤ acc * b + d) (sym e) (omega arith)
 
-grows : (base acc : ℕ) (ds : List ℕ) → IsBase base → acc ≤ value_of base acc ds
-unfolding value_of
+grows : (base acc : ℕ) (ds : List ℕ) → IsBase base → acc ≤ digits_value base acc ds
+unfolding digits_value
 grows base acc [] h = omega arith
 grows base acc (d ∷ ds) h =
     let one = no_less base acc (digit_of d) h in
@@ -21,17 +21,17 @@ grows base acc (d ∷ ds) h =
     omega (arith, one, two)
 
 -- once past the limit, it stays there
-pub kept : (base acc i : ℕ) (ds : List ℕ) → IsBase base → 2 ^ 32 ≤ acc → min (value_of base acc (drop (i + 1) ds)) (2 ^ 32) ≡ min (value_of base acc (drop i ds)) (2 ^ 32)
+pub kept : (base acc i : ℕ) (ds : List ℕ) → IsBase base → 2 ^ 32 ≤ acc → min (digits_value base acc (drop (i + 1) ds)) (2 ^ 32) ≡ min (digits_value base acc (drop i ds)) (2 ^ 32)
 kept base acc i ds h le =
     let one = grows base acc (drop (i + 1) ds) h in
     let two = grows base acc (drop i ds) h in
     omega (arith, one, two)
 
 -- one digit more
-pub digit_more : (base acc i : ℕ) (ds : List ℕ) → i < length ds → value_of base (acc * base + digit_of (get_or ds i 0)) (drop (i + 1) ds) ≡ value_of base acc (drop i ds)
-unfolding value_of
+pub digit_more : (base acc i : ℕ) (ds : List ℕ) → i < length ds → digits_value base (acc * base + digit_of (get_or ds i 0)) (drop (i + 1) ds) ≡ digits_value base acc (drop i ds)
+unfolding digits_value
 digit_more base acc i ds lt = rw (add-one, drop-cons ds i 0 lt) refl
 
-pub all_done : (base acc i : ℕ) (ds : List ℕ) → length ds ≤ i → value_of base acc (drop i ds) ≡ acc
-unfolding value_of
+pub all_done : (base acc i : ℕ) (ds : List ℕ) → length ds ≤ i → digits_value base acc (drop i ds) ≡ acc
+unfolding digits_value
 all_done base acc i ds le = rw (drop_all i ds le) refl

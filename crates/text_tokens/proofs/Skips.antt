@@ -3,7 +3,7 @@ use Rattle.std.proofs.Common.{◌≡◌, ℕ, zero, suc, ◌+◌, ◌≤◌, ◌
 use Rattle.std.proofs.Math.Seq.{drop-cons}
 use Rattle.std.proofs.lemmas.List.{drop_all, drop-drop}
 use Rattle.text_tokens.specs.Token.{Lexeme, PlacedLexeme, seen}
-use Rattle.text_tokens.specs.Lexing.{tokens_from, placed, line_end}
+use Rattle.text_tokens.specs.Lexing.{tokens_from, placed, end_at_column}
 use Rattle.text_tokens.specs.Pieces.{piece_at, PieceView, IsPiece, seen_option}
 use Rattle.text_tokens.specs.declared.pieces.Mode.{Mode}
 use Rattle.text_tokens.specs.declared.pieces.Piece.{Piece}
@@ -16,7 +16,7 @@ skips zero column mode bytes le = ap (λ (k : ℕ). tokens_from 0 mode k bytes) 
 skips (suc skip) column mode [] le = absurd (omega arith)
 skips (suc skip) column mode (b ∷ bytes) le = skips skip (column + 1) mode bytes (omega arith) ∙ ap (λ (k : ℕ). tokens_from 0 mode k (drop skip bytes)) (omega arith)
 
-pub at_end : (column : ℕ) (mode : Mode) (line : List ℕ) (at : ℕ) → length line ≤ at → tokens_from 0 mode column (drop at line) ≡ line_end column ∷ []
+pub at_end : (column : ℕ) (mode : Mode) (line : List ℕ) (at : ℕ) → length line ≤ at → tokens_from 0 mode column (drop at line) ≡ end_at_column column ∷ []
 unfolding tokens_from
 at_end column mode line at le = rw (drop_all at line le) refl
 

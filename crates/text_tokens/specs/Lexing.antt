@@ -10,12 +10,12 @@ abbrev pub placed : ℕ → Lexeme → PlacedLexeme
 placed column token = record { column = column; token = token }
 
 -- the line's end at a column
-abbrev pub line_end : ℕ → PlacedLexeme
-line_end column = record { column = column; token = EndOfLine }
+abbrev pub end_at_column : ℕ → PlacedLexeme
+end_at_column column = record { column = column; token = EndOfLine }
 
 -- The tokens of a line from a column on, where some bytes belong to a token that began before.
 unfoldable pub tokens_from : ℕ → Mode → ℕ → List ℕ → List PlacedLexeme
-tokens_from skip mode column [] = line_end column ∷ []
+tokens_from skip mode column [] = end_at_column column ∷ []
 tokens_from (suc skip) mode column (b ∷ bytes) = tokens_from skip mode (column + 1) bytes
 tokens_from zero mode column (b ∷ bytes) =
     let piece = piece_at mode b (b ∷ bytes) in

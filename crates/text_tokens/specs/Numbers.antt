@@ -5,9 +5,9 @@ use Rattle.text_tokens.specs.Bytes.{is_digit, is_hex_digit, digit_of}
 use Rattle.text_tokens.specs.Token.{Lexeme, Number, Bad}
 
 -- the value of digits behind others that have a value
-unfoldable pub value_of : ℕ → ℕ → List ℕ → ℕ
-value_of base so_far [] = so_far
-value_of base so_far (d ∷ ds) = value_of base (so_far * base + digit_of d) ds
+unfoldable pub digits_value : ℕ → ℕ → List ℕ → ℕ
+digits_value base so_far [] = so_far
+digits_value base so_far (d ∷ ds) = digits_value base (so_far * base + digit_of d) ds
 
 -- a number without a sign: how many bytes it has, and its value
 pub record Unsigned : Type 0 where
@@ -15,12 +15,12 @@ pub record Unsigned : Type 0 where
   pub value : ℕ
 
 -- the byte at a place, or 0 behind the end
-abbrev pub byte_at : List ℕ → ℕ → ℕ
-byte_at bytes i = slice_index_or bytes i 0
+abbrev pub byte_or_zero : List ℕ → ℕ → ℕ
+byte_or_zero bytes i = slice_index_or bytes i 0
 
 -- `0x` and a hexadecimal digit
 abbrev pub is_hex_start : List ℕ → Bool
-is_hex_start bytes = byte_at bytes 0 == 48 && byte_at bytes 1 == 120 && is_hex_digit (byte_at bytes 2)
+is_hex_start bytes = byte_or_zero bytes 0 == 48 && byte_or_zero bytes 1 == 120 && is_hex_digit (byte_or_zero bytes 2)
 
 -- the digits behind `0x`
 abbrev pub hex_digits : List ℕ → List ℕ
@@ -34,8 +34,8 @@ decimal_digits bytes = take_while is_digit bytes
 unfoldable pub unsigned : List ℕ → Unsigned
 unsigned bytes =
     if is_hex_start bytes
-    then record { bytes = 2 + length (hex_digits bytes); value = value_of 16 0 (hex_digits bytes) }
-    else record { bytes = length (decimal_digits bytes); value = value_of 10 0 (decimal_digits bytes) }
+    then record { bytes = 2 + length (hex_digits bytes); value = digits_value 16 0 (hex_digits bytes) }
+    else record { bytes = length (decimal_digits bytes); value = digits_value 10 0 (decimal_digits bytes) }
 
 -- the token of a number: numbers go from -2^31 to 2^32 - 1
 unfoldable pub number_token : Bool → ℕ → Lexeme

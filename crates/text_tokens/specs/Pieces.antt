@@ -5,15 +5,15 @@ use Rattle.text_tokens.specs.Bytes.{is_blank, is_letter, is_digit, is_name_byte,
 use Rattle.text_tokens.specs.declared.token.Token.{Token}
 use Rattle.text_tokens.specs.declared.pieces.Piece.{Piece}
 use Rattle.text_tokens.specs.Token.{seen, Lexeme, Key, Register, Mnemonic, Name, Number, Mark, Bad}
-use Rattle.text_tokens.specs.Words.{word_of}
-use Rattle.text_tokens.specs.Numbers.{byte_at, unsigned, number_token}
+use Rattle.text_tokens.specs.Words.{word_written}
+use Rattle.text_tokens.specs.Numbers.{byte_or_zero, unsigned, number_token}
 use Rattle.text_tokens.specs.declared.words.Word.TheVariants as word
 use Rattle.text_tokens.specs.declared.pieces.Mode.{Mode}
 use Rattle.text_tokens.specs.declared.pieces.Mode.TheVariants.{Line, Label, Inside, Behind, Comment}
 
 -- a word is one of the forms' words, a register, a mnemonic or else a name
 abbrev pub token_of : List ℕ → Lexeme
-token_of letters = elim (word_of letters) [
+token_of letters = elim (word_written letters) [
   | Some w ↦ elim w [ word.Key k ↦ Key k | word.Register r ↦ Register r | word.Mnemonic m ↦ Mnemonic m ]
   | None ↦ Name letters
 ]
@@ -21,7 +21,7 @@ token_of letters = elim (word_of letters) [
 -- In a memory operand, behind a name, a register or a number, `-` is a token by itself.
 abbrev pub glues : Mode → List ℕ → Bool
 glues Behind bytes = false
-glues _ bytes = is_digit (byte_at bytes 1)
+glues _ bytes = is_digit (byte_or_zero bytes 1)
 
 -- how to go on behind a name, a register or a number
 abbrev pub behind_value : Mode → Mode

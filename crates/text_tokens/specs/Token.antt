@@ -53,9 +53,9 @@ tail_tokens [] = []
 tail_tokens (t ∷ ts) = ts
 
 -- the next token, if there is one
-abbrev pub IsNext : Option Token → List Lexeme → Type 0
-IsNext None left = left ≡ []
-IsNext (Some t) left = left ≡ seen t ∷ tail left
+abbrev pub IsNextToken : Option Token → List Lexeme → Type 0
+IsNextToken None left = left ≡ []
+IsNextToken (Some t) left = left ≡ seen t ∷ tail left
 
 -- the column of the first of some tokens
 abbrev pub column_of : List PlacedLexeme → ℕ

@@ -51,5 +51,5 @@ first_written [] letters = None
 first_written (w ∷ ws) letters = if bytes_eq (word_letters w) letters then Some w else first_written ws letters
 
 -- the word that is written so
-unfoldable pub word_of : List ℕ → Option Word
-word_of letters = first_written WORDS letters
+unfoldable pub word_written : List ℕ → Option Word
+word_written letters = first_written WORDS letters

@@ -2,7 +2,7 @@
 ghost use Rattle.std.specs.Prelude.{◌≡◌, IfSome, ◌∷◌, [], false, ◌+◌, ◌≤◌, ◌<◌, ◌^◌, length, drop, MatchOption, Some};
 ghost use Rattle.text_tokens.specs.Token.{seen, tail_tokens};
 ghost use Rattle.text_tokens.specs.Tokens.{tokens_left};
-ghost use Rattle.text_tokens.specs.Lexing.{tokens_from, line_tokens, placed, line_end};
+ghost use Rattle.text_tokens.specs.Lexing.{tokens_from, line_tokens, placed, end_at_column};
 
 use crate::pieces::{Mode, piece_here};
 use crate::token::Token;
@@ -22,7 +22,7 @@ pub struct Found<'a> {
 pub fn next_token(line: &[u8], from: usize, mode: Mode) -> Option<Found<'_>>
     requires { from ≤ length line.now }
     ensures { MatchOption result
-        (tokens_from 0 mode (from + 1) (drop from line.now) ≡ line_end (length line.now + 1) ∷ [])
+        (tokens_from 0 mode (from + 1) (drop from line.now) ≡ end_at_column (length line.now + 1) ∷ [])
         (λ f. (tokens_from 0 mode (from + 1) (drop from line.now)
         ≡ placed f.column (seen f.token) ∷ tokens_from 0 f.mode (f.at + 1) (drop f.at line.now)) × (f.at ≤ length line.now) × (f.ended ≡ false)) }
 {

@@ -3,7 +3,7 @@ ghost use Rattle.std.specs.Prelude.{◌≡◌, ℕ, ◌⊎◌, IsTrue, slice_ind
 ghost use Rattle.std.specs.List.{take_while};
 ghost use Rattle.text_tokens.specs.Bytes.{is_digit, is_hex_digit, digit_of};
 ghost use Rattle.text_tokens.specs.Token.{seen};
-ghost use Rattle.text_tokens.specs.Numbers.{value_of, unsigned, is_hex_start, number_token};
+ghost use Rattle.text_tokens.specs.Numbers.{digits_value, unsigned, is_hex_start, number_token};
 
 use crate::bytes::{digit, hex_digit};
 use crate::token::Token;
@@ -61,7 +61,7 @@ fn hex_front(bytes: &[u8]) -> &[u8]
 // The value of digits, exact up to 2^32.
 fn value(base: u64, digits: &[u8]) -> u64
     requires { (base ≡ 10) ⊎ (base ≡ 16) }
-    ensures { min result (2 ^ 32) ≡ min (value_of base 0 digits.now) (2 ^ 32) }
+    ensures { min result (2 ^ 32) ≡ min (digits_value base 0 digits.now) (2 ^ 32) }
 {
     let mut value = 0u64;
     for digit in digits {

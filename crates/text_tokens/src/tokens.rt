@@ -1,6 +1,6 @@
 // The tokens of a line, read from left to right.
 ghost use Rattle.std.specs.Prelude.{List, ◌≡◌, ◌∷◌, [], ◌≤◌, ◌<◌, ◌^◌, length, IfOk};
-ghost use Rattle.text_tokens.specs.Token.{PlacedLexeme, IsNext, tail, lexemes_of, column_of, long_name, is_long, seen};
+ghost use Rattle.text_tokens.specs.Token.{PlacedLexeme, IsNextToken, tail, lexemes_of, column_of, long_name, is_long, seen};
 ghost use Rattle.text_tokens.specs.Tokens.{StandsBetween, StandsSomewhere, long_with};
 ghost use Rattle.text_tokens.specs.Lexing.{line_tokens};
 
@@ -47,7 +47,7 @@ impl<'a> Tokens<'a> {
     /// The next token. None is left behind the line's end.
     #[tactic(auto, unfolding(crate::specs::Tokens::view_of))]
     pub fn peek(&self) -> Option<Token<'a>>
-        ensures { IsNext result self.now.left }
+        ensures { IsNextToken result self.now.left }
     {
         match &self.here {
             Some(found) => Some(found.token),

@@ -1,6 +1,6 @@
 // The words that are no names, each with its letters.
 ghost use Rattle.std.specs.Prelude.{◌≡◌, drop};
-ghost use Rattle.text_tokens.specs.Words.{keyword_text, word_letters, first_written, word_of};
+ghost use Rattle.text_tokens.specs.Words.{keyword_text, word_letters, first_written, word_written};
 
 use crate::token::Keyword;
 use code_words::{Mnemonic, register_text};
@@ -158,7 +158,7 @@ fn find_word(words: &[Word], letters: &[u8]) -> Option<Word>
 /// The word that has these letters. There is none where they are a name.
 #[tactic(auto, unfolding(crate::specs::Words::word_of))]
 pub fn word_at(letters: &[u8]) -> Option<Word>
-    ensures { result ≡ word_of letters.now }
+    ensures { result ≡ word_written letters.now }
 {
     find_word(&WORDS, letters)
 }

@@ -10,7 +10,7 @@ use Rattle.tal_image.specs.declared.parts.Tables.{Tables}
 use Rattle.tal_image.specs.Conditions.{type_fits, part_length_fits}
 use Rattle.tal_image.specs.Image.{type_tag, type_index}
 use Rattle.tal_image.specs.Formed.{IsType}
-use Rattle.text_tokens.specs.Words.{first_written, word_of}
+use Rattle.text_tokens.specs.Words.{first_written, word_written}
 use Rattle.unit_files.specs.Unit.{UnitParts, own_functions}
 use Rattle.unit_files.specs.Conditions.{is_name}
 use Rattle.unit_files.specs.Formed.{UnitFormed, IsName}
@@ -52,11 +52,11 @@ number = record { word = lit< tt; condition_12 = refl }
 
 -- its names
 s_is : IsName (115 ∷ [])
-unfolding is_name word_of first_written
+unfolding is_name word_written first_written
 s_is = record { long = refl; condition_28 = refl }
 
 f_is : IsName (102 ∷ [])
-unfolding is_name word_of first_written
+unfolding is_name word_written first_written
 f_is = record { long = refl; condition_28 = refl }
 
 -- the unit is formed

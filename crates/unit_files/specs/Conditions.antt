@@ -7,7 +7,7 @@ use Rattle.ia32_code.specs.declared.reading.Stop.{Stop}
 use Rattle.ia32_code.specs.Reading.{spelling_at}
 use Rattle.ia32_code.specs.WholeWords.{word_offsets}
 use Rattle.text_tokens.specs.Bytes.{is_letter, is_name_byte}
-use Rattle.text_tokens.specs.Words.{word_of}
+use Rattle.text_tokens.specs.Words.{word_written}
 use Rattle.file_fields.specs.Grammar.{between, bytes_number}
 use Rattle.tal_image.specs.declared.parts.Tables.{Tables}
 use Rattle.tal_image.specs.Conditions.{Spelled, marked_number_at, same_number}
@@ -28,7 +28,7 @@ name_length_fits n = between 1 63 n
 
 -- 28: they are a letter or `_`, then letters, digits and `_`, and no word of assembly text
 unfoldable pub is_name : List ℕ → Bool
-is_name letters = is_letter (slice_index_or letters 0 0) && list_all is_name_byte letters && not (is_some (word_of letters))
+is_name letters = is_letter (slice_index_or letters 0 0) && list_all is_name_byte letters && not (is_some (word_written letters))
 
 -- 29: the name is there
 abbrev pub mention_fits : ℕ → ℕ → Bool
@@ -52,17 +52,17 @@ abbrev pub words_read : Result (Spelling × List ℕ) Stop → WholeWords
 words_read (Ok x) = word_offsets x.0
 words_read (Err stop) = record { within = None; at_end = None }
 
-abbrev pub words_of : List ℕ → WholeWords
-words_of text = words_read (spelling_at text)
+abbrev pub words_in_text : List ℕ → WholeWords
+words_in_text text = words_read (spelling_at text)
 
 -- whether a place is this one
-abbrev pub is_place : Option ℕ → ℕ → Bool
-is_place None k = false
-is_place (Some n) k = n == k
+abbrev pub is_that_place : Option ℕ → ℕ → Bool
+is_that_place None k = false
+is_that_place (Some n) k = n == k
 
 -- whether a hole of an instruction lies at a place in its bytes: a whole word, which is 0
 unfoldable pub hole_in : List ℕ → ℕ → Bool
-hole_in text k = (is_place (words_of text).within k || is_place (words_of text).at_end k) && bytes_number (take 4 (drop k text)) == 0
+hole_in text k = (is_that_place (words_in_text text).within k || is_that_place (words_in_text text).at_end k) && bytes_number (take 4 (drop k text)) == 0
 
 -- whether a hole lies at an offset of instructions one after another
 unfoldable pub hole_at : ℕ → List Spelled → Bool
@@ -72,7 +72,7 @@ hole_at offset (s ∷ more) = if nat_lt offset (length s.text) then hole_in s.te
 -- whether the instruction that begins at an offset ends with a whole word
 unfoldable pub wide_at : ℕ → List Spelled → Bool
 wide_at offset [] = false
-wide_at offset (s ∷ more) = if offset == 0 then is_some (words_of s.text).at_end else if nat_lt offset (length s.text) then false else wide_at (offset - length s.text) more
+wide_at offset (s ∷ more) = if offset == 0 then is_some (words_in_text s.text).at_end else if nat_lt offset (length s.text) then false else wide_at (offset - length s.text) more
 
 -- how many rows a mark's tag may name: null of a class, an array kind or a signature; a function; a class's table; an array
 -- kind's descriptor; a data array

@@ -3,17 +3,17 @@ use Rattle.unit_files.specs.declared.unit_reader.FrontRows.{FrontRows}
 use Rattle.unit_files.specs.declared.unit_reader.TableRows.{TableRows}
 use Rattle.unit_files.specs.Unit.{UnitParts}
 use Rattle.unit_files.specs.Fields.{UnitFront, UnitTables}
-use Rattle.unit_files.specs.CodeWords.{CodeParts}
+use Rattle.unit_files.specs.CodeWords.{UnitCodeParts}
 
 -- these rows
-abbrev pub front_parts_of : FrontRows → UnitFront
-front_parts_of r = record { header = r.header; names = r.names.items; sigs = r.sigs.items; functions = r.functions.items; entries = r.entries.items }
+abbrev pub unit_front_of : FrontRows → UnitFront
+unit_front_of r = record { header = r.header; names = r.names.items; sigs = r.sigs.items; functions = r.functions.items; entries = r.entries.items }
 
 abbrev pub table_parts_of : TableRows → UnitTables
 table_parts_of r = record { classes = r.classes.items; kinds = r.kinds.items; statics = r.statics.items; arrays = r.arrays.items }
 
 -- the unit of these parts
-abbrev pub unit_by : UnitFront → UnitTables → CodeParts → UnitParts
+abbrev pub unit_by : UnitFront → UnitTables → UnitCodeParts → UnitParts
 unit_by f t c = record {
   heap_words = f.header.image.heap_words;
   stacks = f.header.image.stacks;

@@ -5,8 +5,8 @@ ghost use Rattle.ia32_code.specs.Spells.{Spells};
 ghost use Rattle.file_fields.specs.Grammar.{bytes_number};
 ghost use Rattle.tal_image.specs.Conditions.{Spelled};
 ghost use Rattle.tal_image.specs.Fields.{code_bytes};
-ghost use Rattle.unit_files.specs.Conditions.{is_place, words_of};
-ghost use Rattle.unit_files.specs.CodeWords.{byte_by, instruction_bytes, code_table, byte_at, AreSpelled};
+ghost use Rattle.unit_files.specs.Conditions.{is_that_place, words_in_text};
+ghost use Rattle.unit_files.specs.CodeWords.{byte_by, instruction_bytes, code_table, code_byte_at, AreSpelled};
 
 use ia32_code::{Decoded, WholeWords, decode, whole_words};
 use no_memory::NoMemory;
@@ -22,7 +22,7 @@ pub(crate) struct CodeByte {
 
 /// Whether a whole word begins at a place.
 fn is_place(word: Option<u8>, place: usize) -> bool
-    ensures { result ≡ is_place word place }
+    ensures { result ≡ is_that_place word place }
 {
     match word {
         Some(begin) => usize::from(begin) == place,
@@ -81,7 +81,7 @@ fn put_instruction(
 /// The instruction at the front of bytes, if there is one, and where its whole words lie.
 fn first_of(bytes: &[u8]) -> Option<(&[u8], WholeWords)>
     ensures spelled { (text more : List ℕ) (i : Inst) → Spells text i → bytes.now ≡ text ++ more
-        → MatchOption result ⊥ (λ one. (one.0.now ≡ text) × (one.1 ≡ words_of text)) }
+        → MatchOption result ⊥ (λ one. (one.0.now ≡ text) × (one.1 ≡ words_in_text text)) }
     ensures some { IfSome result (λ one. (0 < length one.0.now) × (length one.0.now ≤ length bytes.now)) }
 {
     ia32_code::laws::spellings_are_read();
@@ -108,7 +108,7 @@ pub(crate) fn code_table(alloc: Global, code: &[u8]) -> Result<Vec<CodeByte>, No
 
 /// What is known of a byte.
 pub(crate) fn byte_at(table: &[CodeByte], offset: u32) -> CodeByte
-    ensures { result ≡ byte_at table.now offset }
+    ensures { result ≡ code_byte_at table.now offset }
 {
     table.get(offset as usize).copied().unwrap_or(CodeByte {
         hole: false,

@@ -4,7 +4,7 @@ ghost use Rattle.file_fields.specs.Reading.{GivesView};
 ghost use Rattle.tal_image.specs.Conditions.{same_number};
 ghost use Rattle.tal_image.specs.CodeReading.{place_fits, offset_fits};
 ghost use Rattle.unit_files.specs.Conditions.{marked_rows, fixed_rows, is_null_tag};
-ghost use Rattle.unit_files.specs.CodeWords.{unit_starts_at, lacks_function, mark_says, mark_by, fixup_by};
+ghost use Rattle.unit_files.specs.CodeWords.{unit_starts_at, lacks_function, unit_mark_says, unit_mark_by, fixup_by};
 ghost use Rattle.unit_files.specs.Fields.{tables_behind, unit_block_where};
 ghost use Rattle.unit_files.specs.Formed.{after_unit_block, after_unit_mark, after_fixup};
 ghost use Rattle.unit_files.specs.Unit.{own_functions};
@@ -158,7 +158,7 @@ impl CodePlaces<'_> {
     /// Whether a mark at an offset may have a tag and an index.
     #[tactic(auto, unfolding(crate::specs::CodeWords::mark_says))]
     fn says(&self, offset: u32, tag: u32, index: u32) -> bool
-        ensures { result ≡ mark_says self.now.header self.now.starts.now self.now.bytes.now offset tag index }
+        ensures { result ≡ unit_mark_says self.now.header self.now.starts.now self.now.bytes.now offset tag index }
     {
         let is_there = index < self.header.marked_rows(tag);
         let is_open = is_zero(start_at(self.starts, offset).number());
@@ -168,7 +168,7 @@ impl CodePlaces<'_> {
 }
 
 impl<'a> RowAfter<CodePlaces<'a>, u64> for UnitMark {
-    ghost fields = { λ p later least. mark_by p.header p.starts.now p.bytes.now least };
+    ghost fields = { λ p later least. unit_mark_by p.header p.starts.now p.bytes.now least };
 
     ghost after = { after_unit_mark };
 

@@ -7,8 +7,8 @@ ghost use Rattle.tal_image.specs.CodeReading.{AllPositive};
 ghost use Rattle.unit_files.specs.Unit.{function_parts, own_functions, kind_row};
 ghost use Rattle.unit_files.specs.Fields.{front_fields, table_fields, code_fields, unit_fields, FirstUnitFault};
 ghost use Rattle.unit_files.specs.Formed.{UnitOf};
-ghost use Rattle.unit_files.specs.CodeWords.{parts_of, code_parts_of};
-ghost use Rattle.unit_files.specs.UnitReading.{front_parts_of, table_parts_of};
+ghost use Rattle.unit_files.specs.CodeWords.{unit_code_of, unit_code_read};
+ghost use Rattle.unit_files.specs.UnitReading.{unit_front_of, table_parts_of};
 
 use crate::class_reader::classes;
 use crate::code_places::code_table;
@@ -71,7 +71,7 @@ impl Model for ReadRows {
 
 /// What stands before the classes.
 fn front_rows(alloc: Global, reader: &mut Reader<'_>) -> Result<FrontRows, ImageFault>
-    ensures gives { GivesView front_parts_of result (run front_fields reader.old.file.now reader.old.at) reader.new.at }
+    ensures gives { GivesView unit_front_of result (run front_fields reader.old.file.now reader.old.at) reader.new.at }
     ensures file { reader.new.file ≡ reader.old.file }
     ensures positive { IfOk result (λ rows. AllPositive (own_functions rows.functions.items)) }
 {
@@ -153,7 +153,7 @@ fn table_rows(
     reader: &mut Reader<'_>,
     front: &FrontRows,
 ) -> Result<TableRows, ImageFault>
-    ensures gives { GivesView table_parts_of result (run (table_fields (front_parts_of front.now)) reader.old.file.now reader.old.at) reader.new.at }
+    ensures gives { GivesView table_parts_of result (run (table_fields (unit_front_of front.now)) reader.old.file.now reader.old.at) reader.new.at }
     ensures file { reader.new.file ≡ reader.old.file }
 {
     let header = front.header;
@@ -202,11 +202,11 @@ fn code_rows(
     front: &FrontRows,
 ) -> Result<CodeRows, ImageFault>
     requires { AllPositive (own_functions front.now.functions.items) }
-    ensures gives { GivesView code_parts_of result (run (code_fields (front_parts_of front.now)) reader.old.file.now reader.old.at ▸ λ c. Ok (parts_of c.0, c.1)) reader.new.at }
+    ensures gives { GivesView unit_code_read result (run (code_fields (unit_front_of front.now)) reader.old.file.now reader.old.at ▸ λ c. Ok (unit_code_of c.0, c.1)) reader.new.at }
     ensures file { reader.new.file ≡ reader.old.file }
 {
     ia32_code::laws::decoded_law();
-    tal_image::laws::code_laws();
+    tal_image::laws::read_code_laws();
     are_bytes(reader.file);
     let header = front.header;
     let own = own_functions(alloc, &front.functions)?;

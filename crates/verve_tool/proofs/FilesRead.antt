@@ -9,7 +9,7 @@ use Rattle.device_model.specs.declared.events.EventFault.{EventFault}
 use Rattle.device_model.specs.declared.events.EventFault.TheVariants as event_fault
 use Rattle.tal_image.specs.Image.{ImageParts}
 use Rattle.tal_image.specs.Formed.{ImageOf}
-use Rattle.tal_image.specs.Laws.{OneMeaning}
+use Rattle.tal_image.specs.Laws.{OneImageMeaning}
 use Rattle.tal_image.specs.Fields.{FirstFault}
 use Rattle.file_fields.specs.declared.fault.ImageFault.{ImageFault}
 use Rattle.file_fields.specs.declared.fault.ImageFault.TheVariants as fault
@@ -75,24 +75,24 @@ held_stops before after name bytes rest (Err s) file h =
     (stops_by_bytes before after rest s h)
 
 -- told files hold one image
-same_image : OneMeaning → (files : FileMap) (name : List ℕ) (i j : ImageParts) → HoldsImage (Some files) name i → HoldsImage (Some files) name j → i ≡ j
+same_image : OneImageMeaning → (files : FileMap) (name : List ℕ) (i j : ImageParts) → HoldsImage (Some files) name i → HoldsImage (Some files) name j → i ≡ j
 same_image meaning files name i j a b = meaning.one_image b.bytes i j
     (subst (λ (x : List ℕ). ImageOf x i) (gives_one files name IMAGE_MOST a.bytes b.bytes a.file.read b.file.read) a.stands) b.stands
 
 -- a file for which an image stands is not malformed
-pub not_malformed : OneMeaning → (told : Option FileMap) (name : List ℕ) (image : ImageParts) → HoldsImage told name image → Fails told (Malformed name)
+pub not_malformed : OneImageMeaning → (told : Option FileMap) (name : List ℕ) (image : ImageParts) → HoldsImage told name image → Fails told (Malformed name)
 not_malformed meaning None name image held = tt
 not_malformed meaning (Some files) name image held = λ line h. meaning.not_both held.bytes image h.0 held.stands
     (subst (λ (b : List ℕ). FirstFault b h.0) (gives_one files name IMAGE_MOST h.1.bytes held.bytes h.1.file.read held.file.read) h.1.first)
 
 -- a file whose image is well typed is not ill typed
-not_ill_typed : OneMeaning → OneRefusal → (told : Option FileMap) (name : List ℕ) (image : ImageParts) → TypedImage told name image → Fails told (IllTyped name)
+not_ill_typed : OneImageMeaning → OneRefusal → (told : Option FileMap) (name : List ℕ) (image : ImageParts) → TypedImage told name image → Fails told (IllTyped name)
 not_ill_typed meaning refusal None name image t = tt
 not_ill_typed meaning refusal (Some files) name image t = λ line h. refusal.not_typed image h.0 h.1
     (subst (λ (i : ImageParts). FirstRefusal i h.0 h.1) (same_image meaning files name h.2.image image h.2.held t.held) h.2.refusal) t.well_typed
 
 -- a well typed image in a file stops nothing by itself
-pub typed_stops_none : OneMeaning → OneRefusal → (told : Option FileMap) (name : List ℕ) (image : ImageParts) → TypedImage told name image
+pub typed_stops_none : OneImageMeaning → OneRefusal → (told : Option FileMap) (name : List ℕ) (image : ImageParts) → TypedImage told name image
     → NoneHolds told (Malformed name ∷ IllTyped name ∷ [])
 typed_stops_none meaning refusal told name image t =
     (not_malformed meaning told name image t.held, (not_ill_typed meaning refusal told name image t, tt))
@@ -102,7 +102,7 @@ one-call : (first : Option ℕ) (offset : ℕ) → first ≡ None → first ≡ 
 one-call first offset none some = cc
 
 -- an image whose calls are built is not unbuilt
-pub not_unbuilt : OneMeaning → (told : Option FileMap) (name : List ℕ) (image : ImageParts) → TypedImage told name image → IsBuilt image
+pub not_unbuilt : OneImageMeaning → (told : Option FileMap) (name : List ℕ) (image : ImageParts) → TypedImage told name image → IsBuilt image
     → Fails told (Unbuilt name)
 not_unbuilt meaning None name image t built = tt
 not_unbuilt meaning (Some files) name image t built = λ line h. one-call (first_unbuilt_call image) h.1.offset built
@@ -115,7 +115,7 @@ not_bad_events either (Some files) name events held = λ line h. h.1.real (eithe
     (subst (λ (b : List ℕ). IsFirstFault b h.0) (gives_one files name EVENTS_MOST h.1.bytes held.bytes h.1.file.read held.file.read) h.1.first))
 
 -- nothing stops a command over files with which it does its work
-pub nothing_stops : OneMeaning → OneRefusal → ListOrFault → NothingStops
+pub nothing_stops : OneImageMeaning → OneRefusal → ListOrFault → NothingStops
 nothing_stops meaning refusal either told (Run run) (image, events, l) =
     let image_file = read_stops_none told run.image IMAGE_MOST l.typed.held.bytes l.typed.held.file in
     let event_file = read_stops_none told run.events EVENTS_MOST l.recorded.bytes l.recorded.file in
@@ -172,7 +172,7 @@ fault_stops told name bytes (fault.Bad at condition) file h =
     record { cause = Malformed name.now; first = record { comes = inl refl; holds = malformed told name.now bytes _ file (λ e. cc e) h }; status = refl }
 
 -- a refusal of the image stops a command
-pub answer_stops : OneMeaning → (told : Option FileMap) (name : List ℕ) (image : ImageParts) (a : CheckAnswer) → HoldsImage told name image
+pub answer_stops : OneImageMeaning → (told : Option FileMap) (name : List ℕ) (image : ImageParts) (a : CheckAnswer) → HoldsImage told name image
     → ((address rule : ℕ) → a ≡ answer.Refused address rule → FirstRefusal image address rule)
     → StopsBy told (Malformed name ∷ IllTyped name ∷ []) (stop_of_answer a)
 answer_stops meaning told name image answer.NoMemory held refused = tt
@@ -200,7 +200,7 @@ bad_events : (told : Option FileMap) (name : List ℕ) (bytes : List ℕ) (f : E
 bad_events told name bytes f file real first = (f, record { bytes = bytes; file = file; first = first; real = real }, refl)
 
 -- a fault of the event file stops a run
-pub event_fault_stops : OneMeaning → (told : Option FileMap) (name events : List ℕ) (image : ImageParts) (bytes : List ℕ) (f : EventFault)
+pub event_fault_stops : OneImageMeaning → (told : Option FileMap) (name events : List ℕ) (image : ImageParts) (bytes : List ℕ) (f : EventFault)
     → TypedImage told name image → IsBuilt image → FileRead told events EVENTS_MOST bytes → IsFirstFault bytes f
     → StopsBy told (Unbuilt name ∷ BadEvents events ∷ []) (stop_of_event_fault f)
 event_fault_stops meaning told name events image bytes event_fault.NoMemory typed built file first = tt
@@ -244,7 +244,7 @@ accept_stops_run before after run image_bytes event_bytes s image_file event_fil
     (Malformed run.image ∷ IllTyped run.image ∷ []) s none (stops_by_bytes before after (Malformed run.image ∷ IllTyped run.image ∷ []) s h))
 
 -- an accepted image of files that were read stops a run
-pub form_stops_run : OneMeaning → OneRefusal → (before after : FilesSeen) (run : RunWords) (image_bytes event_bytes : List ℕ) (image : ImageParts) (s : Stop)
+pub form_stops_run : OneImageMeaning → OneRefusal → (before after : FilesSeen) (run : RunWords) (image_bytes event_bytes : List ℕ) (image : ImageParts) (s : Stop)
     → FileRead before.told run.image IMAGE_MOST image_bytes → FileRead before.told run.events EVENTS_MOST event_bytes
     → ImageOf image_bytes image → WellTyped image
     → (TypedImage before.told run.image image → FileRead before.told run.events EVENTS_MOST event_bytes

@@ -12,7 +12,7 @@ use Rattle.tal_types.specs.declared.views.Span.{Span}
 use Rattle.object_layout.specs.Areas.{code_start}
 use Rattle.tal_image.specs.declared.image.Image.TheInside.{Inside}
 use Rattle.tal_image.specs.declared.parts.FunctionPart.{FunctionPart}
-use Rattle.tal_image.specs.Kept.{KeepsImage, IsAtKey, IsIndex, place_in, owners}
+use Rattle.tal_image.specs.Kept.{KeepsImage, IsAtKey, IsIndex, kept_place, owners}
 use Rattle.tal_image.specs.Shown.{spans, span_of, begun_by}
 use Rattle.tal_image.proofs.Finding.KeyedRows.{at-map}
 use Rattle.tal_image.proofs.Finding.Spans.{starts_after, ends_within, length-spans, span_of-missing}
@@ -22,7 +22,7 @@ abbrev Known : List ℕ → ℕ → ℕ → Option ℕ → Type 0
 Known xs i n at = MatchOption at ((j : ℕ) → j < i → get_or xs j 0 ≢ n) (λ j. (j < i) × (get_or xs j 0 ≡ n))
 
 abbrev pub Knows : List ℕ → ℕ → List ℕ → Type 0
-Knows xs i places = (n : ℕ) → Known xs i n (place_in places n)
+Knows xs i places = (n : ℕ) → Known xs i n (kept_place places n)
 
 -- one number more changes nothing elsewhere
 known_other : (xs : List ℕ) (i n : ℕ) (at : Option ℕ) → get_or xs i 0 ≢ n → Known xs i n at → Known xs (i + 1) n at
@@ -34,9 +34,9 @@ known_other xs i n None other missing = λ j before is. by_side j before is (cas
 known_other xs i n (Some j) other found = (omega (arith, found.0), found.1)
 
 -- a place in an index is told by what stands there
-place_in-is : (places others : List ℕ) (n : ℕ) → get_or others n 0 ≡ get_or places n 0 → place_in others n ≡ place_in places n
-unfolding place_in
-place_in-is places others n same = rw same refl
+kept_place-is : (places others : List ℕ) (n : ℕ) → get_or others n 0 ≡ get_or places n 0 → kept_place others n ≡ kept_place places n
+unfolding kept_place
+kept_place-is places others n same = rw same refl
 
 module _ (xs places filled : List ℕ) (i : ℕ) (long : length filled ≡ get_or xs i 0) (short : length places ≤ get_or xs i 0) (old : (n : ℕ) → n < length places → get_or filled n 0 ≡ get_or places n 0) (new : (n : ℕ) → length places ≤ n → n < get_or xs i 0 → get_or filled n 0 ≡ 0) where
   -- an index that was filled up to the next number, and has its place behind, is as before elsewhere
@@ -51,8 +51,8 @@ module _ (xs places filled : List ℕ) (i : ℕ) (long : length filled ≡ get_o
       get_or_past (filled ++ (i + 1) ∷ []) n 0 (omega (arith, many, long, other)) ∙ sym (get_or_past places n 0 (omega arith))
 
   -- and it has the place of the number
-  here : place_in (filled ++ (i + 1) ∷ []) (get_or xs i 0) ≡ Some i
-  unfolding place_in
+  here : kept_place (filled ++ (i + 1) ∷ []) (get_or xs i 0) ≡ Some i
+  unfolding kept_place
   here =
       let is : get_or (filled ++ (i + 1) ∷ []) (get_or xs i 0) 0 ≡ i + 1 = subst (λ k. get_or (filled ++ (i + 1) ∷ []) k 0 ≡ i + 1) long (get_or-append_seam filled (i + 1) [] 0) in
       let some : nat_lt 0 (i + 1) ≡ true = grind (arith, nat_tests) in
@@ -63,18 +63,18 @@ module _ (xs places filled : List ℕ) (i : ℕ) (long : length filled ≡ get_o
   pub known_more : Knows xs i places → Knows xs (i + 1) (filled ++ (i + 1) ∷ [])
   known_more known n = by_case (cases_eq (get_or xs i 0) n)
     where
-      by_case : (get_or xs i 0 ≡ n) ⊎ (get_or xs i 0 ≢ n) → Known xs (i + 1) n (place_in (filled ++ (i + 1) ∷ []) n)
-      by_case (inl is) = subst (λ k. Known xs (i + 1) k (place_in (filled ++ (i + 1) ∷ []) k)) is (rw here (omega arith, refl))
-      by_case (inr other) = rw (place_in-is places (filled ++ (i + 1) ∷ []) n (elsewhere n (cases_lt n (get_or xs i 0)) other)) (known_other xs i n (place_in places n) other (known n))
+      by_case : (get_or xs i 0 ≡ n) ⊎ (get_or xs i 0 ≢ n) → Known xs (i + 1) n (kept_place (filled ++ (i + 1) ∷ []) n)
+      by_case (inl is) = subst (λ k. Known xs (i + 1) k (kept_place (filled ++ (i + 1) ∷ []) k)) is (rw here (omega arith, refl))
+      by_case (inr other) = rw (kept_place-is places (filled ++ (i + 1) ∷ []) n (elsewhere n (cases_lt n (get_or xs i 0)) other)) (known_other xs i n (kept_place places n) other (known n))
 
 -- an index of no numbers
 pub known_none : (xs : List ℕ) → Knows xs 0 []
-unfolding place_in
+unfolding kept_place
 known_none xs n = λ j before. absurd (omega arith)
 
 -- an index of all numbers has the place of each
 pub known_all : (xs places : List ℕ) → Knows xs (length xs) places → IsIndex (λ (n : ℕ). n) xs places
-known_all xs places known = λ n. all n (place_in places n) (known n)
+known_all xs places known = λ n. all n (kept_place places n) (known n)
   where
     all : (n : ℕ) (at : Option ℕ) → Known xs (length xs) n at → IsAtKey (λ (n : ℕ). n) xs n at
     all n None missing = λ i d within is. missing i within (sym (get_or_default_zero xs i d within) ∙ is)
@@ -82,10 +82,10 @@ known_all xs places known = λ n. all n (place_in places n) (known n)
 
 -- an index of keys is one of the rows that have them
 pub index-map : {A : Type 0} (key : A → ℕ) (xs : List A) (keys places : List ℕ) → keys ≡ map key xs → IsIndex (λ (n : ℕ). n) keys places → IsIndex key xs places
-index-map key xs keys places are index n = at-map key xs n (place_in places n) (subst (λ l. IsAtKey (λ (m : ℕ). m) l n (place_in places n)) are (index n))
+index-map key xs keys places are index n = at-map key xs n (kept_place places n) (subst (λ l. IsAtKey (λ (m : ℕ). m) l n (kept_place places n)) are (index n))
 
 -- what is found in an index stands where the number is the key
-pub index-at : {A : Type 0} (key : A → ℕ) (xs : List A) (places : List ℕ) (n : ℕ) (at : Option ℕ) → IsIndex key xs places → at ≡ place_in places n → IsAtKey key xs n at
+pub index-at : {A : Type 0} (key : A → ℕ) (xs : List A) (places : List ℕ) (n : ℕ) (at : Option ℕ) → IsIndex key xs places → at ≡ kept_place places n → IsAtKey key xs n at
 index-at key xs places n at index is = subst (IsAtKey key xs n) (sym is) (index n)
 
 -- the owners of the bytes so far and of those still to come, one function on

@@ -6,9 +6,9 @@ use Rattle.file_fields.specs.declared.fault.ImageFault.{ImageFault}
 use Rattle.file_fields.specs.declared.fault.ImageFault.TheVariants.{NoMemory}
 use Rattle.tal_image.specs.Image.{ImageParts, FileOf, numbers, header, sig_bytes, function_bytes, class_bytes, kind_bytes, field_bytes, array_bytes, block_bytes, mark_bytes}
 use Rattle.tal_image.specs.Formed.{ImageOf}
-use Rattle.tal_image.specs.Laws.{OneMeaning, FirstFault}
+use Rattle.tal_image.specs.Laws.{OneImageMeaning, FirstFault}
 
-module _ (law : OneMeaning) (bytes : List ℕ) where
+module _ (law : OneImageMeaning) (bytes : List ℕ) where
   -- where bytes stand for an image, the answer is that image or want of memory
   pub whole : (r : Result ImageParts ImageFault) → IfOk r (λ i. ImageOf bytes i) → IfErr r (λ e. (e ≡ NoMemory) ⊎ FirstFault bytes e) → (i : ImageParts) → ImageOf bytes i → MatchResult r (λ j. j ≡ i) (λ e. e ≡ NoMemory)
   whole (Ok j) ok fault i is = law.one_image bytes j i ok is

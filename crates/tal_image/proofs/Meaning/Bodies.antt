@@ -10,7 +10,7 @@ use Rattle.tal_image.specs.Conditions.{Tables, Spelled}
 use Rattle.file_fields.specs.Grammar.{Grammar, done, then_with, Field, Chunk, Instruction, fields_text, Sound}
 use Rattle.file_fields.specs.Parts.{Means}
 use Rattle.file_fields.specs.Composed.{at_end, split, join, texts}
-use Rattle.tal_image.specs.Fields.{instructions, bodies, all_instructions, code_bytes, after_function}
+use Rattle.tal_image.specs.Fields.{function_instructions, bodies, all_instructions, code_bytes, after_function}
 use Rattle.tal_image.specs.Formed.{IsBody, AreBodies, EachAfter, IsFunction}
 
 -- the bytes of the instructions of functions
@@ -23,8 +23,8 @@ SomeText = (text : List ℕ) (i : Inst) → Spells text i → 0 < length text
 
 module _ (some : SomeText) where
   -- the instructions of one function are sound fields
-  body_whole : (n room : ℕ) → room ≤ n → (xs : List Spelled) → IsBody room xs → (fs : List Field) × Sound (instructions n room) fs (done xs) × (fields_text fs ≡ code_bytes xs)
-  unfolding instructions
+  body_whole : (n room : ℕ) → room ≤ n → (xs : List Spelled) → IsBody room xs → (fs : List Field) × Sound (function_instructions n room) fs (done xs) × (fields_text fs ≡ code_bytes xs)
+  unfolding function_instructions
   body_whole zero room le [] h = ([], refl, refl)
   body_whole zero room le (x ∷ xs) h = let pos = h.0 in absurd (omega arith)
   body_whole (suc n) zero le [] h = ([], refl, refl)
@@ -33,15 +33,15 @@ module _ (some : SomeText) where
   body_whole (suc n) (suc r) le (x ∷ xs) h =
       let pos = some x.text x.means h.1 in
       let k = body_whole n (suc r - length x.text) (omega arith) xs h.3 in
-      let rest = join (instructions n (suc r - length x.text)) (λ more. done (x ∷ more)) k.0 [] xs (done (x ∷ xs)) k.1 refl in (
+      let rest = join (function_instructions n (suc r - length x.text)) (λ more. done (x ∷ more)) k.0 [] xs (done (x ∷ xs)) k.1 refl in (
         Instruction x.text x.means ∷ (k.0 ++ []),
-        (then_with (instructions n (suc r - length x.text)) (λ more. done (x ∷ more)), (h.1, h.2, refl), rest),
+        (then_with (function_instructions n (suc r - length x.text)) (λ more. done (x ∷ more)), (h.1, h.2, refl), rest),
         ap (λ (t : List ℕ). x.text ++ t) (ap fields_text (append-nil k.0) ∙ k.2),
       )
 
   -- sound fields are the instructions of one function
-  body_back : (n room : ℕ) → room ≤ n → (fs : List Field) (xs : List Spelled) → Sound (instructions n room) fs (done xs) → IsBody room xs × (fields_text fs ≡ code_bytes xs)
-  unfolding instructions
+  body_back : (n room : ℕ) → room ≤ n → (fs : List Field) (xs : List Spelled) → Sound (function_instructions n room) fs (done xs) → IsBody room xs × (fields_text fs ≡ code_bytes xs)
+  unfolding function_instructions
   body_back zero room le fs xs s =
       let k = at_end [] xs fs s in
       let none : room ≡ 0 = omega arith in
@@ -54,7 +54,7 @@ module _ (some : SomeText) where
   body_back (suc n) (suc r) le (Instruction text i ∷ fs) xs s =
       let x : Spelled = record { text = text; means = i } in
       let pos = some text i s.1.0 in
-      let g = instructions n (suc r - length text) in
+      let g = function_instructions n (suc r - length text) in
       let a = split g (λ more. done (x ∷ more)) fs xs (subst (λ (z : Grammar (List Spelled)). Sound z fs (done xs)) s.1.2 s.2) in
       let k = at_end (x ∷ a.value) xs a.second a.more in
       let more = body_back n (suc r - length text) (omega arith) a.first a.value a.one in
@@ -72,7 +72,7 @@ module _ (some : SomeText) where
       let one = body_whole f.length f.length (omega arith) x h.0 in
       let more = bodies_whole functions xs h.1 in
       let rest = join (bodies functions) (λ ys. done (x ∷ ys)) more.0 [] xs (done (x ∷ xs)) more.1 refl in
-      let all = join (instructions f.length f.length) (λ z. then_with (bodies functions) (λ ys. done (z ∷ ys))) one.0 (more.0 ++ []) x (done (x ∷ xs)) one.1 rest in
+      let all = join (function_instructions f.length f.length) (λ z. then_with (bodies functions) (λ ys. done (z ∷ ys))) one.0 (more.0 ++ []) x (done (x ∷ xs)) one.1 rest in
       (one.0 ++ (more.0 ++ []), all, texts one.0 (more.0 ++ []) (code_bytes x) (code_bytes (all_instructions xs)) one.2 (ap fields_text (append-nil more.0) ∙ more.2) ∙ sym (joined_bytes x xs))
 
   -- sound fields are those of all functions
@@ -82,7 +82,7 @@ module _ (some : SomeText) where
       let k = at_end [] xs fs s in
       subst (λ (z : List (List Spelled)). AreBodies [] z × (fields_text fs ≡ code_bytes (all_instructions z))) k.1 (tt, ap fields_text k.0)
   bodies_back (f ∷ functions) fs xs s =
-      let a = split (instructions f.length f.length) (λ z. then_with (bodies functions) (λ ys. done (z ∷ ys))) fs xs s in
+      let a = split (function_instructions f.length f.length) (λ z. then_with (bodies functions) (λ ys. done (z ∷ ys))) fs xs s in
       let b = split (bodies functions) (λ ys. done (a.value ∷ ys)) a.second xs a.more in
       let k = at_end (a.value ∷ b.value) xs b.second b.more in
       let one = body_back f.length f.length (omega arith) a.first a.value a.one in

@@ -13,7 +13,7 @@ use Rattle.tal_image.specs.Image.{ArrayPart, type_tag, magic_number}
 use Rattle.tal_image.specs.Conditions.{Tables, class_view, inherited_methods, length_fits, entry_fits, numbers_given, part_numbers, with_array, block_fits, between}
 use Rattle.file_fields.specs.Grammar.{done, checked, each, then_with, many, bytes_number}
 use Rattle.file_fields.specs.Reach.{Most, MostAny, most_then, most_next, most_last, most_many, most_each}
-use Rattle.tal_image.specs.Fields.{type_field, field_type_field, sig_fields, function_where, function_fields, after_function, method_list, class_fields, kind_fields, array_where, array_fields, block_where, mark_where, instructions, bodies, all_instructions, tables_of, header_where, header_fields, sigs_part, functions_part, entries_part, classes_part, kinds_part, statics_part, arrays_part, blocks_part, marks_part, coded_fields, image_fields}
+use Rattle.tal_image.specs.Fields.{type_field, field_type_field, sig_fields, function_where, function_fields, after_function, method_list, class_fields, kind_fields, array_where, array_fields, block_where, mark_where, function_instructions, bodies, all_instructions, tables_of, header_where, header_fields, sigs_part, functions_part, entries_part, classes_part, kinds_part, statics_part, arrays_part, blocks_part, marks_part, coded_fields, image_fields}
 use Rattle.tal_image.proofs.Reading.Lengths.{code_length}
 use Rattle.tal_image.specs.Formed.{IsHeader}
 use Rattle.tal_image.specs.Rows.{RowReaches}
@@ -183,20 +183,20 @@ mark_most place word = (8, omega arith, λ offset placed. (0, omega arith, λ bo
 -- ---- the code
 
 -- the instructions of so many bytes
-instructions_most : (n room : ℕ) → MostAny (instructions n room) room
-unfolding instructions then_with
+instructions_most : (n room : ℕ) → MostAny (function_instructions n room) room
+unfolding function_instructions then_with
 instructions_most zero room = tt
 instructions_most (suc n) zero = tt
 instructions_most (suc n) (suc r) = λ text i fit.
     let left = suc r - length text in
-    (left, omega arith, most_last (instructions n left) (λ more. record { text = text; means = i } ∷ more) left (instructions_most n left))
+    (left, omega arith, most_last (function_instructions n left) (λ more. record { text = text; means = i } ∷ more) left (instructions_most n left))
 
 -- those of all functions
 bodies_most : (functions : List FunctionPart) → MostAny (bodies functions) (code_length functions)
 unfolding bodies code_length then_with
 bodies_most [] = tt
 bodies_most (f ∷ functions) =
-    most_next (instructions f.length f.length) _ f.length (code_length functions) (f.length + code_length functions) (omega arith) (instructions_most f.length f.length) (λ body.
+    most_next (function_instructions f.length f.length) _ f.length (code_length functions) (f.length + code_length functions) (omega arith) (instructions_most f.length f.length) (λ body.
     most_last (bodies functions) (λ more. body ∷ more) (code_length functions) (bodies_most functions))
 
 -- the same, by a sum

@@ -13,7 +13,7 @@ use Rattle.file_fields.specs.declared.fault.ImageFault.TheVariants.{Short, Bad}
 use Rattle.tal_image.specs.Conditions.{Spelled}
 use Rattle.file_fields.specs.Grammar.{done, then_with}
 use Rattle.tal_image.specs.declared.parts.FunctionPart.{FunctionPart}
-use Rattle.tal_image.specs.Fields.{instructions, bodies, all_instructions}
+use Rattle.tal_image.specs.Fields.{function_instructions, bodies, all_instructions}
 use Rattle.file_fields.specs.Reading.{◌▸◌, after_decoding, run}
 use Rattle.tal_image.specs.declared.start.Start.{Start}
 use Rattle.tal_image.specs.declared.start.Start.TheVariants.{Nothing}
@@ -37,7 +37,7 @@ pub record BodyLeft (begun starts : List Start) (left : ℕ) (file : List ℕ) (
   pub fuel : ℕ
   pub front : List Spelled
   pub enough : left ≤ fuel
-  pub read : with_front front (run (instructions fuel left) file at) ≡ total
+  pub read : with_front front (run (function_instructions fuel left) file at) ≡ total
   pub marked : starts ≡ begun ++ instruction_starts front
 
 -- at first nothing is read
@@ -46,16 +46,16 @@ bind_ok (Ok x) = refl
 bind_ok (Err e) = refl
 
 -- at first all is left
-pub body_begins : (begun : List Start) (n : ℕ) (file : List ℕ) (at : ℕ) → BodyLeft begun begun n file at (run (instructions n n) file at)
-body_begins begun n file at = record { fuel = n; front = []; enough = omega arith; read = bind_ok (run (instructions n n) file at); marked = sym (append-nil begun) }
+pub body_begins : (begun : List Start) (n : ℕ) (file : List ℕ) (at : ℕ) → BodyLeft begun begun n file at (run (function_instructions n n) file at)
+body_begins begun n file at = record { fuel = n; front = []; enough = omega arith; read = bind_ok (run (function_instructions n n) file at); marked = sym (append-nil begun) }
 
 -- the instructions from one on
 abbrev after_one : ℕ → ℕ → List ℕ → ℕ → ℕ → Inst → Result (List Spelled × ℕ) ImageFault
-after_one n room file at len i = run (then_with (instructions n (room - length (take len (drop at file)))) (λ more. done (record { text = take len (drop at file); means = i } ∷ more))) file (at + len)
+after_one n room file at len i = run (then_with (function_instructions n (room - length (take len (drop at file)))) (λ more. done (record { text = take len (drop at file); means = i } ∷ more))) file (at + len)
 
 -- where an instruction must come, the answer to the bytes decides
-one_more : (n r : ℕ) (file : List ℕ) (at : ℕ) (d : Decoded) → d ≡ decoded (drop at file) → run (instructions (suc n) (suc r)) file at ≡ after_decoding d (after_one n (suc r) file at) (suc r) at (length file)
-unfolding instructions
+one_more : (n r : ℕ) (file : List ℕ) (at : ℕ) (d : Decoded) → d ≡ decoded (drop at file) → run (function_instructions (suc n) (suc r)) file at ≡ after_decoding d (after_one n (suc r) file at) (suc r) at (length file)
+unfolding function_instructions
 one_more n r file at d e = ap (λ (z : Decoded). after_decoding z (after_one n (suc r) file at) (suc r) at (length file)) (sym e)
 
 -- a test that holds lets through
@@ -80,20 +80,20 @@ module _ (begun starts : List Start) (left : ℕ) (file : List ℕ) (at : ℕ) (
       x : Spelled
       x = record { text = take len (drop at file); means = i }
 
-      go : (room fuel : ℕ) → 0 < room → room ≤ fuel → len ≤ room → with_front b.front (run (instructions fuel room) file at) ≡ total → BodyLeft begun (starts ++ headed (start_of i) Nothing len) (room - len) file (at + len) total
+      go : (room fuel : ℕ) → 0 < room → room ≤ fuel → len ≤ room → with_front b.front (run (function_instructions fuel room) file at) ≡ total → BodyLeft begun (starts ++ headed (start_of i) Nothing len) (room - len) file (at + len) total
       go zero fuel h k f r = absurd (omega arith)
       go (suc m) zero h k f r = absurd (omega arith)
       go (suc m) (suc n) h k f r =
           let l = length-take-le len (drop at file) within in
-          let step : run (instructions (suc n) (suc m)) file at ≡ (run (instructions n (suc m - len)) file (at + len) ▸ λ z. Ok (x ∷ z.0, z.1)) =
+          let step : run (function_instructions (suc n) (suc m)) file at ≡ (run (function_instructions n (suc m - len)) file (at + len) ▸ λ z. Ok (x ∷ z.0, z.1)) =
           one_more n m file at (answer.One i len) e ∙ passes len (suc m) (after_one n (suc m) file at len i) (Err (Bad at 23)) f
-          ∙ run-then_with (instructions n (suc m - length (take len (drop at file)))) (λ more. done (x ∷ more)) file (at + len)
-          ∙ ap (λ (z : ℕ). run (instructions n (suc m - z)) file (at + len) ▸ λ y. Ok (x ∷ y.0, y.1)) l in
+          ∙ run-then_with (function_instructions n (suc m - length (take len (drop at file)))) (λ more. done (x ∷ more)) file (at + len)
+          ∙ ap (λ (z : ℕ). run (function_instructions n (suc m - z)) file (at + len) ▸ λ y. Ok (x ∷ y.0, y.1)) l in
           record {
             fuel = n;
             front = b.front ++ x ∷ [];
             enough = omega arith;
-            read = sym (regroup b.front x (run (instructions n (suc m - len)) file (at + len))) ∙ ap (with_front b.front) (sym step) ∙ r;
+            read = sym (regroup b.front x (run (function_instructions n (suc m - len)) file (at + len))) ∙ ap (with_front b.front) (sym step) ∙ r;
             marked = ap (λ (z : List Start). z ++ headed (start_of i) Nothing len) b.marked ∙ one_marked begun b.front x len l;
           }
 
@@ -102,7 +102,7 @@ module _ (begun starts : List Start) (left : ℕ) (file : List ℕ) (at : ℕ) (
       → ((n room : ℕ) → left ≡ room → after_decoding d (after_one n room file at) room at (length file) ≡ Err f) → starts_behind begun total ≡ Err f
   stopped d f some e h = ap (starts_behind begun) (go left b.fuel some b.enough refl b.read)
     where
-      go : (room fuel : ℕ) → 0 < room → room ≤ fuel → left ≡ room → with_front b.front (run (instructions fuel room) file at) ≡ total → total ≡ Err f
+      go : (room fuel : ℕ) → 0 < room → room ≤ fuel → left ≡ room → with_front b.front (run (function_instructions fuel room) file at) ≡ total → total ≡ Err f
       go zero fuel p k q r = absurd (omega arith)
       go (suc m) zero p k q r = absurd (omega arith)
       go (suc m) (suc n) p k q r = sym r ∙ ap (with_front b.front) (one_more n m file at d e ∙ h n (suc m) q)
@@ -121,18 +121,18 @@ module _ (begun starts : List Start) (left : ℕ) (file : List ℕ) (at : ℕ) (
 
   -- all is read
   pub body_done : left ≡ 0 → starts_behind begun total ≡ Ok (starts, at)
-  unfolding instructions
+  unfolding function_instructions
   body_done none = ap (starts_behind begun) all ∙ ap (λ (z : List Start). let r : Result (List Start × ℕ) ImageFault = Ok (z, at) in r) (sym b.marked)
     where
       end : with_front b.front (Ok ([], at)) ≡ Ok (b.front, at)
       end = ap (λ (z : List Spelled). let r : Result (List Spelled × ℕ) ImageFault = Ok (z, at) in r) (append-nil b.front)
 
-      go : (fuel : ℕ) → with_front b.front (run (instructions fuel 0) file at) ≡ Ok (b.front, at)
+      go : (fuel : ℕ) → with_front b.front (run (function_instructions fuel 0) file at) ≡ Ok (b.front, at)
       go zero = end
       go (suc n) = end
 
       all : total ≡ Ok (b.front, at)
-      all = sym b.read ∙ subst (λ (z : ℕ). with_front b.front (run (instructions b.fuel z) file at) ≡ Ok (b.front, at)) (sym none) (go b.fuel)
+      all = sym b.read ∙ subst (λ (z : ℕ). with_front b.front (run (function_instructions b.fuel z) file at) ≡ Ok (b.front, at)) (sym none) (go b.fuel)
 
 -- ---- the instructions of functions
 
@@ -148,7 +148,7 @@ module _ (begun : List Start) (f : FunctionPart) (functions : List FunctionPart)
   one_function : bodies_at (f ∷ functions) file at ≡ (body_at f.length file at ▸ λ b. bodies_at functions file b.1 ▸ λ xs. Ok (b.0 ++ xs.0, xs.1))
   unfolding bodies
   one_function =
-      ap (λ r. r ▸ λ x. Ok (all_instructions x.0, x.1)) (run-then_with (instructions f.length f.length) (λ body. then_with (bodies functions) (λ more. done (body ∷ more))) file at)
+      ap (λ r. r ▸ λ x. Ok (all_instructions x.0, x.1)) (run-then_with (function_instructions f.length f.length) (λ body. then_with (bodies functions) (λ more. done (body ∷ more))) file at)
       ∙ bind_then (body_at f.length file at) _ _
       ∙ same_bind (body_at f.length file at) _ _ (λ b.
       ap (λ r. r ▸ λ x. Ok (all_instructions x.0, x.1)) (run-then_with (bodies functions) (λ more. done (b.0 ∷ more)) file b.1)

@@ -14,11 +14,11 @@ use Rattle.file_fields.specs.declared.fault.ImageFault.TheVariants.{Bad}
 use Rattle.tal_image.specs.declared.parts.FunctionPart.{FunctionPart}
 use Rattle.tal_image.specs.Conditions.{Spelled, begins_at, function_begins, block_fits, mark_fits, marked_number_at, marked_number}
 use Rattle.file_fields.specs.Grammar.{done, then_with, AreBytes}
-use Rattle.tal_image.specs.Fields.{instructions, bodies, all_instructions, code_bytes}
+use Rattle.tal_image.specs.Fields.{function_instructions, bodies, all_instructions, code_bytes}
 use Rattle.file_fields.specs.Reading.{after_decoding, run}
 use Rattle.tal_image.specs.declared.start.Start.{Start}
 use Rattle.tal_image.specs.declared.start.Start.TheVariants.{Nothing}
-use Rattle.tal_image.specs.CodeReading.{headed, start_with, start_of, start_at, is_start, start_number, instruction_starts, function_starts, starts_at, place_fits, offset_fits, AllPositive, StandAt, CodeLaws}
+use Rattle.tal_image.specs.CodeReading.{headed, start_with, start_of, start_at, is_start, start_number, instruction_starts, function_starts, starts_at, place_fits, offset_fits, AllPositive, StandAt, ReadCodeLaws}
 use Rattle.tal_image.proofs.Meaning.Bodies.{joined_bytes}
 use Rattle.file_fields.specs.Composed.{run-then_with}
 use Rattle.tal_image.proofs.Reading.Limits.{bind_inverse, ok_pair}
@@ -60,16 +60,16 @@ module _ (law : DecodedLaw) (file : List ℕ) (fits : AreBytes file) where
 
   -- one instruction, then others
   one_more : (n r at : ℕ) (xs : List Spelled) (end : ℕ) (d : Decoded) → decoded (drop at file) ≡ d → Answers (drop at file) d
-      → after_decoding d (λ len i. run (then_with (instructions n (suc r - length (take len (drop at file)))) (λ more. done (record { text = take len (drop at file); means = i } ∷ more))) file (at + len)) (suc r) at (length file) ≡ Ok (xs, end)
-      → ((room next : ℕ) (ys : List Spelled) (last : ℕ) → run (instructions n room) file next ≡ Ok (ys, last) → Read_to file next ys last) → Read_to file at xs end
+      → after_decoding d (λ len i. run (then_with (function_instructions n (suc r - length (take len (drop at file)))) (λ more. done (record { text = take len (drop at file); means = i } ∷ more))) file (at + len)) (suc r) at (length file) ≡ Ok (xs, end)
+      → ((room next : ℕ) (ys : List Spelled) (last : ℕ) → run (function_instructions n room) file next ≡ Ok (ys, last) → Read_to file next ys last) → Read_to file at xs end
   one_more n r at xs end answer.Short de a e more = absurd cc
   one_more n r at xs end answer.Unknown de a e more = absurd cc
   one_more n r at xs end (answer.One i len) de a e more =
       let text = take len (drop at file) in
       let s : Spelled = record { text = text; means = i } in
       let l = length-take-le len (drop at file) a.1 in
-      let inner = passed (nat_le len (suc r)) (run (then_with (instructions n (suc r - length text)) (λ ys. done (s ∷ ys))) file (at + len)) (Bad at 23) (xs, end) e in
-      let bound = bind_inverse (run (instructions n (suc r - length text)) file (at + len)) (λ x. Ok (s ∷ x.0, x.1)) (xs, end) (sym (run-then_with (instructions n (suc r - length text)) (λ ys. done (s ∷ ys)) file (at + len)) ∙ inner) in
+      let inner = passed (nat_le len (suc r)) (run (then_with (function_instructions n (suc r - length text)) (λ ys. done (s ∷ ys))) file (at + len)) (Bad at 23) (xs, end) e in
+      let bound = bind_inverse (run (function_instructions n (suc r - length text)) file (at + len)) (λ x. Ok (s ∷ x.0, x.1)) (xs, end) (sym (run-then_with (function_instructions n (suc r - length text)) (λ ys. done (s ∷ ys)) file (at + len)) ∙ inner) in
       let rest = more (suc r - length text) (at + len) bound.0.0 bound.0.1 bound.1 in
       let k = ok_pair (s ∷ bound.0.0) xs bound.0.1 end bound.2 in
       let place : at + len ≡ at + length text = omega arith in
@@ -86,8 +86,8 @@ module _ (law : DecodedLaw) (file : List ℕ) (fits : AreBytes file) where
       )
 
   -- the instructions of one function
-  instructions_stand : (n room at : ℕ) (xs : List Spelled) (end : ℕ) → run (instructions n room) file at ≡ Ok (xs, end) → Read_to file at xs end
-  unfolding instructions
+  instructions_stand : (n room at : ℕ) (xs : List Spelled) (end : ℕ) → run (function_instructions n room) file at ≡ Ok (xs, end) → Read_to file at xs end
+  unfolding function_instructions
   instructions_stand zero room at xs end e = nothing at xs end e
   instructions_stand (suc n) zero at xs end e = nothing at xs end e
   instructions_stand (suc n) (suc r) at xs end e =
@@ -101,7 +101,7 @@ module _ (law : DecodedLaw) (file : List ℕ) (fits : AreBytes file) where
       let p : end ≡ at + 0 = let q = k.1 in omega arith in
       subst (λ (z : List (List Spelled)). Read_to file at (all_instructions z) end) k.0 (tt, p)
   bodies_stand (f ∷ functions) at xs end e =
-      let one = bind_inverse (run (instructions f.length f.length) file at) (λ x. run (then_with (bodies functions) (λ more. done (x.0 ∷ more))) file x.1) (xs, end) (sym (run-then_with (instructions f.length f.length) (λ body. then_with (bodies functions) (λ more. done (body ∷ more))) file at) ∙ e) in
+      let one = bind_inverse (run (function_instructions f.length f.length) file at) (λ x. run (then_with (bodies functions) (λ more. done (x.0 ∷ more))) file x.1) (xs, end) (sym (run-then_with (function_instructions f.length f.length) (λ body. then_with (bodies functions) (λ more. done (body ∷ more))) file at) ∙ e) in
       let body = one.0 in
       let two = bind_inverse (run (bodies functions) file body.1) (λ x. Ok (body.0 ∷ x.0, x.1)) (xs, end) (sym (run-then_with (bodies functions) (λ more. done (body.0 ∷ more)) file body.1) ∙ one.2) in
       let first = instructions_stand f.length f.length at body.0 body.1 one.1 in
@@ -288,8 +288,8 @@ unfolding mark_fits offset_fits
 mark_same file at code h least n = ap (λ (o : Option ℕ). nat_le least n && is_some o) (number_same file at code h n)
 
 -- all of it
-pub code_laws : DecodedLaw → CodeLaws
-code_laws law = record {
+pub read_code_laws : DecodedLaw → ReadCodeLaws
+read_code_laws law = record {
   stand = bodies_stand law;
   bytes = bytes_are;
   block = block_same;

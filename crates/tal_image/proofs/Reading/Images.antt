@@ -22,7 +22,7 @@ use Rattle.tal_image.specs.Fields.{block_where, mark_where, tables_of, header_fi
 use Rattle.tal_image.specs.CodeReading.{instruction_starts, function_starts, starts_behind, code_at, place_fits, start_at, start_number, offset_fits, mark_word_by, mark_says, AllPositive}
 use Rattle.tal_image.specs.ImageReading.{FrontParts, CodeParts, image_from, front_at, behind_at, image_at}
 use Rattle.tal_image.proofs.Reading.Limits.{functions_fit}
-use Rattle.tal_image.proofs.Reading.Code.{code_laws}
+use Rattle.tal_image.proofs.Reading.Code.{read_code_laws}
 
 -- ---- marks
 
@@ -157,7 +157,7 @@ module _ (law : DecodedLaw) (file : List ℕ) (fits : AreBytes file) (h : Header
       code_step functions _ _ (behind_front tables) file at (λ code e.
       let all = all_instructions code.0 in
       let begun = instruction_starts all in
-      let laws = code_laws law in
+      let laws = read_code_laws law in
       let stand = laws.stand file fits functions at code.0 code.1 e in
       step (blocks_part h functions all) _ _ _ (behind_front tables) file code.1
       (blocks_run h functions all begun file code.1 (laws.block file at all stand.0 functions positive)) (λ blocks eb.

@@ -8,7 +8,7 @@ use Rattle.tal_image.specs.declared.parts.FunctionPart.{FunctionPart}
 use Rattle.tal_image.specs.Image.{ArrayPart}
 use Rattle.tal_image.specs.Conditions.{Tables, where_given, between, length_fits, part_length_fits, sig_fits, kind_fits, array_fits, with_array, numbers_given}
 use Rattle.file_fields.specs.Grammar.{Grammar, checked, each, many}
-use Rattle.file_fields.specs.Reading.{◌▸◌, word_at, run}
+use Rattle.file_fields.specs.Reading.{◌▸◌, any_number_at, run}
 use Rattle.file_fields.specs.Composed.{checked_run, many_run}
 use Rattle.tal_image.specs.Fields.{any_number, function_fields, array_fields, after_function}
 use Rattle.tal_image.specs.CodeReading.{AllPositive}
@@ -36,7 +36,7 @@ passed false r f y e = absurd cc
 -- a number that was read met its condition
 checked_met : (ok : ℕ → Bool) (condition : ℕ) (file : List ℕ) (at : ℕ) (n : ℕ × ℕ) → run (checked ok condition) file at ≡ Ok n → ok n.0 ≡ true
 checked_met ok condition file at n e =
-    let one = bind_inverse (word_at file at) _ n (sym (checked_run ok condition file at) ∙ e) in
+    let one = bind_inverse (any_number_at file at) _ n (sym (checked_run ok condition file at) ∙ e) in
     let two = passed (ok one.0.0) (Ok one.0) (Bad at condition) n one.2 in
     subst (λ (z : ℕ × ℕ). ok z.0 ≡ true) (ok_same one.0 n two.1) two.0
 
@@ -68,9 +68,9 @@ part_fits false later left n h = grind (arith, nat_tests)
 function_fits : (t : Tables) (later left : ℕ) (file : List ℕ) (at : ℕ) (f : FunctionPart × ℕ)
     → run (function_fields t later left) file at ≡ Ok f → (0 < f.0.length) × (f.0.length ≤ left)
 function_fits t later left file at f e =
-    let one = bind_inverse (word_at file at) _ f (sym (function_run t (length_fits later left) file at) ∙ e) in
+    let one = bind_inverse (any_number_at file at) _ f (sym (function_run t (length_fits later left) file at) ∙ e) in
     let met = passed (length_fits later left one.0.0) _ (Bad at 13) f one.2 in
-    let two = bind_inverse (word_at file one.0.1) _ f met.1 in
+    let two = bind_inverse (any_number_at file one.0.1) _ f met.1 in
     let last = passed (sig_fits t two.0.0) _ (Bad one.0.1 14) f two.2 in
     let same : one.0.0 ≡ f.0.length = ap (λ (z : FunctionPart × ℕ). z.0.length) (ok_same _ f last.1) in
     let test = met.0 in

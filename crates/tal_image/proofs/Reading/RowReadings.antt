@@ -5,7 +5,7 @@ use Rattle.tal_types.specs.declared.types.Ty.{Ty}
 use Rattle.file_fields.specs.declared.fault.ImageFault.{ImageFault}
 use Rattle.file_fields.specs.declared.fault.ImageFault.TheVariants.{Magic, Version, Bad}
 use Rattle.file_fields.specs.Grammar.{Grammar, done, field, checked, each, then_with}
-use Rattle.file_fields.specs.Reading.{◌▸◌, word_at, pair_at, run}
+use Rattle.file_fields.specs.Reading.{◌▸◌, any_number_at, pair_at, run}
 use Rattle.file_fields.specs.Composed.{bind_then, same_bind, run-then_with, then_run, number_run, pair_run, many_run}
 use Rattle.tal_image.specs.declared.parts.Header.{Header}
 use Rattle.tal_image.specs.Conditions.{Tables, between, where_given, heap_fits, type_fits, is_field_tag, sig_fits, kind_fits, array_fits}
@@ -14,11 +14,11 @@ use Rattle.tal_image.specs.Fields.{header_where, type_with, type_field, field_ty
 -- a number, and what is read then
 pub number_then : {B : Type 0} (ok : ℕ → Bool) (fault : ℕ → ImageFault) (file : List ℕ) (at : ℕ) (f : ℕ → Grammar B) (more : ℕ × ℕ → Result (B × ℕ) ImageFault)
     → ((n : ℕ × ℕ) → run (f n.0) file n.1 ≡ more n)
-    → run (then_with (field ok fault) f) file at ≡ (word_at file at ▸ λ n. cond (ok n.0) (more n) (Err (fault at)))
+    → run (then_with (field ok fault) f) file at ≡ (any_number_at file at ▸ λ n. cond (ok n.0) (more n) (Err (fault at)))
 unfolding then_with
 number_then {B} ok fault file at f more same =
     number_run ok fault f file at
-    ∙ same_bind (word_at file at) _ _ (λ n. ap (λ (r : Result (B × ℕ) ImageFault). cond (ok n.0) r (Err (fault at))) (same n))
+    ∙ same_bind (any_number_at file at) _ _ (λ n. ap (λ (r : Result (B × ℕ) ImageFault). cond (ok n.0) r (Err (fault at))) (same n))
 
 -- a type
 pub type_run : (t : Tables) (file : List ℕ) (at : ℕ)
@@ -80,8 +80,8 @@ kind_run t file at = run-then_with (field_type_field t) _ file at
 -- a function
 pub function_run : (t : Tables) (long : ℕ → Bool) (file : List ℕ) (at : ℕ)
     → run (function_where t long) file at
-    ≡ (word_at file at ▸ λ len. cond (long len.0)
-    (word_at file len.1 ▸ λ sig. cond (sig_fits t sig.0) (Ok (record { length = len.0; sig = sig.0 }, sig.1)) (Err (Bad len.1 14)))
+    ≡ (any_number_at file at ▸ λ len. cond (long len.0)
+    (any_number_at file len.1 ▸ λ sig. cond (sig_fits t sig.0) (Ok (record { length = len.0; sig = sig.0 }, sig.1)) (Err (Bad len.1 14)))
     (Err (Bad at 13)))
 unfolding function_where
 function_run t long file at =

@@ -18,7 +18,7 @@ use Rattle.tal_image.specs.Conditions.{Tables, fields_fit, methods_fit}
 use Rattle.tal_image.specs.Fields.{tables_of, mark_where, after_mark, header_fields, sigs_part, functions_part, entries_part, classes_part, kinds_part, statics_part, arrays_part, field_type_field, method_list, parent_of}
 use Rattle.tal_image.specs.ClassReading.{behind_parent, function_signature}
 use Rattle.tal_image.specs.CodeReading.{code_at, offset_fits, mark_says}
-use Rattle.tal_image.specs.ImageReading.{FrontParts, front_at, behind_at, addresses_of, places_of, blocks_by, marks_by}
+use Rattle.tal_image.specs.ImageReading.{FrontParts, front_at, behind_at, addresses_of, places_of_arrays, blocks_by, marks_by}
 use Rattle.tal_image.proofs.Classes.Readings.{behind_parent_run}
 
 -- a part that is refused ends the reading
@@ -87,7 +87,7 @@ module _ (f : FrontParts) (file : List ℕ) (at : ℕ) (starts : List Start) (a 
   no_blocks e q = rw es (refused e (run (blocks_by f starts) file a) _ q)
 
   module _ (blocks : List BlockPart) (b : ℕ) (eb : run (blocks_by f starts) file a ≡ Ok (blocks, b))
-      (t : Tables) (addresses places : List ℕ) (et : t ≡ tables_of f.header) (ea : addresses ≡ addresses_of f) (ep : places ≡ places_of f) where
+      (t : Tables) (addresses places : List ℕ) (et : t ≡ tables_of f.header) (ea : addresses ≡ addresses_of f) (ep : places ≡ places_of_arrays f) where
     -- marks of what stands at these addresses
     abbrev told : Grammar (List MarkPart)
     told = many f.header.marks (λ later least. mark_where (offset_fits starts least) (mark_says t addresses places starts)) after_mark 0

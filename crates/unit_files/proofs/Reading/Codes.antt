@@ -15,13 +15,13 @@ use Rattle.tal_image.specs.declared.parts.FunctionPart.{FunctionPart}
 use Rattle.tal_image.specs.declared.start.Start.{Start}
 use Rattle.tal_image.specs.Conditions.{Spelled, block_fits, mark_fits, marked_number_at}
 use Rattle.tal_image.specs.Fields.{bodies, all_instructions, code_bytes}
-use Rattle.tal_image.specs.CodeReading.{AllPositive, StandAt, CodeLaws, instruction_starts, function_starts, starts_behind, place_fits, offset_fits, start_at, start_number, code_at}
+use Rattle.tal_image.specs.CodeReading.{AllPositive, StandAt, ReadCodeLaws, instruction_starts, function_starts, starts_behind, place_fits, offset_fits, start_at, start_number, code_at}
 use Rattle.unit_files.specs.declared.code_places.CodeByte.{CodeByte}
 use Rattle.unit_files.specs.Unit.{UnitFun, UnitBlock, UnitMark, FixUp, function_part, own_functions}
 use Rattle.unit_files.specs.Conditions.{unit_mark_fits, fixup_fits, wide_at, hole_at}
 use Rattle.unit_files.specs.Formed.{after_unit_block, after_unit_mark, after_fixup}
 use Rattle.unit_files.specs.Fields.{UnitHeader, UnitFront, UnitCode, tables_behind, unit_bodies, unit_block_where, unit_mark_where, fixup_where, unit_blocks, unit_marks, unit_fixups, code_fields}
-use Rattle.unit_files.specs.CodeWords.{code_table, byte_at, AreSpelled, unit_starts_at, lacks_function, mark_says, hole_fits, blocks_by, marks_by, fixups_by, CodeParts, parts_of}
+use Rattle.unit_files.specs.CodeWords.{code_table, code_byte_at, AreSpelled, unit_starts_at, lacks_function, unit_mark_says, hole_fits, unit_blocks_by, unit_marks_by, fixups_by, UnitCodeParts, unit_code_of}
 use Rattle.unit_files.proofs.Meaning.Code.{both}
 use Rattle.unit_files.proofs.Reading.Steps.{refused, bind_inverse, ok_pair, passed, stops, next_is, stops_later, fails_whole}
 use Rattle.unit_files.proofs.Reading.Words.{hole_same, wide_same, spelled}
@@ -132,27 +132,27 @@ starts_inverse functions n file at starts end e =
 
 -- a mark's tag and index are tried by what is kept
 said_same : (h : UnitHeader) (code : List Spelled) (starts : List Start) (table : List CodeByte) (offset tag index : ℕ)
-    → marked_number_at offset code ≡ start_number (start_at starts offset) → wide_at offset code ≡ (byte_at table offset).wide
-    → unit_mark_fits (tables_behind h) h.image.functions h.image.arrays code offset tag index ≡ mark_says h starts table offset tag index
-unfolding unit_mark_fits mark_says
+    → marked_number_at offset code ≡ start_number (start_at starts offset) → wide_at offset code ≡ (code_byte_at table offset).wide
+    → unit_mark_fits (tables_behind h) h.image.functions h.image.arrays code offset tag index ≡ unit_mark_says h starts table offset tag index
+unfolding unit_mark_fits unit_mark_says
 said_same h code starts table offset tag index e f = rw (e, f) refl
 
 -- a fix-up's offset too
-hole_fits_same : (code : List Spelled) (table : List CodeByte) (least offset : ℕ) → hole_at offset code ≡ (byte_at table offset).hole
+hole_fits_same : (code : List Spelled) (table : List CodeByte) (least offset : ℕ) → hole_at offset code ≡ (code_byte_at table offset).hole
     → fixup_fits code least offset ≡ hole_fits table least offset
 unfolding fixup_fits hole_fits
 hole_fits_same code table least offset e = ap (λ b. nat_le least offset && b) e
 
 module _ (h : UnitHeader) (code : List Spelled) (starts : List Start) (table : List CodeByte) (file : List ℕ) (at : ℕ) where
   blocks_run : (functions : List FunctionPart) → ((least n : ℕ) → block_fits functions code least n ≡ place_fits starts (function_starts functions) least n)
-      → run (unit_blocks h functions code) file at ≡ run (blocks_by h functions starts) file at
+      → run (unit_blocks h functions code) file at ≡ run (unit_blocks_by h functions starts) file at
   blocks_run functions same = λ j.
       let place = λ (least n : ℕ). same least n j in
       run (many h.image.blocks (λ later least. unit_block_where (tables_behind h) (place least)) after_unit_block 0) file at
 
   marks_run : ((least n : ℕ) → mark_fits code least n ≡ offset_fits starts least n)
-      → ((offset tag index : ℕ) → unit_mark_fits (tables_behind h) h.image.functions h.image.arrays code offset tag index ≡ mark_says h starts table offset tag index)
-      → run (unit_marks h code) file at ≡ run (marks_by h starts table) file at
+      → ((offset tag index : ℕ) → unit_mark_fits (tables_behind h) h.image.functions h.image.arrays code offset tag index ≡ unit_mark_says h starts table offset tag index)
+      → run (unit_marks h code) file at ≡ run (unit_marks_by h starts table) file at
   marks_run fits same = λ j.
       let place = λ (least n : ℕ). fits least n j in
       let word = λ (offset tag index : ℕ). same offset tag index j in
@@ -167,8 +167,8 @@ module _ (h : UnitHeader) (code : List Spelled) (starts : List Start) (table : L
 -- ---- the code, and what is said of it, one part after another
 
 -- what is kept of it
-abbrev pub kept : Result (UnitCode × ℕ) ImageFault → Result (CodeParts × ℕ) ImageFault
-kept r = r ▸ λ c. Ok (parts_of c.0, c.1)
+abbrev pub kept : Result (UnitCode × ℕ) ImageFault → Result (UnitCodeParts × ℕ) ImageFault
+kept r = r ▸ λ c. Ok (unit_code_of c.0, c.1)
 
 -- code that is refused
 pub no_code : (f : UnitFront) (file : List ℕ) (at : ℕ) (e : ImageFault) → Fails e (unit_starts_at f.functions f.header.image.code file at) → Fails e (kept (run (code_fields f) file at))
@@ -178,7 +178,7 @@ no_code f file at e q =
     refused e (run (code_fields f) file at) _ (stops _ _ _ _ e
     (fails_whole e bodies (λ x. (all_instructions x.0, x.1)) (fails_whole e (bodies ▸ λ x. Ok (all_instructions x.0, x.1)) (λ x. (instruction_starts x.0, x.1)) q)))
 
-module _ (law : DecodedLaw) (laws : CodeLaws) (f : UnitFront) (file : List ℕ) (fits : AreBytes file) (positive : AllPositive (own_functions f.functions))
+module _ (law : DecodedLaw) (laws : ReadCodeLaws) (f : UnitFront) (file : List ℕ) (fits : AreBytes file) (positive : AllPositive (own_functions f.functions))
     (at : ℕ) (starts : List Start) (a : ℕ) (es : unit_starts_at f.functions f.header.image.code file at ≡ Ok (starts, a)) where
   -- the instructions that were read
   abbrev begun : (xs : List (List Spelled)) × (run (unit_bodies f.functions f.header.image.code) file at ≡ Ok (xs, a)) × (instruction_starts (all_instructions xs) ≡ starts)
@@ -200,35 +200,35 @@ module _ (law : DecodedLaw) (laws : CodeLaws) (f : UnitFront) (file : List ℕ) 
   pub are_spelled : AreSpelled all
   are_spelled = spelled file at all stand.0
 
-  same_blocks : (b : ℕ) → run (unit_blocks f.header (own_functions f.functions) all) file b ≡ run (blocks_by f.header (own_functions f.functions) starts) file b
+  same_blocks : (b : ℕ) → run (unit_blocks f.header (own_functions f.functions) all) file b ≡ run (unit_blocks_by f.header (own_functions f.functions) starts) file b
   same_blocks b = blocks_run f.header all starts (code_table all) file b (own_functions f.functions) (λ least n.
       laws.block file at all stand.0 (own_functions f.functions) positive least n ∙ ap (λ (z : List Start). place_fits z (function_starts (own_functions f.functions)) least n) begun.2)
 
-  pub no_blocks : (e : ImageFault) → Fails e (run (blocks_by f.header (own_functions f.functions) starts) file a) → Fails e (kept (run (code_fields f) file at))
+  pub no_blocks : (e : ImageFault) → Fails e (run (unit_blocks_by f.header (own_functions f.functions) starts) file a) → Fails e (kept (run (code_fields f) file at))
   unfolding code_fields
   no_blocks e q =
       refused e (run (code_fields f) file at) _ (stops_later _ _ _ _ e begun.1 (stops _ _ _ _ e (subst (λ (r : Result (List UnitBlock × ℕ) ImageFault). Fails e r) (sym (same_blocks a)) q)))
 
-  module _ (blocks : List UnitBlock) (b : ℕ) (eb : run (blocks_by f.header (own_functions f.functions) starts) file a ≡ Ok (blocks, b))
+  module _ (blocks : List UnitBlock) (b : ℕ) (eb : run (unit_blocks_by f.header (own_functions f.functions) starts) file a ≡ Ok (blocks, b))
       (table : List CodeByte) (et : table ≡ code_table all) where
-    same_marks : (m : ℕ) → run (unit_marks f.header all) file m ≡ run (marks_by f.header starts table) file m
+    same_marks : (m : ℕ) → run (unit_marks f.header all) file m ≡ run (unit_marks_by f.header starts table) file m
     same_marks m = marks_run f.header all starts table file m
         (λ least n. laws.mark file at all stand.0 least n ∙ ap (λ (z : List Start). offset_fits z least n) begun.2)
         (λ offset tag index. said_same f.header all starts table offset tag index
         (laws.number file at all stand.0 offset ∙ ap (λ (z : List Start). start_number (start_at z offset)) begun.2)
-        (wide_same file at all stand.0 offset ∙ ap (λ (z : List CodeByte). (byte_at z offset).wide) (sym et)))
+        (wide_same file at all stand.0 offset ∙ ap (λ (z : List CodeByte). (code_byte_at z offset).wide) (sym et)))
 
     same_fixups : (m : ℕ) → run (unit_fixups f.header all) file m ≡ run (fixups_by f.header table) file m
     same_fixups m = fixups_run f.header all starts table file m (λ least n.
-        hole_fits_same all table least n (hole_same all n ∙ ap (λ (z : List CodeByte). (byte_at z n).hole) (sym et)))
+        hole_fits_same all table least n (hole_same all n ∙ ap (λ (z : List CodeByte). (code_byte_at z n).hole) (sym et)))
 
-    pub no_marks : (e : ImageFault) → Fails e (run (marks_by f.header starts table) file b) → Fails e (kept (run (code_fields f) file at))
+    pub no_marks : (e : ImageFault) → Fails e (run (unit_marks_by f.header starts table) file b) → Fails e (kept (run (code_fields f) file at))
     unfolding code_fields
     no_marks e q =
         refused e (run (code_fields f) file at) _ (stops_later _ _ _ _ e begun.1 (stops_later _ _ _ _ e (same_blocks a ∙ eb) (stops _ _ _ _ e
         (subst (λ (r : Result (List UnitMark × ℕ) ImageFault). Fails e r) (sym (same_marks b)) q))))
 
-    module _ (marks : List UnitMark) (m : ℕ) (em : run (marks_by f.header starts table) file b ≡ Ok (marks, m)) where
+    module _ (marks : List UnitMark) (m : ℕ) (em : run (unit_marks_by f.header starts table) file b ≡ Ok (marks, m)) where
       pub no_fixups : (e : ImageFault) → Fails e (run (fixups_by f.header table) file m) → Fails e (kept (run (code_fields f) file at))
       unfolding code_fields
       no_fixups e q =
@@ -240,4 +240,4 @@ module _ (law : DecodedLaw) (laws : CodeLaws) (f : UnitFront) (file : List ℕ) 
       unfolding code_fields
       code_read fixups end code ef ec =
           ap kept (next_is _ _ _ _ begun.1 ∙ next_is _ _ _ _ (same_blocks a ∙ eb) ∙ next_is _ _ _ _ (same_marks b ∙ em) ∙ next_is _ _ _ _ (same_fixups m ∙ ef))
-          ∙ ap (λ (z : List ℕ). let r : Result (CodeParts × ℕ) ImageFault = Ok (record { code = z; blocks = blocks; marks = marks; fixups = fixups }, end) in r) (bytes_are ∙ sym ec)
+          ∙ ap (λ (z : List ℕ). let r : Result (UnitCodeParts × ℕ) ImageFault = Ok (record { code = z; blocks = blocks; marks = marks; fixups = fixups }, end) in r) (bytes_are ∙ sym ec)

@@ -17,8 +17,8 @@ use Rattle.tal_image.specs.Conditions.{Spelled}
 use Rattle.tal_image.specs.Fields.{code_bytes}
 use Rattle.tal_image.specs.CodeReading.{StandAt}
 use Rattle.unit_files.specs.declared.code_places.CodeByte.{CodeByte}
-use Rattle.unit_files.specs.Conditions.{words_read, words_of, hole_in, hole_at, wide_at}
-use Rattle.unit_files.specs.CodeWords.{byte_by, bytes_from, instruction_bytes, code_table, byte_at, AreSpelled}
+use Rattle.unit_files.specs.Conditions.{words_read, words_in_text, hole_in, hole_at, wide_at}
+use Rattle.unit_files.specs.CodeWords.{byte_by, bytes_from, instruction_bytes, code_table, code_byte_at, AreSpelled}
 
 -- ---- bytes of one instruction
 
@@ -63,16 +63,16 @@ nothing_known = record { hole = false; wide = false }
 
 -- what is known of a byte of the first instruction, and of one behind it
 abbrev known : Spelled → ℕ → CodeByte
-known s k = byte_by (words_of s.text) s.text k
+known s k = byte_by (words_in_text s.text) s.text k
 
-within_first : (s : Spelled) (code : List Spelled) (k : ℕ) → k < length s.text → byte_at (code_table (s ∷ code)) k ≡ known s k
+within_first : (s : Spelled) (code : List Spelled) (k : ℕ) → k < length s.text → code_byte_at (code_table (s ∷ code)) k ≡ known s k
 within_first s code k h = at_byte (known s) nothing_known (length s.text) 0 k (code_table code) h ∙ ap (known s) (let e : 0 + k ≡ k = omega arith in e)
 
-behind_first : (s : Spelled) (code : List Spelled) (k : ℕ) → length s.text ≤ k → byte_at (code_table (s ∷ code)) k ≡ byte_at (code_table code) (k - length s.text)
+behind_first : (s : Spelled) (code : List Spelled) (k : ℕ) → length s.text ≤ k → code_byte_at (code_table (s ∷ code)) k ≡ code_byte_at (code_table code) (k - length s.text)
 behind_first s code k h = past_bytes (known s) nothing_known (length s.text) 0 k (code_table code) h
 
 -- a hole lies where one is kept
-pub hole_same : (code : List Spelled) (k : ℕ) → hole_at k code ≡ (byte_at (code_table code) k).hole
+pub hole_same : (code : List Spelled) (k : ℕ) → hole_at k code ≡ (code_byte_at (code_table code) k).hole
 unfolding hole_at hole_in byte_by
 hole_same [] k = refl
 hole_same (s ∷ code) k =
@@ -89,7 +89,7 @@ first_test true x = refl
 first_test false x = refl
 
 -- an instruction that ends with a whole word begins where one is kept
-pub wide_same : (file : List ℕ) (at : ℕ) (code : List Spelled) → StandAt file at code → (k : ℕ) → wide_at k code ≡ (byte_at (code_table code) k).wide
+pub wide_same : (file : List ℕ) (at : ℕ) (code : List Spelled) → StandAt file at code → (k : ℕ) → wide_at k code ≡ (code_byte_at (code_table code) k).wide
 unfolding wide_at byte_by
 wide_same file at [] h k = refl
 wide_same file at (s ∷ code) h k =
@@ -98,7 +98,7 @@ wide_same file at (s ∷ code) h k =
     ⊎_elim
     (λ (low : k < n).
     let t : nat_lt k n ≡ true = grind (arith, nat_tests) in
-    rw t (first_test (k == 0) (is_some (words_of s.text).at_end) ∙ sym (ap (λ (b : CodeByte). b.wide) (within_first s code k low))))
+    rw t (first_test (k == 0) (is_some (words_in_text s.text).at_end) ∙ sym (ap (λ (b : CodeByte). b.wide) (within_first s code k low))))
     (λ (high : n ≤ k).
     let z : (k == 0) ≡ false = grind (arith, nat_tests) in
     let t : nat_lt k n ≡ false = grind (arith, nat_tests) in
@@ -113,7 +113,7 @@ spelled file at (s ∷ code) h = (h.2, spelled file (at + length s.text) code h.
 -- ---- going over the code
 
 -- the whole words of bytes that spell an instruction
-pub words_are : ReadBack → (bytes : List ℕ) (i : Inst) (s : Spells bytes i) → words_of bytes ≡ word_offsets s.spelling
+pub words_are : ReadBack → (bytes : List ℕ) (i : Inst) (s : Spells bytes i) → words_in_text bytes ≡ word_offsets s.spelling
 words_are law bytes i s = ap words_read (ap spelling_at (s.text_is ∙ sym (append-nil (text s.spelling))) ∙ law s.spelling [] s.fits)
 
 -- one answer has one length, and one value
@@ -130,7 +130,7 @@ take_front (b ∷ t) more = ap (λ (z : List ℕ). b ∷ z) (take_front t more)
 
 -- the instruction at the front of bytes, and its whole words
 pub first_is : ReadBack → (bytes front t more : List ℕ) (i j : Inst) (len : ℕ) (words : WholeWords) → Spells t i → bytes ≡ t ++ more → One j len ≡ One i (length t)
-    → front ≡ take len bytes → ((s : Spelling) (rest : List ℕ) → Filled s → front ≡ text s ++ rest → Some words ≡ Some (word_offsets s)) → (front ≡ t) × (words ≡ words_of t)
+    → front ≡ take len bytes → ((s : Spelling) (rest : List ℕ) → Filled s → front ≡ text s ++ rest → Some words ≡ Some (word_offsets s)) → (front ≡ t) × (words ≡ words_in_text t)
 first_is law bytes front t more i j len words s e one cut found =
     let same : front ≡ t = cut ∙ ap (λ (n : ℕ). take n bytes) (one_length j i len (length t) one) ∙ ap (take (length t)) e ∙ take_front t more in (
       same,
@@ -145,7 +145,7 @@ TableLeft code table rest = (all : List Spelled) → AreSpelled all → code ≡
 
 -- the bytes begin with this instruction, if with any
 abbrev BeginsWith : List ℕ → List ℕ → WholeWords → Type 0
-BeginsWith rest bytes words = (t more : List ℕ) (i : Inst) → Spells t i → rest ≡ t ++ more → (bytes ≡ t) × (words ≡ words_of t)
+BeginsWith rest bytes words = (t more : List ℕ) (i : Inst) → Spells t i → rest ≡ t ++ more → (bytes ≡ t) × (words ≡ words_in_text t)
 
 -- the bytes behind some
 drop_front : (t more : List ℕ) → drop (length t) (t ++ more) ≡ more
@@ -165,7 +165,7 @@ table_on code table rest bytes words left some few begins all are same = go (lef
           more,
           h.1,
           ap (λ (t : List ℕ). drop (length t) rest) one.0 ∙ ap (drop (length s.text)) e ∙ drop_front s.text (code_bytes more),
-          k ∙ sym (append_assoc table (instruction_bytes (words_of s.text) s.text) (code_table more))
+          k ∙ sym (append_assoc table (instruction_bytes (words_in_text s.text) s.text) (code_table more))
               ∙ sym (ap (λ (t : List ℕ). (table ++ instruction_bytes words t) ++ code_table more) one.0 ∙ ap (λ (w : WholeWords). (table ++ instruction_bytes w s.text) ++ code_table more) one.1),
         )
 

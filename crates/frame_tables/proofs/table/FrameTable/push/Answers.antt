@@ -1,11 +1,11 @@
 use Rattle.std.proofs.Common.{map, All, ◌<◌, subst, sym}
 use Rattle.std.proofs.lemmas.List.{length-map}
-use Rattle.frame_tables.specs.Layout.{row_of}
+use Rattle.frame_tables.specs.Layout.{row_kept}
 use Rattle.frame_tables.proofs.Keeping.{Pushed, pushes}
 use Rattle.frame_tables.proofs.table.FrameTable.push.Goals as goal
 
 -- What the push kept, of the fields.
-pub kept : (c : goal.After-push_reserved-2) → Pushed (map row_of c.self.inside.rows.keys) (map row_of c.number_of.new.rows.keys) c.self.inside.addresses.items c.self.inside.numbers.items c.args.pc c.in_ok-number.number c.args.row
+pub kept : (c : goal.After-push_reserved-2) → Pushed (map row_kept c.self.inside.rows.keys) (map row_kept c.number_of.new.rows.keys) c.self.inside.addresses.items c.self.inside.numbers.items c.args.pc c.in_ok-number.number c.args.row
 kept c =
     let below = subst (All (λ r. r.pc < c.args.pc)) (sym c.self.view_is) c.requires in
     pushes _ _ _ _ _ _ _ c.self.invariant below c.in_ok-number.ensures.joined (rw (length-map c.number_of.new.rows.keys) c.in_ok-number.ensures.few) (rw (length-map c.number_of.new.rows.keys) c.in_ok-number.ensures.number.0) c.in_ok-number.ensures.number.1

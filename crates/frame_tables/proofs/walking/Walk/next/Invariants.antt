@@ -1,5 +1,5 @@
 use Rattle.std.proofs.Common.{◌≡◌, ◌⊎◌, [], length}
-use Rattle.frame_tables.specs.FrameWalks.{references_from, IsStackFrom}
+use Rattle.frame_tables.specs.FrameWalks.{frame_references_from, IsStackFrom}
 use Rattle.frame_tables.proofs.walking.Walk.next.Given as goal
 
 -- What is still to come is what was to come at first, and the words are still those of a stack.
@@ -8,7 +8,7 @@ invariant-loop-word l =
     let w = l.self-inside in
     let first = l.initial.self-inside in
     (w.frames.now ≡ first.frames.now) ×
-    (references_from w.frames.now w.row w.slot w.words.now ≡ references_from first.frames.now first.row first.slot first.words.now) ×
+    (frame_references_from w.frames.now w.row w.slot w.words.now ≡ frame_references_from first.frames.now first.row first.slot first.words.now) ×
     (IsStackFrom w.frames.now w.row w.slot w.words.now ⊎ (w.words.now ≡ []))
 
 abbrev pub decreases-loop-word : goal.decreases-loop-word

@@ -1,13 +1,14 @@
 use Rattle.std.proofs.Common.{sym, ap, ◌∙◌}
-use Rattle.tal_names.specs.Declarations.{shown}
+use Rattle.asm_faults.specs.Answers.{at_line}
+use Rattle.tal_names.specs.Declarations.{names_shown}
 use Rattle.tal_code.specs.Labels.{distance_at}
-use Rattle.tal_code.specs.Functions.{block_line, inst_line, at_line}
+use Rattle.tal_code.specs.Functions.{block_line, inst_line}
 use Rattle.tal_code.proofs.CodeLines.{first_line, label_goes_on, inst_goes_on}
 use Rattle.tal_code.proofs.unit_code.UnitCode.with_lines.Goals as goal
 
 pub lines-preserved-in_ok-made-in-Label : goal.lines-preserved-in_ok-made-in-Label
 lines-preserved-in_ok-made-in-Label c =
-    let m = shown c.args.names.now in
+    let m = names_shown c.args.names.now in
     let placed = sym (c.is_placed-is_placed.ensures c.args.self c.len-start.ensures.bytes c.block_count-blocks.ensures) in
     let made =
     ap (λ b. at_line c.line-item.result.number (block_line m c.lines.made c.in-Label.regs c.in-Label.slots b)) placed
@@ -19,7 +20,7 @@ lines-preserved-in_ok-made-in-Label c =
 
 pub lines-preserved : goal.lines-preserved
 lines-preserved c =
-    let m = shown c.args.names.now in
+    let m = names_shown c.args.names.now in
     let made =
     ap (λ d. at_line c.line-item.result.number (inst_line m c.lines.made c.in-Inst.mnemonic c.in-Inst.args d))
     (ap (λ n. distance_at m c.args.labels.now n c.in-Inst.mnemonic c.in-Inst.args) (sym c.len.ensures.bytes)
