@@ -127,7 +127,7 @@ fn branched(cond: Cond, operands: OperandWords) -> Option<Inst>
 }
 
 // The number of operands tells the three forms of IMUL apart.
-#[tactic(auto, unfolding(crate::specs::Meaning::multiplied, crate::specs::Meaning::two))]
+#[tactic(auto, unfolding(crate::specs::Meaning::multiplication, crate::specs::Meaning::two))]
 fn multiplied(operands: OperandWords) -> Option<Inst>
     ensures { result ≡ multiplication operands }
 {

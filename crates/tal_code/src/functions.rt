@@ -62,7 +62,7 @@ fn is_twice(names: &NameSet, name: &Name, labels: u32) -> bool
 }
 
 // The slots of a label: none where no list is given.
-#[tactic(auto, unfolding(tal_rows::specs::Lines::slots_of))]
+#[tactic(auto, unfolding(tal_rows::specs::Lines::slots_given))]
 fn slots_of(slots: &Option<TypeTextList>) -> &[TypeText]
     ensures { result.now ≡ slots_given slots.now }
 {

@@ -37,7 +37,7 @@ impl ModuleNames {
 
     /// The names of the unit of these lines: those that rows have, each once, in the order of their first mention in whatever
     /// role. The names of the module are those that the same lines declare.
-    #[tactic(auto, unfolding(crate::specs::Mentions::unit_names))]
+    #[tactic(auto, unfolding(crate::specs::Mentions::mentioned_names))]
     pub fn unit_names(&self, alloc: Global, lines: &[TextLine]) -> Result<NameSet, NoMemory>
         requires { names_shown self.now ≡ names_of lines.now }
         ensures { IfOk result (λ names. names ≡ mentioned_names lines.now) }

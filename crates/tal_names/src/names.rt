@@ -136,7 +136,7 @@ pub(crate) fn member_number(
 }
 
 // Whether elements of the type are numbers.
-#[tactic(auto, unfolding(crate::specs::Declarations::is_number))]
+#[tactic(auto, unfolding(crate::specs::Declarations::is_number_type))]
 fn is_number(element: &TypeText) -> bool
     ensures { result ≡ is_number_type element.now }
 {
@@ -216,7 +216,7 @@ impl ModuleNames {
     }
 
     // The number of the class below which a class is, where it is declared already.
-    #[tactic(auto, unfolding(crate::specs::Declarations::parent_number))]
+    #[tactic(auto, unfolding(crate::specs::Declarations::named_parent))]
     fn parent_number(&self, parent: &Option<Name>) -> Option<u32>
         ensures { result ≡ named_parent (names_shown self.now) parent.now }
     {
@@ -227,7 +227,7 @@ impl ModuleNames {
     }
 
     // Declares a kind.
-    #[tactic(auto, unfolding(crate::specs::Declarations::with_kind))]
+    #[tactic(auto, unfolding(crate::specs::Declarations::with_named_kind))]
     fn add_kind(&mut self, alloc: Global, name: &Name, element: &TypeText) -> Result<(), NoMemory>
         ensures { OnOk result (names_shown self.new ≡ with_named_kind (names_shown self.old) name.now element.now) }
     {
@@ -238,7 +238,7 @@ impl ModuleNames {
     }
 
     // Declares a class, to which the lines behind belong up to its end.
-    #[tactic(auto, unfolding(crate::specs::Declarations::with_class))]
+    #[tactic(auto, unfolding(crate::specs::Declarations::with_named_class))]
     fn add_class(
         &mut self,
         alloc: Global,
@@ -257,7 +257,7 @@ impl ModuleNames {
     }
 
     // Declares a function.
-    #[tactic(auto, unfolding(crate::specs::Declarations::with_function))]
+    #[tactic(auto, unfolding(crate::specs::Declarations::with_named_function))]
     fn add_function(&mut self, alloc: Global, name: &Name, sig: &Name) -> Result<(), NoMemory>
         ensures { OnOk result (names_shown self.new ≡ with_named_function (names_shown self.old) name.now sig.now) }
     {

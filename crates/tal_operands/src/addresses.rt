@@ -36,7 +36,7 @@ pub(crate) fn word(number: i64) -> u32
 }
 
 // Two to the power of the scale is the factor.
-#[tactic(auto, unfolding(crate::specs::Addresses::scale_of))]
+#[tactic(auto, unfolding(crate::specs::Addresses::factor_scale))]
 fn scale_of(factor: u8) -> u8
     ensures { result ≡ factor_scale factor }
 {
@@ -67,7 +67,7 @@ impl Address {
     }
 
     // A register more. The first is the base, one other the index.
-    #[tactic(auto, unfolding(crate::specs::Addresses::with_register))]
+    #[tactic(auto, unfolding(crate::specs::Addresses::with_unscaled))]
     fn with_register(self, reg: Reg) -> Address
         ensures { result ≡ with_unscaled self reg }
     {

@@ -174,7 +174,7 @@ fn memory_operand(address: Address) -> Operand
 }
 
 // Whether the Nucleus has the entry.
-#[tactic(auto, unfolding(crate::specs::Operands::is_entry))]
+#[tactic(auto, unfolding(crate::specs::Operands::is_nucleus_entry))]
 fn is_entry(number: i64) -> bool
     ensures { result ≡ is_nucleus_entry number }
 {
@@ -219,7 +219,7 @@ fn called_operand(function: Option<u32>) -> Operand
 }
 
 /// An operand. A call's target is a function, another target a label at this distance from the next instruction.
-#[tactic(auto, unfolding(crate::specs::Operands::operand_of))]
+#[tactic(auto, unfolding(crate::specs::Operands::arg_operand))]
 pub(crate) fn operand_of(names: &ModuleNames, call: bool, distance: i32, arg: &Arg) -> Operand
     ensures { result ≡ arg_operand (names_shown names.now) call distance arg.now }
 {

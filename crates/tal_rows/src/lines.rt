@@ -236,7 +236,7 @@ pub fn function_line(
 
 /// The class below which a class behind so many others is, or code 11, 12, 14 or 16: it is an earlier one, with six classes
 /// above it at most, and 1024 classes are the most.
-#[tactic(auto, unfolding(crate::specs::Lines::class_line, crate::specs::Lines::parent_fits))]
+#[tactic(auto, unfolding(crate::specs::Lines::class_line, crate::specs::Lines::parent_row_fits))]
 pub fn class_line(
     names: &ModuleNames,
     name: &Name,

@@ -15,7 +15,7 @@ use std::alloc::Global;
 use text_tokens::{Keyword, Token, Tokens};
 
 // A field, behind `field`.
-#[tactic(auto, unfolding(crate::specs::Forms::field_at))]
+#[tactic(auto, unfolding(crate::specs::Forms::field_line_at))]
 fn field(alloc: Global, tokens: &mut Tokens<'_>) -> Result<Form, Stop>
     ensures gives { GivesSame result (field_line_at tokens.old.left) tokens.new.left }
     ensures line { tokens.new.line ≡ tokens.old.line }
@@ -80,7 +80,7 @@ fn member(alloc: Global, tokens: &mut Tokens<'_>) -> Result<Form, Stop>
 }
 
 // The slots of a label, where they are given, and the line's end.
-#[tactic(auto, unfolding(crate::specs::Forms::slots_at))]
+#[tactic(auto, unfolding(crate::specs::Forms::label_slots_at))]
 fn slots(alloc: Global, tokens: &mut Tokens<'_>) -> Result<Option<TypeTextList>, Stop>
     ensures gives { GivesSame result (label_slots_at tokens.old.left) tokens.new.left }
     ensures line { tokens.new.line ≡ tokens.old.line }
@@ -114,7 +114,7 @@ fn label(alloc: Global, tokens: &mut Tokens<'_>, name: Name) -> Result<Form, Sto
 }
 
 // A line of a function.
-#[tactic(auto, unfolding(crate::specs::Forms::code_at))]
+#[tactic(auto, unfolding(crate::specs::Forms::function_line_at))]
 fn code(alloc: Global, tokens: &mut Tokens<'_>) -> Result<Form, Stop>
     ensures gives { GivesSame result (function_line_at tokens.old.left) tokens.new.left }
     ensures line { tokens.new.line ≡ tokens.old.line }
@@ -138,7 +138,7 @@ fn code(alloc: Global, tokens: &mut Tokens<'_>) -> Result<Form, Stop>
 }
 
 /// A line that is not empty, where the lines before have begun a scope.
-#[tactic(auto, unfolding(crate::specs::Forms::form_at))]
+#[tactic(auto, unfolding(crate::specs::Forms::any_line_at))]
 pub fn form(alloc: Global, tokens: &mut Tokens<'_>, scope: Scope) -> Result<Form, Stop>
     ensures gives { GivesSame result (any_line_at scope tokens.old.left) tokens.new.left }
     ensures line { tokens.new.line ≡ tokens.old.line }

@@ -189,7 +189,7 @@ fn args(alloc: Global, tokens: &mut Tokens<'_>, operands: Operands) -> Result<Ar
 }
 
 /// An instruction, behind its mnemonic.
-#[tactic(auto, unfolding(crate::specs::Operands::inst_at))]
+#[tactic(auto, unfolding(crate::specs::Operands::inst_line_at))]
 pub fn inst(alloc: Global, tokens: &mut Tokens<'_>, mnemonic: Mnemonic) -> Result<Form, Stop>
     ensures gives { GivesSame result (inst_line_at mnemonic tokens.old.left) tokens.new.left }
     ensures line { tokens.new.line ≡ tokens.old.line }

@@ -102,7 +102,7 @@ pub fn number(tokens: &mut Tokens<'_>) -> Result<i64, Stop>
 }
 
 /// The line's end.
-#[tactic(auto, unfolding(crate::specs::Reading::end_at))]
+#[tactic(auto, unfolding(crate::specs::Reading::line_end_at))]
 pub fn line_end(tokens: &mut Tokens<'_>) -> Result<(), Stop>
     ensures gives { GivesSame result (line_end_at tokens.old.left) tokens.new.left }
     ensures line { tokens.new.line ≡ tokens.old.line }

@@ -156,7 +156,7 @@ fn find_word(words: &[Word], letters: &[u8]) -> Option<Word>
 }
 
 /// The word that has these letters. There is none where they are a name.
-#[tactic(auto, unfolding(crate::specs::Words::word_of))]
+#[tactic(auto, unfolding(crate::specs::Words::word_written))]
 pub fn word_at(letters: &[u8]) -> Option<Word>
     ensures { result ≡ word_written letters.now }
 {

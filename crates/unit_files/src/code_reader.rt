@@ -156,7 +156,7 @@ impl CodePlaces<'_> {
     }
 
     /// Whether a mark at an offset may have a tag and an index.
-    #[tactic(auto, unfolding(crate::specs::CodeWords::mark_says))]
+    #[tactic(auto, unfolding(crate::specs::CodeWords::unit_mark_says))]
     fn says(&self, offset: u32, tag: u32, index: u32) -> bool
         ensures { result ≡ unit_mark_says self.now.header self.now.starts.now self.now.bytes.now offset tag index }
     {
