@@ -73,7 +73,7 @@ code_at functions file at = starts_behind [] (bodies_at functions file at)
 
 -- whether a block may begin at an offset
 unfoldable pub place_fits : List Start → List Bool → ℕ → ℕ → Bool
-place_fits function_instructions functions least offset = nat_le least offset && is_start (start_at function_instructions offset) && not (starts_at functions offset)
+place_fits instructions functions least offset = nat_le least offset && is_start (start_at instructions offset) && not (starts_at functions offset)
 
 -- whether a mark may stand at an offset
 unfoldable pub offset_fits : List Start → ℕ → ℕ → Bool
