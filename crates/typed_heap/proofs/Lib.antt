@@ -1,0 +1,4 @@
+pub mod Lists
+pub mod ShapeWords
+pub mod Facts
+pub mod Reaching
