@@ -1,5 +1,5 @@
 -- When the words of the heap stand for objects of a store, and when a list of words stands for roots.
-use Rattle.std.specs.Prelude.{◌≡◌, ℕ, ◌+◌, ◌<◌, ◌≤◌, Bool, true, false, nat_lt, List, length, map, Some, slice_get, slice_index}
+use Rattle.std.specs.Prelude.{◌≡◌, ℕ, ◌+◌, ◌<◌, ◌≤◌, Bool, true, false, nat_lt, List, ◌∷◌, length, map, Option, Some, None, slice_get, slice_index}
 use Rattle.heap_words.specs.Headers.{size_at}
 use Rattle.heap_words.specs.Blocks.{IsUsed}
 use Rattle.object_layout.specs.Classes.{ShapesView}
@@ -7,11 +7,13 @@ use Rattle.mark_sweep.specs.Objects.{address}
 use Rattle.tal_image.specs.Image.{ImageParts}
 use Rattle.tal_image.specs.Shown.{shown}
 use Rattle.tal_image.specs.Formed.{Formed}
-use Rattle.typed_machine.specs.Values.{Value, Null, Ref, Word}
+use Rattle.typed_machine.specs.Values.{Value, Null, Ref, ObjectShape, Word}
 use Rattle.typed_machine.specs.Stores.{Object, Store, need, places_in}
 use Rattle.typed_machine.specs.States.{State, places_of}
 use Rattle.typed_machine.specs.Typing.{Typed}
 use Rattle.typed_machine.specs.Words.{object_values}
+use Rattle.typed_machine.specs.Turns.{Answer, Placed, Refused}
+use Rattle.typed_machine.specs.Placing.{reply_to, allocated}
 use Rattle.typed_machine.specs.Reaching.{names, references_of, Reach}
 
 -- the object stands in a used block of its need, and its words are those of its values
@@ -61,3 +63,18 @@ pub record StandsAt (image : ImageParts) (s : State) (roots : List Value) (block
   pub behind : length image.arrays ≤ number
   pub reached : reached_by image s.store roots number ≡ true
   pub placed : object.place ≡ address block
+
+-- ---- answers
+
+-- the answer that an allocation's result tells
+abbrev pub answer_of : Option ℕ → Answer
+answer_of None = Refused
+answer_of (Some a) = Placed a
+
+-- the state after an allocation with that result
+abbrev pub after_allocation : ImageParts → ObjectShape → Option ℕ → State → State
+after_allocation image shape result s = allocated (shown image).shapes shape (answer_of result) s
+
+-- the roots then, with the reply before them
+abbrev pub replied_roots : Option ℕ → List Value → State → List Value
+replied_roots result roots s = reply_to (answer_of result) s ∷ roots
