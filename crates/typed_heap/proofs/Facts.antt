@@ -24,13 +24,14 @@ use Rattle.tal_image.specs.Image.{ImageParts}
 use Rattle.tal_image.specs.Shown.{shown, shapes_of, data_row_in}
 use Rattle.tal_image.specs.Formed.{Formed, EachAfter, tables}
 use Rattle.tal_image.specs.Formed.{IsArray as IsArrayPart}
+use Rattle.tal_checker.specs.Frames.{may_refer}
 use Rattle.typed_machine.specs.Values.{Value, Number, Null, Ref, Word, ObjectShape, InstanceOf, ArrayOf, is_instance, is_array, fits_among, all_objects}
 use Rattle.typed_machine.specs.Stores.{Object, Store, shape_in, shapes_in, places_in, value_type, value_count}
 use Rattle.typed_machine.specs.States.{State}
 use Rattle.typed_machine.specs.Typing.{IsArray, StoreFits, Typed, scope_of}
 use Rattle.typed_machine.specs.Reaching.{Reach, names, references_of}
 use Rattle.reached_objects.specs.ReachedFrom.{ReachedFrom}
-use Rattle.typed_heap.specs.Standing.{ObjectStands, refers_within, Rooted, RootsStand}
+use Rattle.typed_heap.specs.Standing.{ObjectStands, refers_within, RootsRefer, RootsStand}
 use Rattle.typed_heap.proofs.Lists.{At, at-index}
 use Rattle.typed_heap.proofs.ShapeWords.{Refers, type-some}
 
@@ -87,6 +88,15 @@ reference-within v store i (field.ArrRef k) h = some-within store i (array-there
 
 below-true : (i n : ℕ) → i < n → nat_lt i n ≡ true
 below-true i n l = grind (arith, nat_tests)
+
+-- so is one with a type of references
+pub reference-there : (v : ShownImage) (store : Store) (i : ℕ) (t : Ty) → may_refer t ≡ true → fits_among v all_objects (shapes_in store) (Ref i) t ≡ true → nat_lt i (length store) ≡ true
+unfolding fits_among may_refer
+reference-there v store i (ty.Ref c) m h = below-true i (length store) (some-within store i (instance-there v.shapes (slice_get (shapes_in store) i) c h))
+reference-there v store i (ty.Obj c) m h = below-true i (length store) (some-within store i (instance-there v.shapes (slice_get (shapes_in store) i) c h))
+reference-there v store i (ty.ArrRef k) m h = below-true i (length store) (some-within store i (array-there (slice_get (shapes_in store) i) k h))
+reference-there v store i (ty.Arr k) m h = below-true i (length store) (some-within store i (array-there (slice_get (shapes_in store) i) k h))
+reference-there v store i t m h = absurd (false≢true m)
 
 -- a value with the type of a reference field is null or an object
 pub value-refers : (v : ShownImage) (store : Store) (w : Value) (t : FieldTy) → is_reference t ≡ true → fits_among v all_objects (shapes_in store) w (of_field t) ≡ true → refers_within (length store) w ≡ true
@@ -168,8 +178,8 @@ module _ (told : Told) (image : ImageParts) (s : State) (formed : Formed image) 
 pub facts : Told → (image : ImageParts) (s : State) (roots : List Value) (words list : List ℕ) → RootsStand image s roots words list → Facts (shown image).shapes (length image.arrays) s.store roots words list
 facts told image s roots words list r = record {
   told = store-told told image s r.formed r.typed;
-  rooted = r.rooted.there;
-  arrays_named = r.rooted.arrays;
+  rooted = r.refer.there;
+  arrays_named = r.refer.arrays;
   stands = λ i o h l e. r.stands i o ((told.least (shown image).shapes s.store roots i).1 h) l e;
   lists = r.lists;
 }

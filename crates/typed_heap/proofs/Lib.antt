@@ -6,3 +6,5 @@ pub mod Runs
 pub mod Taken
 pub mod Fresh
 pub mod Growing
+pub mod Rooting
+pub mod Counting

@@ -70,6 +70,19 @@ names-get (v ∷ values) i h = go (names-first v values i h) (λ g. names-get va
     go (inl e) more = record { number = 0; is = ap Some e }
     go (inr g) more = let q = more g in record { number = suc q.number; is = q.is }
 
+-- what a list names, a longer one does
+pub names-left : (u v : List Value) (i : ℕ) → names u i ≡ true → names (u ++ v) i ≡ true
+names-left [] v i h = absurd (false≢true h)
+names-left (w ∷ u) v i h = go (names-first w u i h) (names-left u v i)
+  where
+    go : (w ≡ Ref i) ⊎ (names u i ≡ true) → (names u i ≡ true → names (u ++ v) i ≡ true) → names (w ∷ u ++ v) i ≡ true
+    go (inl e) more = get-names (w ∷ u ++ v) 0 i (ap Some e)
+    go (inr g) more = names-behind w (u ++ v) i (more g)
+
+pub names-right : (u v : List Value) (i : ℕ) → names v i ≡ true → names (u ++ v) i ≡ true
+names-right [] v i h = h
+names-right (w ∷ u) v i h = names-behind w (u ++ v) i (names-right u v i h)
+
 -- the word of a value stands in the list of words
 pub get-in : (places : List ℕ) (values : List Value) (k : ℕ) (v : Value) → slice_get values k ≡ Some v → In (Word places v) (map (Word places) values)
 get-in places [] k v e = cc

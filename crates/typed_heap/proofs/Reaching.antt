@@ -21,7 +21,7 @@ use Rattle.typed_machine.specs.Words.{head_values, object_values}
 use Rattle.typed_machine.specs.Reaching.{names, references_of}
 use Rattle.reached_objects.specs.ReachedFrom.{ReachedFrom}
 use Rattle.reached_objects.specs.ReachedFrom.ReachedFrom.{named, followed}
-use Rattle.typed_heap.specs.Standing.{ObjectStands, refers_within, RootsStand, StandsAt}
+use Rattle.typed_heap.specs.Standing.{ObjectStands, refers_within, RootsStand, ReachedObject}
 use Rattle.typed_heap.specs.Laws.{Agrees, WordsAgree}
 use Rattle.typed_heap.proofs.Lists.{below-or-not, At, at-index, map-index, get-names, names-get, get-in, in-get}
 use Rattle.typed_heap.proofs.ShapeWords.{address-block, address-high, value_word, value-there, type-within, Refers, refers-holds, RefersAt, holds-refers, references-held, held-references}
@@ -235,7 +235,7 @@ words-agree told image s roots words list r = record {
   reached = λ block. (
     λ h. let q = words-reached told (shown image).shapes (length image.arrays) s.store roots words list f block h in
         record { number = q.number; object = q.object; is = q.is; behind = q.behind; reached = (told.least (shown image).shapes s.store roots q.number).1 q.reached; placed = q.placed },
-    λ (o : StandsAt image s roots block). reached-words told (shown image).shapes (length image.arrays) s.store roots words list f o.number o.object block ((told.least (shown image).shapes s.store roots o.number).0 o.reached) o.behind o.is o.placed,
+    λ (o : ReachedObject image s roots block). reached-words told (shown image).shapes (length image.arrays) s.store roots words list f o.number o.object block ((told.least (shown image).shapes s.store roots o.number).0 o.reached) o.behind o.is o.placed,
   );
 }
   where

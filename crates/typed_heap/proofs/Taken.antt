@@ -19,7 +19,7 @@ use Rattle.typed_machine.specs.Stores.{Object, Store, need}
 use Rattle.typed_machine.specs.States.{State}
 use Rattle.typed_machine.specs.Turns.{Placed, Refused}
 use Rattle.typed_machine.specs.Placing.{WordRun, block_of, lies_in_block, is_taken, runs_from, Gaps, lies_in, Legal}
-use Rattle.typed_heap.specs.Standing.{ObjectStands, reached_by, RootsStand, StandsAt}
+use Rattle.typed_heap.specs.Standing.{ObjectStands, reached_by, RootsStand, ReachedObject}
 use Rattle.typed_heap.specs.Laws.{Agrees}
 use Rattle.typed_heap.proofs.ShapeWords.{address-block}
 use Rattle.typed_heap.proofs.Runs.{RunFound, run-found, words-lie}
@@ -103,7 +103,7 @@ found-lies s reached i (p ∷ store) k (suc m) o e r a b =
 
 module _ (image : ImageParts) (s : State) (roots : List Value) (words list : List ℕ) (r : RootsStand image s roots words list) (agrees : Agrees image s roots words list) where
   -- a reached object stands in its block, which has its need
-  stands-at : (block : ℕ) (o : StandsAt image s roots block) → size_at words block ≡ need (shown image).shapes o.object.shape
+  stands-at : (block : ℕ) (o : ReachedObject image s roots block) → size_at words block ≡ need (shown image).shapes o.object.shape
   stands-at block o =
       let q = r.stands o.number o.object o.reached o.behind o.is in
       let same : q.block ≡ block = address-block q.block block (sym q.placed ∙ o.placed) in

@@ -42,7 +42,7 @@ refers_within n (Ref i) = nat_lt i n
 refers_within n value = false
 
 -- each root is null or an object of the store, and what a data array refers to is among the roots
-pub record Rooted (image : ImageParts) (s : State) (roots : List Value) : Type 0 where
+pub record RootsRefer (image : ImageParts) (s : State) (roots : List Value) : Type 0 where
   pub there : (k : ℕ) (v : Value) → slice_get roots k ≡ Some v → refers_within (length s.store) v ≡ true
   pub arrays : (i j : ℕ) (o : Object) → i < length image.arrays → slice_get s.store i ≡ Some o → names (references_of (shown image).shapes o) j ≡ true → names roots j ≡ true
 
@@ -50,13 +50,13 @@ pub record Rooted (image : ImageParts) (s : State) (roots : List Value) : Type 0
 pub record RootsStand (image : ImageParts) (s : State) (roots : List Value) (words list : List ℕ) : Type 0 where
   pub formed : Formed image
   pub typed : Typed image s
-  pub rooted : Rooted image s roots
+  pub refer : RootsRefer image s roots
   pub stands : HeapStands image (reached_by image s.store roots) s.store words
   pub lists : list ≡ map (Word (places_of s)) roots
   pub size : length words ≡ image.heap_words
 
 -- a reached object behind the data arrays stands in the block at a place
-pub record StandsAt (image : ImageParts) (s : State) (roots : List Value) (block : ℕ) : Type 0 where
+pub record ReachedObject (image : ImageParts) (s : State) (roots : List Value) (block : ℕ) : Type 0 where
   pub number : ℕ
   pub object : Object
   pub is : slice_get s.store number ≡ Some object
