@@ -1,0 +1,9 @@
+pub mod Words
+pub mod DataArea
+pub mod Marks
+pub mod Bits
+pub mod Frames
+pub mod Saved
+pub mod Stacks
+pub mod Roots
+pub mod Steps
