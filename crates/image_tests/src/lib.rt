@@ -17,6 +17,8 @@ mod machine;
 #[cfg(test)]
 mod memory;
 #[cfg(test)]
+mod memory_steps;
+#[cfg(test)]
 mod nucleus;
 #[cfg(test)]
 mod rules;

@@ -1,13 +1,13 @@
-// Cases of single instructions: each runs an instruction, by its bytes, on registers and flags. The file that the one word of
-// the command line names has them, as `data/cases`, which says at its head how one is written. What each came to is printed.
+// Cases of single instructions: each runs an instruction, by its bytes, on registers and flags, or tells what bytes spell. The
+// file that the one word of the command line names has them, as `data/cases`, which says at its head how one is written. What
+// each came to is printed.
 #![tactic(auto)]
 
 mod case;
-#[cfg(test)]
-mod memory_steps;
 mod one_word;
 mod playing;
 mod script;
+mod spelling;
 mod unplayed;
 
 use script::play_all;

@@ -1,6 +1,7 @@
 // A script: cases, one after another, and what each row of them came to.
 use crate::case::Case;
 use crate::playing::play;
+use crate::spelling::push_spelled;
 use crate::unplayed::Unplayed;
 use hex::FromHexError;
 use stack_states::FlagBits;
@@ -51,6 +52,15 @@ fn play_row(text: &mut String, case: &Case, row: &str) -> Result<(), Unplayed> {
     Ok(())
 }
 
+// Tells what bytes spell.
+fn play_bytes(alloc: Global, text: &mut String, digits: &str) -> Result<(), Unplayed> {
+    let bytes = read_bytes(alloc, digits)?;
+    write!(text, "  {digits}: ")?;
+    push_spelled(text, &bytes)?;
+    text.push('\n')?;
+    Ok(())
+}
+
 /// Plays the cases of a script, and says what each row came to.
 pub fn play_all(alloc: Global, script: &str) -> Result<String, Unplayed> {
     let mut text = String::new(alloc);
@@ -72,6 +82,7 @@ pub fn play_all(alloc: Global, script: &str) -> Result<String, Unplayed> {
                 }
             }
             "row" => play_row(&mut text, &case, rest)?,
+            "spells" => play_bytes(alloc, &mut text, rest)?,
             _ => return Err(Unplayed::Form),
         }
     }

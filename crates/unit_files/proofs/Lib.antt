@@ -1,4 +1,3 @@
 pub mod Meaning
 pub mod Reading
 pub mod Written
-pub mod ShortestUnit

@@ -17,8 +17,6 @@ pub mod laws;
 mod names;
 mod parts;
 mod row_reader;
-#[cfg(test)]
-mod tests;
 mod unit;
 mod unit_reader;
 mod writing;

@@ -1,5 +1,5 @@
-use Rattle.unit_files.proofs.ShortestUnit.{formed}
-use Rattle.unit_files.proofs.tests.shortest.Goals as goal
+use Rattle.unit_cases.proofs.ShortestUnit.{formed}
+use Rattle.unit_cases.proofs.shortest.shortest.Goals as goal
 
 pub of-requires-3 : goal.of-requires-3
 of-requires-3 c =

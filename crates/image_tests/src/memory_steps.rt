@@ -1,11 +1,34 @@
-// Tests of instructions that touch the one word of a memory. Those that touch none are the cases of `data/cases`.
-ghost use Rattle.std.specs.Prelude.{◌≡◌};
+// Instructions that touch the one word of a memory. Those that touch none are cases of `step_cases`.
+ghost use Rattle.std.specs.Prelude.{◌≡◌, ◌==◌, if◌then◌else◌};
 
-use crate::one_word::OneWord;
 use ia32_code::{Alu, Inst, Mem, Operand, Reg};
 use ia32_step::{Bus, Cpu, Effect, exec};
 use stack_states::FlagBits;
 use std::test::*;
+
+/// The word at 0x300000, and no other.
+#[derive(Drop)]
+struct OneWord {
+    word: u32,
+}
+
+impl Bus for OneWord {
+    ghost is_mapped = { λ _ a. a == 3145728 };
+
+    ghost word_at = { λ bus a. (if a == 3145728 then bus.word else 0) };
+
+    fn mapped(&self, address: u32) -> bool {
+        address == 0x30_0000
+    }
+
+    fn load(&self, _address: u32) -> u32 {
+        self.word
+    }
+
+    fn store(&mut self, _address: u32, word: u32) {
+        self.word = word;
+    }
+}
 
 // A processor at an instruction, with no flags.
 const fn with(regs: [u32; 8]) -> Cpu

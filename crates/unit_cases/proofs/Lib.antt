@@ -1,0 +1,2 @@
+-- The unit that is put together of its rows.
+mod ShortestUnit
