@@ -5,7 +5,8 @@ use Rattle.std.proofs.lemmas.Bool.Decides.{nat_tests}
 use Rattle.device_model.specs.declared.screen.TheConstants.{CELLS}
 use Rattle.device_model.specs.History.{History, cell}
 use Rattle.device_model.specs.Devices.{DevicesView, StandsFor}
-use Rattle.kernel_machine.specs.Shown.{cells_from, screen_of, screen_by}
+use Rattle.run_report.specs.Shown.{cells_from, screen_of}
+use Rattle.kernel_machine.specs.Shown.{screen_by}
 
 -- there are as many as were asked for
 pub cells-count : (at : ℕ → ℕ) (position n : ℕ) → length (cells_from at position n) ≡ n

@@ -1,4 +1,3 @@
-pub mod Lines
 pub mod Cells
 pub mod UnbuiltCalls
 pub mod EventsCome

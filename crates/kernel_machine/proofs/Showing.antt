@@ -20,7 +20,8 @@ use Rattle.typed_safety.specs.Laws.{RunsAreTyped}
 use Rattle.word_machine.specs.Memory.{MemoryView, word_of, word_at, is_mapped}
 use Rattle.word_machine.specs.Standing.{kept_values, values_at, HoldsValues, CpuStands, MemoryStands}
 use Rattle.nucleus_calls.specs.Nucleus.{state_by, states_by}
-use Rattle.kernel_machine.specs.Shown.{ShownStack, ShownWords, words_from, esp_by, stack_by, stacks_by, shown_stacks, shown_of}
+use Rattle.run_report.specs.Shown.{ShownStack, ShownWords, shown_stacks, shown_of}
+use Rattle.kernel_machine.specs.Shown.{words_from, esp_by, stack_by, stacks_by}
 use Rattle.kernel_machine.specs.Machine.{MachineView, shown_by, Stands, Lawful}
 use Rattle.kernel_machine.specs.Laws.{MachinesShowTheirRuns}
 use Rattle.kernel_machine.proofs.Cells.{screen-same}

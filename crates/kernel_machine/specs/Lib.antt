@@ -1,9 +1,7 @@
 -- Which images run so far.
 pub mod Built
--- The words that are shown.
+-- The words that a machine shows.
 pub mod Shown
--- The text of a report.
-pub mod Report
 -- A machine: when it stands for a state and follows a journal.
 pub mod Machine
 -- How a machine is made and takes a turn.

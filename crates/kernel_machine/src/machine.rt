@@ -15,10 +15,7 @@ ghost use Rattle.kernel_machine.specs.Stepping.{TakesTurn};
 
 use crate::acting::act;
 use crate::events::enter_events;
-use crate::run_end::RunEnd;
 use crate::running::MOST_TURNS;
-use crate::shown::Shown;
-use crate::turn::Turn;
 use device_model::Event;
 use ia32_code::laws::canonical_is_none;
 use ia32_code::{Decoded, Inst, decode};
@@ -26,6 +23,7 @@ use ia32_step::Cpu;
 use no_memory::NoMemory;
 use nucleus_calls::{Journal, Nucleus};
 use object_layout::areas::{CODE_START, STACKS_START};
+use run_report::{RunEnd, Shown, Turn};
 use stack_states::{FlagBits, StackState};
 use std::alloc::Global;
 use std::marker::Model;

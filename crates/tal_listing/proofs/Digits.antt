@@ -9,20 +9,12 @@ use Rattle.std.proofs.lemmas.Str.Ascii.{IsAscii-nil, IsAscii-cons}
 use Rattle.std.proofs.lemmas.Str.{IsUtf8-from_ascii, IsCharBoundary-from_ascii}
 use Rattle.hex.specs.Hex.{encode_with, encode_upper, upper_digits}
 use Rattle.hex.proofs.HexLemmas.{length-encode_with, IsAscii-encode_with}
-use Rattle.tal_listing.specs.Numbers.{word_text}
 
 -- The digits of bytes are those of the first and then those of the others.
 pub encode_with-append : (t xs ys : List ℕ) → encode_with t (xs ++ ys) ≡ encode_with t xs ++ encode_with t ys
 unfolding encode_with
 encode_with-append t [] ys = refl
 encode_with-append t (b ∷ xs) ys = ap (λ (z : List ℕ). slice_index t (b / 16) ∷ slice_index t (b % 16) ∷ z) (encode_with-append t xs ys)
-
--- Two digits behind a text are those of a byte.
-pub pushed_byte : (old mid new high low : List ℕ) (x y b : ℕ) → mid ≡ old ++ high → new ≡ mid ++ low → high ≡ x ∷ [] → low ≡ y ∷ []
-    → x ≡ slice_index upper_digits (b / 16) → y ≡ slice_index upper_digits (b % 16) → new ≡ old ++ encode_upper (b ∷ [])
-unfolding encode_with
-pushed_byte old mid new high low x y b to_mid to_new is_high is_low is_x is_y =
-    rw (to_new, to_mid, is_high, is_low, is_x, is_y) (append_assoc old (slice_index upper_digits (b / 16) ∷ []) (slice_index upper_digits (b % 16) ∷ []))
 
 -- So many bytes in front have twice as many digits.
 take-encode_with : (t xs : List ℕ) (n : ℕ) → take (2 * n) (encode_with t xs) ≡ encode_with t (take n xs)
@@ -38,15 +30,6 @@ unfolding encode_with
 drop-encode_with t xs zero = refl
 drop-encode_with t [] (suc n) = let e : 2 * suc n ≡ suc (suc (2 * n)) = omega arith in rw e refl
 drop-encode_with t (b ∷ xs) (suc n) = let e : 2 * suc n ≡ suc (suc (2 * n)) = omega arith in rw e (drop-encode_with t xs n)
-
--- The digits of four bytes behind a text are those of a word.
-pub pushed_word : (old first second third new bytes : List ℕ) (w : ℕ) → bytes ≡ to_be_bytes w32 w
-    → first ≡ old ++ encode_upper (slice_index bytes 0 ∷ []) → second ≡ first ++ encode_upper (slice_index bytes 1 ∷ [])
-    → third ≡ second ++ encode_upper (slice_index bytes 2 ∷ []) → new ≡ third ++ encode_upper (slice_index bytes 3 ∷ [])
-    → new ≡ old ++ word_text w
-unfolding encode_with
-pushed_word old first second third new bytes w e to_first to_second to_third to_new =
-    rw (to_new, to_third, to_second, to_first, e) (simp append_assoc refl)
 
 -- Bytes that pass the test are ASCII.
 ascii_by_test : (bytes : List ℕ) → list_all (λ b. nat_lt b 128) bytes ≡ true → IsAscii bytes

@@ -4,7 +4,7 @@ use Rattle.std.specs.List.{flat_map}
 use Rattle.hex.specs.Hex.{encode_upper}
 use Rattle.ia32_code.specs.declared.instruction.Inst.{Inst}
 use Rattle.ia32_code.specs.Decoding.{decoded, instruction_of}
-use Rattle.tal_listing.specs.Numbers.{word_text}
+use Rattle.hex_text.specs.Words.{word_text}
 use Rattle.tal_listing.specs.Words.{inst_text}
 
 -- an instruction of the code: its address, the bytes that spell it, and what they spell

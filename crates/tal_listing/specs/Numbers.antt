@@ -1,11 +1,7 @@
--- Numbers as the listing has them: hexadecimal digits in capitals.
+-- Numbers as the listing has them: hexadecimal digits in capitals behind 0x.
 use Rattle.std.specs.Prelude.{ℕ, List, [], ◌∷◌, ◌++◌, codes}
-use Rattle.std.specs.Int.{w32, to_be_bytes}
 use Rattle.hex.specs.Hex.{encode_upper}
-
--- a word: eight digits
-abbrev pub word_text : ℕ → List ℕ
-word_text n = encode_upper (to_be_bytes w32 n)
+use Rattle.hex_text.specs.Words.{word_text}
 
 -- a word as a number
 abbrev pub number_text : ℕ → List ℕ

@@ -13,7 +13,8 @@ use Rattle.code_words.specs.declared.words.OperandWords.TheVariants.{Zero, One, 
 use Rattle.code_words.specs.declared.words.Words.{Words}
 use Rattle.code_words.specs.Saying.{said_of}
 use Rattle.code_words.specs.Texts.{register_text, mnemonic_text}
-use Rattle.tal_listing.specs.Numbers.{word_text, number_text, byte_text}
+use Rattle.tal_listing.specs.Numbers.{number_text, byte_text}
+use Rattle.hex_text.specs.Words.{word_text}
 
 -- the base of an operand in memory, if it has one
 abbrev pub base_text : Option Reg → List ℕ

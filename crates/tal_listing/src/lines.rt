@@ -4,7 +4,7 @@ ghost use Rattle.std.specs.String.{string_bytes};
 ghost use Rattle.hex.specs.Hex.{encode_upper};
 ghost use Rattle.tal_listing.specs.Lines.{line_text, code_text};
 
-use crate::number_text::push_word;
+use hex_text::push_word_digits;
 use crate::words_text::push_inst;
 use ia32_code::{Decoded, Inst, decode};
 use std::alloc::AllocError;
@@ -23,7 +23,7 @@ fn push_line(
     ensures { OnOk result (string_bytes out.new ≡ string_bytes out.old
         ++ line_text (record { address = address; bytes = bytes.now; inst = inst.now })) }
 {
-    push_word(out, address)?;
+    push_word_digits(out, address)?;
     out.push_str(" ")?;
     out.push_str(digits)?;
     out.push_str(" ")?;

@@ -3,7 +3,8 @@ ghost use Rattle.std.specs.Prelude.{◌≡◌, ◌++◌, OnOk};
 ghost use Rattle.std.specs.String.{string_bytes};
 ghost use Rattle.tal_listing.specs.Words.{base_text, factor_text, index_text, memory_text, target_address, operand_text, operands_text, words_text, system_text, inst_text};
 
-use crate::number_text::{push_byte, push_number, push_word};
+use crate::number_text::{push_byte, push_number};
+use hex_text::push_word_digits;
 use code_words::{OperandWord, OperandWords, Words, register_text, said};
 use ia32_code::{Inst, Mem, Reg};
 use std::alloc::AllocError;
@@ -72,7 +73,7 @@ fn push_operand(out: &mut String, next: u32, operand: OperandWord) -> Result<(),
         OperandWord::Memory(mem) => push_memory(out, mem)?,
         OperandWord::Number(number) => push_number(out, number)?,
         OperandWord::Cl => out.push_str("cl")?,
-        OperandWord::Target(distance) => push_word(out, target(next, distance))?,
+        OperandWord::Target(distance) => push_word_digits(out, target(next, distance))?,
     }
     Ok(())
 }

@@ -7,10 +7,10 @@ use Rattle.tal_checker.specs.WellTyped.{WellTyped}
 use Rattle.file_fields.specs.declared.fault.ImageFault.TheVariants as fault
 use Rattle.kernel_machine.specs.Machine.{MachineView, shown_by, Follows, end_of}
 use Rattle.kernel_machine.specs.Laws.{MachinesShowTheirRuns}
-use Rattle.kernel_machine.specs.Report.{ReportText}
+use Rattle.run_report.specs.Report.{ReportText}
 use Rattle.typed_machine.specs.declared.ending.Ending.{Ending}
-use Rattle.kernel_machine.specs.declared.run_end.RunEnd.{RunEnd}
-use Rattle.kernel_machine.specs.declared.run_end.RunEnd.TheVariants as run_end
+use Rattle.run_report.specs.declared.run_end.RunEnd.{RunEnd}
+use Rattle.run_report.specs.declared.run_end.RunEnd.TheVariants as run_end
 use Rattle.stack_states.specs.declared.journal_entry.Entry.{Entry}
 use Rattle.verve_tool.specs.Commands.{RunWords, Request, Run, causes}
 use Rattle.verve_tool.specs.Causes.{Cause, Missing, Long, Malformed, IllTyped, Unbuilt, BadEvents, status_of as status_of_cause}

@@ -6,8 +6,8 @@ use Rattle.std.proofs.lemmas.Fmt.{decimal_injective}
 use Rattle.outside.specs.FileMaps.{FileMap}
 use Rattle.outside.specs.Faults.{Faulted, Quiet}
 use Rattle.tal_image.specs.Image.{ImageParts}
-use Rattle.kernel_machine.specs.declared.run_end.RunEnd.{RunEnd}
-use Rattle.kernel_machine.specs.declared.run_end.RunEnd.TheVariants as run_end
+use Rattle.run_report.specs.declared.run_end.RunEnd.{RunEnd}
+use Rattle.run_report.specs.declared.run_end.RunEnd.TheVariants as run_end
 use Rattle.verve_tool.specs.Commands.{RunWords, Request, Run, Check, Listing, SpellsRun, WordsOf, NoCommand, causes, Serves, NothingStops, MayEnd}
 use Rattle.verve_tool.specs.Causes.{Cause, Missing, IsFirst, NoneHolds, OneCause, TypedImage, status_of}
 use Rattle.verve_tool.specs.Seen.{Call}

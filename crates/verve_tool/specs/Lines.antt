@@ -4,7 +4,7 @@ use Rattle.outside.specs.Faults.{Quiet}
 use Rattle.outside.specs.Sinks.{Gained, GainedFront}
 use Rattle.device_model.specs.declared.events.EventFault.{EventFault}
 use Rattle.device_model.specs.declared.events.EventFault.TheVariants as event_fault
-use Rattle.kernel_machine.specs.Report.{word_text}
+use Rattle.hex_text.specs.Words.{word_text}
 use Rattle.file_fields.specs.declared.fault.ImageFault.{ImageFault}
 use Rattle.file_fields.specs.declared.fault.ImageFault.TheVariants as fault
 

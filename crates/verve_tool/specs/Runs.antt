@@ -1,11 +1,11 @@
 -- What a run of a command did: the machine that is kept, the typed machine's run that it stands for, and its report.
 use Rattle.std.specs.Prelude.{◌≡◌, ◌≤◌, ◌⊎◌, ℕ, List, Some, IsSome}
 use Rattle.typed_machine.specs.Turns.{Run as RunView}
-use Rattle.kernel_machine.specs.Shown.{shown_of}
+use Rattle.run_report.specs.Shown.{shown_of}
 use Rattle.kernel_machine.specs.Machine.{MachineView, Follows, end_of}
-use Rattle.kernel_machine.specs.Report.{ReportText}
-use Rattle.kernel_machine.specs.declared.run_end.RunEnd.{RunEnd}
-use Rattle.kernel_machine.specs.declared.run_end.RunEnd.TheVariants as end
+use Rattle.run_report.specs.Report.{ReportText}
+use Rattle.run_report.specs.declared.run_end.RunEnd.{RunEnd}
+use Rattle.run_report.specs.declared.run_end.RunEnd.TheVariants as end
 use Rattle.verve_tool.specs.declared.status.Status.{Status}
 use Rattle.verve_tool.specs.declared.status.Status.TheVariants.{Done, KernelFault}
 use Rattle.verve_tool.specs.Commands.{RunWords, Loaded}

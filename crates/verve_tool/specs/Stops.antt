@@ -7,8 +7,8 @@ use Rattle.outside.specs.Sinks.{Gained, GainedFront}
 use Rattle.device_model.specs.declared.events.EventFault.{EventFault}
 use Rattle.device_model.specs.declared.events.EventFault.TheVariants as event_fault
 use Rattle.kernel_machine.specs.Machine.{MachineView, shown_by, end_of}
-use Rattle.kernel_machine.specs.Report.{ReportText}
-use Rattle.kernel_machine.specs.declared.run_end.RunEnd.{RunEnd}
+use Rattle.run_report.specs.Report.{ReportText}
+use Rattle.run_report.specs.declared.run_end.RunEnd.{RunEnd}
 use Rattle.file_fields.specs.declared.fault.ImageFault.{ImageFault}
 use Rattle.file_fields.specs.declared.fault.ImageFault.TheVariants as fault
 use Rattle.tal_checker.specs.declared.answer.CheckAnswer.{CheckAnswer}

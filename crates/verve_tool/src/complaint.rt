@@ -2,15 +2,15 @@
 ghost use Rattle.std.specs.Prelude.{◌≡◌, ◌<◌, [], ◌∷◌, ◌++◌};
 ghost use Rattle.std.specs.List.{flat_map};
 ghost use Rattle.device_model.specs.declared.events.EventFault.{EventFault};
-ghost use Rattle.kernel_machine.specs.Report.{word_text};
+ghost use Rattle.hex_text.specs.Words.{word_text};
 ghost use Rattle.file_fields.specs.declared.fault.ImageFault.{ImageFault};
 ghost use Rattle.verve_tool.specs.Lines.{Says, file_line, bad_line, not_built_line, fault_line, events_line, event_fault_line, refused_line};
 ghost use Rattle.verve_tool.specs.Stops.{line_of};
 
 use crate::stop::Stop;
 use device_model::EventFault;
+use hex_text::word_digits;
 use itoa::Buffer;
-use kernel_machine::word_digits;
 use outside::Sink;
 use tal_image::ImageFault;
 

@@ -11,9 +11,10 @@ use crate::status::Status;
 use crate::stop::Stop;
 use crate::words::RunCommand;
 use kernel_machine::laws::machines_show_their_runs;
-use kernel_machine::{MOST_TURNS, Machine, RunEnd, report, run as run_machine};
+use kernel_machine::{MOST_TURNS, Machine, run as run_machine};
 use nucleus_calls::Journal;
 use outside::{Files, Sink};
+use run_report::{RunEnd, report};
 use std::alloc::Global;
 
 // The status of a command whose run came to this end and was told.

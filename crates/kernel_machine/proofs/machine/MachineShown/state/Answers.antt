@@ -1,5 +1,5 @@
 use Rattle.std.proofs.Common.{sym, ap, ◌∙◌}
-use Rattle.kernel_machine.specs.Shown.{ShownStack}
+use Rattle.run_report.specs.Shown.{ShownStack}
 use Rattle.kernel_machine.proofs.Showing.{stack-inside, stack-shown}
 use Rattle.kernel_machine.proofs.machine.MachineShown.state.Goals as goal
 

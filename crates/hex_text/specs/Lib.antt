@@ -1,0 +1,2 @@
+-- The digits of a word.
+pub mod Words
