@@ -31,3 +31,8 @@ stacks_step shown ts k out new whole inside before made =
     let here : drop k ts ≡ get_or ts k no_stack ∷ drop (k + 1) ts = rw (add-one, drop-cons ts k no_stack inside) refl in
     let front : out ++ stacks_text shown k (get_or ts k no_stack ∷ drop (k + 1) ts) ≡ whole = rw here at before in
     rw made (simp append_assoc (simp append_assoc at front))
+
+-- seven texts appended one after another
+pub seven_appended : (o a b c d e f g p q r s t u v : List ℕ) → p ≡ o ++ a → q ≡ p ++ b → r ≡ q ++ c → s ≡ r ++ d → t ≡ s ++ e → u ≡ t ++ f → v ≡ u ++ g
+    → v ≡ o ++ (a ++ b ++ c ++ d ++ e ++ f ++ g)
+seven_appended o a b c d e f g p q r s t u v hp hq hr hs ht hu hv = rw (hv, hu, ht, hs, hr, hq, hp) (simp append_assoc refl)

@@ -1,6 +1,6 @@
 -- The text of a summary: the end of a run, its turns, and how many entries of each kind its journal has.
-use Rattle.std.specs.Prelude.{ℕ, List, [], ◌∷◌, ◌++◌, codes, decimal, Bool, true, false, ◌&&◌, ◌==◌, not, nat_lt}
-use Rattle.std.specs.List.{count_by, flat_map}
+use Rattle.std.specs.Prelude.{ℕ, List, ◌++◌, codes, decimal, Bool, true, false, ◌&&◌, ◌==◌, not, nat_lt}
+use Rattle.std.specs.List.{count_by}
 use Rattle.stack_states.specs.declared.journal_entry.Entry.{Entry}
 use Rattle.stack_states.specs.declared.journal_entry.EntryKind.{EntryKind}
 use Rattle.stack_states.specs.declared.journal_entry.EntryKind.TheVariants as kind
@@ -36,7 +36,9 @@ count_line entries what = counted_name what ++ decimal (count_by (λ e. is_count
 
 -- the lines of all counts
 unfoldable pub counts_text : List Entry → List ℕ
-counts_text entries = flat_map (count_line entries) (Calls ∷ Placed ∷ Refused ∷ Yields ∷ Interrupts ∷ Faults ∷ Ended ∷ [])
+counts_text entries =
+    count_line entries Calls ++ count_line entries Placed ++ count_line entries Refused ++ count_line entries Yields
+    ++ count_line entries Interrupts ++ count_line entries Faults ++ count_line entries Ended
 
 -- the lines of the end and of the turns, as a report has them, and then the counts
 unfoldable pub SummaryText : RunEnd → ℕ → List Entry → List ℕ

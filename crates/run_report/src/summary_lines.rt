@@ -85,7 +85,6 @@ fn push_count(out: &mut Vec<u8>, what: Counted, entries: &[Entry]) -> Result<(),
 }
 
 // Appends the lines of all counts.
-#[tactic(auto, unfolding(crate::specs::Summary::counts_text))]
 fn push_counts(out: &mut Vec<u8>, entries: &[Entry]) -> Result<(), AllocError>
     ensures { OnOk result (out.new.items ≡ out.old.items ++ counts_text entries.now) }
 {
@@ -95,7 +94,8 @@ fn push_counts(out: &mut Vec<u8>, entries: &[Entry]) -> Result<(), AllocError>
     push_count(out, Counted::Yields, entries)?;
     push_count(out, Counted::Interrupts, entries)?;
     push_count(out, Counted::Faults, entries)?;
-    push_count(out, Counted::Ended, entries)
+    push_count(out, Counted::Ended, entries)?;
+    Ok(())
 }
 
 /// The summary of a run that came to this end after so many turns, with this journal: the end, the turns, and how many entries
