@@ -4,8 +4,8 @@ ghost use Rattle.std.specs.String.{string_bytes};
 ghost use Rattle.hex.specs.Hex.{encode_upper};
 ghost use Rattle.tal_listing.specs.Lines.{line_text, code_text};
 
-use hex_text::push_word_digits;
 use crate::words_text::push_inst;
+use hex_text::push_word_digits;
 use ia32_code::{Decoded, Inst, decode};
 use std::alloc::AllocError;
 

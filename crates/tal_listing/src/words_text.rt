@@ -4,8 +4,8 @@ ghost use Rattle.std.specs.String.{string_bytes};
 ghost use Rattle.tal_listing.specs.Words.{base_text, factor_text, index_text, memory_text, target_address, operand_text, operands_text, words_text, system_text, inst_text};
 
 use crate::number_text::{push_byte, push_number};
-use hex_text::push_word_digits;
 use code_words::{OperandWord, OperandWords, Words, register_text, said};
+use hex_text::push_word_digits;
 use ia32_code::{Inst, Mem, Reg};
 use std::alloc::AllocError;
 
