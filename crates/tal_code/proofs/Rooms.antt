@@ -18,7 +18,7 @@ use Rattle.tal_code.specs.Holes.{open_bytes}
 use Rattle.tal_code.specs.Functions.{UnitCodeView, marks_of, fixups_of, with_inst, has_room, most_blocks, most_marks, most_fixups}
 
 -- A test of three is each of them.
-three : (a b c : Bool) → (a && b && c) ≡ true → (a ≡ true) × (b ≡ true) × (c ≡ true)
+pub three : (a b c : Bool) → (a && b && c) ≡ true → (a ≡ true) × (b ≡ true) × (c ≡ true)
 three true true true e = (refl, refl, refl)
 three true true false e = cc
 three true false c e = cc
@@ -32,7 +32,7 @@ within u e =
     (grind arith, grind arith, grind arith)
 
 -- the least code by what holds
-abbrev fault : (u p a b c r n : Bool) → Option ℕ
+abbrev pub fault : (u p a b c r n : Bool) → Option ℕ
 fault u p a b c r n =
     if u then Some 11 else if p || not a then Some 13 else if not b then Some 15 else if not c then Some 16 else if r then Some 17 else if n then Some 18 else None
 
@@ -60,7 +60,7 @@ unfolding with_inst
 grown u s c offset code marks some all at is_code is_marks is_some is_all room = rw (is_code, is_marks, is_all, is_some, at) (within (with_inst u s (Some c)) room)
 
 -- A trial that is passed.
-passed : {B : Type 0} (b : Bool) (code : ℕ) (r : Result B ℕ) (x : B) → unless b code r ≡ Ok x → (b ≡ false) × (r ≡ Ok x)
+pub passed : {B : Type 0} (b : Bool) (code : ℕ) (r : Result B ℕ) (x : B) → unless b code r ≡ Ok x → (b ≡ false) × (r ≡ Ok x)
 passed true code r x e = cc
 passed false code r x e = (refl, e)
 

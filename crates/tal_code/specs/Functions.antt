@@ -76,11 +76,15 @@ abbrev pub unless_fault : {A : Type 0} → Option ℕ → A → Result A ℕ
 unless_fault None made = Ok made
 unless_fault (Some code) made = Err code
 
+-- the bytes of an instruction with so many operands: it has three at most
+unfoldable pub line_code : Instruction → ℕ → Option HoledCode
+line_code i operands = if nat_le operands 3 then holed_code i else None
+
 -- the code with an instruction, whose label is so far away, if it is known
 unfoldable pub inst_line : Names → UnitCodeView → Mnemonic → List Arg → Option ℤ → Result UnitCodeView ℕ
 inst_line m u mnemonic args distance =
     let i = line_instruction m mnemonic args (unwrap_or distance (pos 0)) in
-    let c = holed_code i in
+    let c = line_code i (length args) in
     unless_fault (inst_fault i (is_some c) (is_some distance) (has_room (with_inst u i.sense c))) (with_inst u i.sense c)
 
 -- ---- a label

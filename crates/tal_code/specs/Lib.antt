@@ -4,3 +4,5 @@ pub mod Holes
 pub mod Labels
 -- What the lines of a function add to a unit's code.
 pub mod Functions
+-- What the code of a unit keeps, by the conditions of unit files.
+pub mod Formed

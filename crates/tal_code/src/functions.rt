@@ -1,12 +1,13 @@
 // The lines of a function.
-ghost use Rattle.std.specs.Prelude.{◌≡◌, length, IfOk};
+ghost use Rattle.std.specs.Prelude.{◌≡◌, length, IfOk, IfSome};
 ghost use Rattle.std.specs.Option.{unwrap_or};
 ghost use Rattle.tal_names.specs.Declarations.{names_shown};
 ghost use Rattle.tal_rows.specs.Lines.{slots_given, is_twice};
 ghost use Rattle.asm_faults.specs.Answers.{AnswersBy, at_line};
-ghost use Rattle.tal_code.specs.Functions.{UnitCodeView, inst_line, begins_with_inst, is_placed, slot_types, block_line, has_code, with_lines, function_code};
+ghost use Rattle.tal_code.specs.Holes.{PlacesWithin};
+ghost use Rattle.tal_code.specs.Functions.{UnitCodeView, line_code, inst_line, begins_with_inst, is_placed, slot_types, block_line, has_code, with_lines, function_code};
 
-use crate::holes::holed_code;
+use crate::holes::{HoledCode, holed_code};
 use crate::labels::Labels;
 use crate::unit_code::UnitCode;
 use asm_faults::{AsmAnswer, AsmFault};
@@ -14,7 +15,7 @@ use code_words::Mnemonic;
 use no_memory::NoMemory;
 use std::alloc::Global;
 use tal_names::{ModuleNames, NameSet};
-use tal_operands::instruction_of;
+use tal_operands::{Instruction, instruction_of};
 use tal_rows::label_line;
 use tal_syntax::{Arg, Form, Name, RegType, TextLine, TypeText, TypeTextList};
 use tal_types::Ty;
@@ -83,6 +84,19 @@ fn slot_types(alloc: Global, names: &ModuleNames, slots: &[TypeText]) -> Result<
     Ok(types)
 }
 
+// The bytes of an instruction with so many operands; none where it has more than three.
+#[tactic(auto, unfolding(crate::specs::Functions::line_code))]
+fn line_code(instruction: &Instruction, operands: usize) -> Option<HoledCode>
+    ensures code { result ≡ line_code instruction.now operands }
+    ensures within { IfSome result PlacesWithin }
+{
+    if operands <= 3 {
+        holed_code(instruction)
+    } else {
+        None
+    }
+}
+
 impl UnitCode {
     // The code with an instruction, whose label is so far away, if it is known.
     #[tactic(auto, unfolding(crate::specs::Functions::inst_line))]
@@ -97,7 +111,7 @@ impl UnitCode {
         ensures { AnswersBy result (at_line number (inst_line (names_shown names.now) self mnemonic args.now distance)) }
     {
         let instruction = instruction_of(names, mnemonic, args, distance.unwrap_or(0));
-        let holed = holed_code(&instruction);
+        let holed = line_code(&instruction, args.len());
         let has_room = self.has_room(instruction.sense, &holed);
         match instruction.fault(holed.is_some(), distance.is_some(), has_room) {
             Some(code) => Err(AsmAnswer::Fault(AsmFault { line: number, code })),

@@ -11,4 +11,4 @@ with_inst-requires-clause-room c =
 pub returns-in-None-holed : goal.returns-in-None-holed
 returns-in-None-holed c =
     let told = no_fault c.instruction_of-instruction.result c.is_some.result c.is_some-2.result c.has_room-has_room.result (sym c.in-None.ensures) in
-    absurd (not_both c.holed_code-holed.result c.in-None-holed.is (sym c.is_some.ensures ∙ told.0))
+    absurd (not_both c.line_code-holed.result c.in-None-holed.is (sym c.is_some.ensures ∙ told.0))
