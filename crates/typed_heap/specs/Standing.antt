@@ -12,7 +12,7 @@ use Rattle.typed_machine.specs.Stores.{Object, Store, need, places_in}
 use Rattle.typed_machine.specs.States.{State, places_of}
 use Rattle.typed_machine.specs.Typing.{Typed}
 use Rattle.typed_machine.specs.Words.{object_values}
-use Rattle.typed_machine.specs.Turns.{Answer, Placed, Refused}
+use Rattle.typed_machine.specs.Placing.{Answer, Placed, Refused}
 use Rattle.typed_machine.specs.Placing.{reply_to, allocated}
 use Rattle.typed_machine.specs.Reaching.{names, references_of, Reach}
 

@@ -4,9 +4,8 @@ use Rattle.object_layout.specs.declared.rows.FieldTy.TheVariants as field
 use Rattle.object_layout.specs.Classes.{ShapesView}
 use Rattle.typed_machine.specs.Values.{Value, Null, Ref, ArrayOf}
 use Rattle.typed_machine.specs.Stores.{Object, Store}
-use Rattle.typed_machine.specs.Turns.{Placed, Refused}
 use Rattle.typed_machine.specs.Reaching.{Reach}
-use Rattle.typed_machine.specs.Placing.{WordRun, runs_from, Legal}
+use Rattle.typed_machine.specs.Placing.{Placed, Refused, WordRun, runs_from, Legal}
 
 -- arrays of one reference each
 abbrev pub one_kind : ShapesView

@@ -7,6 +7,9 @@ pub mod Code
 pub mod Operands
 pub mod Words
 pub mod Effects
+-- What is reached, and what an allocation is answered.
+pub mod Reaching
+pub mod Placing
 -- Turns and runs.
 pub mod Switches
 pub mod Replies
@@ -14,8 +17,6 @@ pub mod Turns
 -- Which states are typed.
 pub mod Frames
 pub mod Typing
--- What is reached, gaps, and calls of the heap.
-pub mod Reaching
-pub mod Placing
+-- Computed by the definitions: stores, gaps and runs.
 pub mod HeapExamples
 pub mod Examples

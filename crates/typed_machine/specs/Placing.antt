@@ -1,17 +1,20 @@
--- Gaps of the heap, which answers are legal, and what calls of the heap come to.
-use Rattle.std.specs.Prelude.{◌≡◌, ℕ, zero, suc, ◌+◌, ◌-◌, ◌/◌, ◌%◌, ◌==◌, nat_lt, nat_le, Bool, true, false, not, ◌&&◌, List, [], ◌∷◌, ◌++◌, length, drop, map, replicate, Option, Some, None, if◌then◌else◌}
+-- What an allocation is answered: gaps of the heap, which answers are legal, and the state after one.
+use Rattle.std.specs.Prelude.{ℕ, zero, suc, ◌+◌, ◌-◌, ◌/◌, ◌%◌, ◌==◌, nat_lt, nat_le, Bool, true, false, not, ◌&&◌, List, [], ◌∷◌, ◌++◌, length, drop, map, replicate, if◌then◌else◌}
 use Rattle.std.specs.List.{list_any}
-use Rattle.std.specs.Option.{option_map, option_map_or}
-use Rattle.ia32_code.specs.declared.instruction.Reg.TheVariants.{Eax, Ecx}
+use Rattle.std.specs.Option.{option_map_or}
 use Rattle.object_layout.specs.Areas.{heap_start}
 use Rattle.object_layout.specs.Classes.{ShapesView, Fields, Element}
 use Rattle.tal_image.specs.Image.{ImageParts}
 use Rattle.tal_image.specs.Shown.{shown}
-use Rattle.typed_machine.specs.Values.{Value, Number, Null, Ref, Tab, Desc, ObjectShape, InstanceOf, ArrayOf}
-use Rattle.typed_machine.specs.Stores.{Store, need, zero_of}
+use Rattle.typed_machine.specs.Values.{Value, Null, Ref, ObjectShape, InstanceOf, ArrayOf}
+use Rattle.typed_machine.specs.Stores.{Object, Store, need, zero_of}
 use Rattle.typed_machine.specs.States.{State}
-use Rattle.typed_machine.specs.Turns.{Answer, Placed, Refused}
-use Rattle.typed_machine.specs.Reaching.{Reach, Roots}
+use Rattle.typed_machine.specs.Reaching.{Reach}
+
+-- what an allocation is answered: the place of the object, or that it is refused
+pub data Answer : Type 0 where
+  Placed : ℕ → Answer
+  Refused : Answer
 
 -- ---- gaps
 
@@ -61,59 +64,36 @@ Legal gaps words (Placed a) =
     nat_le (heap_start + 8) a && ((a - heap_start) % 16 == 8 && list_any (lies_in (block_of a) words) gaps)
 Legal gaps words Refused = not (list_any (λ (run : WordRun). nat_le words run.count) gaps)
 
--- ---- calls of the heap
+-- ---- the state after an answer
 
 -- the fields or elements of a fresh object
 abbrev pub fresh_values : ShapesView → ObjectShape → List Value
-fresh_values s (InstanceOf c) = map zero_of (Fields s c)
-fresh_values s (ArrayOf k n) = replicate n (option_map_or zero_of (Element s k) Null)
+fresh_values v (InstanceOf c) = map zero_of (Fields v c)
+fresh_values v (ArrayOf k n) = replicate n (option_map_or zero_of (Element v k) Null)
 
--- the reply of an allocation: the object, which is the store's next, or null
+-- an object of the shape as it is at first, at a place
+abbrev pub fresh_object : ShapesView → ObjectShape → ℕ → Object
+fresh_object v shape a = record { shape = shape; place = a; values = fresh_values v shape }
+
+-- what the caller gets: the object, which is the store's next, or null
 abbrev pub reply_to : Answer → State → Value
 reply_to (Placed a) s = Ref (length s.store)
 reply_to Refused s = Null
 
--- and the state then
+-- the state with the object, if it is placed
 abbrev pub allocated : ShapesView → ObjectShape → Answer → State → State
-allocated v shape (Placed a) s =
-    record s { store = s.store ++ (record { shape = shape; place = a; values = fresh_values v shape }) ∷ [] }
+allocated v shape (Placed a) s = record s { store = s.store ++ fresh_object v shape a ∷ [] }
 allocated v shape Refused s = s
+
+-- ---- what a collection counts
 
 -- the words of the blocks of the objects from number i on that are reached
 abbrev pub reached_words : ShapesView → (ℕ → Bool) → ℕ → Store → ℕ
 reached_words v reached i [] = 0
 reached_words v reached i (o ∷ store) = (if reached i then need v o.shape else 0) + reached_words v reached (i + 1) store
 
--- the heap's words outside the blocks of the objects that the values reach: the reply of GarbageCollect
-abbrev pub free_words : ImageParts → List Value → State → ℕ
+-- the heap's words outside the blocks of the objects that the values reach
+unfoldable pub free_words : ImageParts → List Value → State → ℕ
 free_words image values s =
     image.heap_words
     - reached_words (shown image).shapes (Reach (shown image).shapes s.store values) (length image.arrays) (drop (length image.arrays) s.store)
-
--- what a call of the heap comes to: the value in EAX, and the state with what the call changes beside the caller's registers,
--- flags and place
-pub record HeapReply : Type 0 where
-  pub value : Value
-  pub state : State
-
--- AllocObject has a class's table in EAX, and AllocArray a kind's descriptor there and the length in ECX
-abbrev pub shape_asked : ℕ → Value → Value → Option ObjectShape
-shape_asked zero (Tab c) ecx = Some (InstanceOf c)
-shape_asked (suc zero) (Desc k) (Number n) = Some (ArrayOf k n)
-shape_asked k eax ecx = None
-
--- an allocation takes an answer
-abbrev pub allocates : ImageParts → ℕ → Answer → State → Option HeapReply
-allocates image k answer s =
-    option_map (λ shape. record { value = reply_to answer s; state = allocated (shown image).shapes shape answer s })
-    (shape_asked k (s.thread.regs Eax) (s.thread.regs Ecx))
-
--- GarbageCollect takes none; its call comes back to `next`
-abbrev pub collects : ImageParts → ℕ → State → HeapReply
-collects image next s = record { value = Number (free_words image (Roots image next s) s); state = s }
-
--- the answer is legal for the allocation of entry k, whose call comes back to `next`
-abbrev pub IsLegal : ImageParts → ℕ → ℕ → Answer → State → Type 0
-IsLegal image next k answer s =
-    (shape : ObjectShape) → shape_asked k (s.thread.regs Eax) (s.thread.regs Ecx) ≡ Some shape
-    → Legal (Gaps image (Roots image next s) s) (need (shown image).shapes shape) answer ≡ true

@@ -1,4 +1,4 @@
--- What calls of the Nucleus reply and change, but for those of the heap: a row an entry.
+-- What calls of the Nucleus come to: a row an entry.
 use Rattle.std.specs.Prelude.{ℕ, ◌/◌, ◌%◌, ◌^◌, ◌==◌, ◌&&◌, ◌||◌, not, Bool, nat_lt, nat_le, List, [], ◌∷◌, ◌++◌, Option, Some, None, is_some, slice_get, slice_set, if◌then◌else◌}
 use Rattle.std.specs.Option.{option_map, option_and_then}
 use Rattle.ia32_code.specs.declared.instruction.Reg.TheVariants.{Eax, Ecx}
@@ -6,14 +6,41 @@ use Rattle.device_model.specs.declared.screen.TheConstants.{CELLS}
 use Rattle.device_model.specs.LineBits.{any_below}
 use Rattle.device_model.specs.History.{Item, Wrote, Took, Drew, waiting}
 use Rattle.device_model.specs.ItemByItem.{is_served}
+use Rattle.typed_machine.specs.Values.{Value, Number, Tab, Desc, ObjectShape, InstanceOf, ArrayOf}
 use Rattle.typed_machine.specs.States.{State, Stack, EmptyStack, RunningStack, YieldedStack, InterruptedStack}
 use Rattle.typed_machine.specs.Operands.{number_in}
 
 -- What a call comes to: this reply at once, in the state with what the call changes beside the caller's registers, flags and
--- place; or the caller yields to a stack, and its reply comes when it is resumed.
+-- place; the caller yields to a stack, and its reply comes when it is resumed; an object of a shape is asked for, and the reply
+-- is what the allocation is answered; or the heap's free words are the reply.
 pub data ReplyView : Type 0 where
   Replies : ℕ → State → ReplyView
   YieldsTo : ℕ → ReplyView
+  Allocates : ObjectShape → ReplyView
+  Collects : ReplyView
+
+-- ---- the heap
+
+-- the class whose table it is
+abbrev pub class_asked : Value → Option ObjectShape
+class_asked (Tab c) = Some (InstanceOf c)
+class_asked w = None
+
+-- the array kind whose descriptor it is, with a length
+abbrev pub array_asked : Value → Value → Option ObjectShape
+array_asked (Desc k) (Number n) = Some (ArrayOf k n)
+array_asked w u = None
+
+-- the class's table is in EAX
+abbrev pub alloc_object : State → Option ReplyView
+alloc_object s = option_map Allocates (class_asked (s.thread.regs Eax))
+
+-- the kind's descriptor is in EAX, and the length in ECX
+abbrev pub alloc_array : State → Option ReplyView
+alloc_array s = option_map Allocates (array_asked (s.thread.regs Eax) (s.thread.regs Ecx))
+
+abbrev pub garbage_collect : State → ReplyView
+garbage_collect s = Collects
 
 -- ---- stacks
 
@@ -103,16 +130,12 @@ by_numbers reply s = option_and_then (λ n. by_number_and n (number_in (s.thread
     by_number_and : ℕ → Option ℕ → Option ReplyView
     by_number_and n o = option_map (λ m. reply n m s) o
 
--- AllocObject, AllocArray and GarbageCollect have no reply yet
-abbrev pub of_heap : State → Option ReplyView
-of_heap s = None
-
 -- what each entry replies, by its number
 abbrev pub entry_replies : List (State → Option ReplyView)
 entry_replies =
-    of_heap ∷ of_heap ∷ of_heap ∷ by_number yield_to ∷ by_number get_stack_state ∷ by_number reset_stack ∷ by_numbers vga_text_write
+    alloc_object ∷ alloc_array ∷ by_nothing garbage_collect ∷ by_number yield_to ∷ by_number get_stack_state ∷ by_number reset_stack ∷ by_numbers vga_text_write
     ∷ by_nothing try_read_keyboard ∷ by_number start_timer ∷ by_nothing send_eoi ∷ by_nothing current_stack ∷ []
 
--- What a call of entry k comes to, in a state that has its arguments. None of an entry of the heap, which are not built yet.
+-- What a call of entry k comes to; none where the state has not its arguments.
 unfoldable pub Reply : ℕ → State → Option ReplyView
 Reply k s = option_and_then (λ reply. reply s) (slice_get entry_replies k)

@@ -1,10 +1,11 @@
 -- A turn of the typed machine, and runs.
-use Rattle.std.specs.Prelude.{◌≡◌, ℕ, zero, suc, ◌+◌, ◌==◌, List, [], ◌∷◌, ◌++◌, filter, Option, Some, None, is_some, if◌then◌else◌}
+use Rattle.std.specs.Prelude.{◌≡◌, ℕ, zero, suc, ◌+◌, ◌==◌, Bool, true, ◌&&◌, List, [], ◌∷◌, ◌++◌, filter, Option, Some, None, is_some, if◌then◌else◌}
 use Rattle.std.specs.Option.{option_map, option_and_then, option_to_list}
 use Rattle.ia32_code.specs.declared.instruction.Reg.TheVariants.{Eax}
 use Rattle.ia32_code.specs.declared.instruction.Inst.{Inst}
 use Rattle.tal_flow.specs.Rules.{next_address}
 use Rattle.tal_image.specs.Image.{ImageParts}
+use Rattle.tal_image.specs.Shown.{shown}
 use Rattle.device_model.specs.declared.events.Event.{Event}
 use Rattle.device_model.specs.History.{Granted}
 use Rattle.device_model.specs.Devices.{after_events}
@@ -14,27 +15,27 @@ use Rattle.stack_states.specs.declared.journal_entry.EntryKind.{EntryKind}
 use Rattle.stack_states.specs.declared.journal_entry.EntryKind.TheVariants.{Call, Yield, Interrupt, Fault, Ended}
 use Rattle.typed_machine.specs.declared.ending.Ending.{Ending}
 use Rattle.typed_machine.specs.declared.ending.Ending.TheVariants.{Halted, KernelFault}
-use Rattle.typed_machine.specs.Values.{Number, Word}
+use Rattle.typed_machine.specs.Values.{Value, Number, Word, ObjectShape}
+use Rattle.typed_machine.specs.Stores.{need}
 use Rattle.typed_machine.specs.States.{State, EmptyStack, YieldedStack, InterruptedStack, fresh_thread, first_state, places_of}
 use Rattle.typed_machine.specs.Code.{inst_at}
 use Rattle.typed_machine.specs.Effects.{EffectView, Moves, Faults, Calls, Ends, Effect}
 use Rattle.typed_machine.specs.Switches.{runs, switched}
-use Rattle.typed_machine.specs.Replies.{ReplyView, Replies, YieldsTo, Reply}
+use Rattle.typed_machine.specs.Replies.{ReplyView, Replies, YieldsTo, Allocates, Collects, Reply}
+use Rattle.typed_machine.specs.Reaching.{Roots}
+use Rattle.typed_machine.specs.Placing.{Answer, Gaps, Legal, reply_to, allocated, free_words}
 
--- what an allocation is answered
-pub data Answer : Type 0 where
-  Placed : ℕ → Answer
-  Refused : Answer
-
--- what a turn comes to: the state after it, its entry in the journal if it has one, and the answers that it has not taken
+-- what a turn comes to: the state after it, its entry in the journal if it has one, the answers that it has not taken, and
+-- whether the one that it took, if it took one, was legal
 pub record Turned : Type 0 where
   pub state : State
   pub entry : Option Entry
   pub left : List Answer
+  pub legal : Bool
 
 -- a turn that takes no answer
 abbrev pub turned : List Answer → Option Entry → State → Turned
-turned answers entry s = record { state = s; entry = entry; left = answers }
+turned answers entry s = record { state = s; entry = entry; left = answers; legal = true }
 
 -- ---- before the instruction
 
@@ -82,13 +83,34 @@ returned image answers s =
     if s.current == 0 then ended_by (Halted (Word (places_of s) (s.thread.regs Eax))) answers s
     else kernel_goes_on image answers Ended 0 (262144 + s.current) s
 
--- What a reply of entry k comes to, where the call comes back to `next`: the caller goes on there with the reply in EAX, the
--- other registers 0 and no flag set; or it waits there, and the stack that it yields to goes on.
+-- the caller goes on at `next` with a reply in EAX, the other registers 0 and no flag set
+abbrev pub comes_back : Value → ℕ → State → State
+comes_back reply next s = runs (fresh_thread reply next) s.values s
+
+-- An allocation of entry k takes the next answer, if there is one. The journal has the reply's word, which is the object's place
+-- or 0. The answer is legal by the gaps that the roots leave.
+abbrev pub answered : ImageParts → ℕ → ℕ → State → ObjectShape → List Answer → Option Turned
+answered image next k s shape [] = None
+answered image next k s shape (answer ∷ left) =
+    Some
+    (record {
+      state = comes_back (reply_to answer s) next (allocated (shown image).shapes shape answer s);
+      entry = Some (entry_of (Call k) (Word (places_of (allocated (shown image).shapes shape answer s)) (reply_to answer s)) s);
+      left = left;
+      legal = Legal (Gaps image (Roots image next s) s) (need (shown image).shapes shape) answer;
+    })
+
+-- What a reply of entry k comes to, where the call comes back to `next`: the caller goes on there; or it waits there, and the
+-- stack that it yields to goes on.
 abbrev pub replied : ImageParts → List Answer → ℕ → ℕ → State → ReplyView → Option Turned
-replied image answers next k s (Replies n t) =
-    Some (turned answers (Some (entry_of (Call k) n s)) (runs (fresh_thread (Number n) next) t.values t))
+replied image answers next k s (Replies n t) = Some (turned answers (Some (entry_of (Call k) n s)) (comes_back (Number n) next t))
 replied image answers next k s (YieldsTo to) =
     option_map (turned answers (Some (entry_of Yield to s))) (switched image to (Number (65536 + s.current)) (YieldedStack next s.values) s)
+replied image answers next k s (Allocates shape) = answered image next k s shape answers
+replied image answers next k s Collects =
+    Some
+    (turned answers (Some (entry_of (Call k) (free_words image (Roots image next s) s) s))
+    (comes_back (Number (free_words image (Roots image next s) s)) next s))
 
 -- what an effect comes to, where the instruction at `next` follows
 abbrev pub after_effect : ImageParts → List Answer → ℕ → State → EffectView → Option Turned
@@ -110,33 +132,35 @@ interrupt_or image answers s (Some line) = interrupted image answers line s
 interrupt_or image answers s None = instruction image answers s
 
 -- One turn of a machine that has not ended: the events of the turn enter the devices; then one interrupt is accepted, or the
--- instruction at the running place has its effect. None where the step is ill typed, or calls an entry of the heap.
+-- instruction at the running place has its effect. None where the step is ill typed, or an allocation has no answer.
 unfoldable pub TurnOf : ImageParts → List Event → List Answer → State → Option Turned
 TurnOf image events answers s = interrupt_or image answers (begun events s) (line_granted (begun events s))
 
 -- ---- runs
 
--- where a run has come to, its entries so far, and the answers that are left
+-- where a run has come to, its entries so far, the answers that are left, and whether all that it took were legal
 pub record Run : Type 0 where
   pub state : State
   pub entries : List Entry
   pub left : List Answer
+  pub legal : Bool
 
 -- a run after a turn more
 abbrev pub continued : Run → Turned → Run
-continued r t = record { state = t.state; entries = r.entries ++ option_to_list t.entry; left = t.left }
+continued r t = record { state = t.state; entries = r.entries ++ option_to_list t.entry; left = t.left; legal = r.legal && t.legal }
 
 -- one turn more, unless the run has ended
 abbrev pub next_run : ImageParts → List Event → Run → Option Run
 next_run image events r =
     if is_some r.state.ending then Some r else option_map (continued r) (TurnOf image events r.left r.state)
 
--- so many turns from the first state, or until an end; none where a step is ill typed
+-- so many turns from the first state, or until an end; none where a step is ill typed or an answer is wanting
 unfoldable pub RunOf : ImageParts → List Event → ℕ → List Answer → Option Run
-RunOf image events zero answers = Some (record { state = first_state image; entries = []; left = answers })
+RunOf image events zero answers = Some (record { state = first_state image; entries = []; left = answers; legal = true })
 RunOf image events (suc n) answers = option_and_then (λ r. next_run image events r) (RunOf image events n answers)
 
--- The run is not stuck, and no answer is left. No allocation is built yet, so no turn takes one.
+-- The run is not stuck, each answer was legal where it was taken, and none is left.
 pub record LegalRun (image : ImageParts) (events : List Event) (n : ℕ) (answers : List Answer) (run : Run) : Type 0 where
   pub reached : RunOf image events n answers ≡ Some run
   pub used : run.left ≡ []
+  pub legal : run.legal ≡ true
