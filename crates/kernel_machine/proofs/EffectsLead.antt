@@ -13,7 +13,8 @@ use Rattle.typed_machine.specs.Values.{Word, all_objects}
 use Rattle.typed_machine.specs.States.{State, places_of}
 use Rattle.typed_machine.specs.Code.{inst_at}
 use Rattle.typed_machine.specs.Effects.{EffectView, Moves, Faults, Calls, Ends, Effect}
-use Rattle.typed_machine.specs.Turns.{Answer, Turned, turned, after_effect, instruction}
+use Rattle.typed_machine.specs.Placing.{Answer}
+use Rattle.typed_machine.specs.Turns.{Turned, turned, after_effect, instruction}
 use Rattle.typed_machine.specs.Typing.{scope_of}
 use Rattle.typed_safety.specs.Laws.{CallTyped, EffectTyped, WellTypedImagesKeepTyping}
 use Rattle.word_machine.specs.declared.step.Step.{Step}

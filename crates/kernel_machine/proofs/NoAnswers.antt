@@ -15,7 +15,8 @@ use Rattle.typed_machine.specs.States.{State}
 use Rattle.typed_machine.specs.Code.{inst_at}
 use Rattle.typed_machine.specs.Effects.{EffectView, Moves, Faults, Calls, Ends, Effect}
 use Rattle.typed_machine.specs.Replies.{ReplyView, Replies, YieldsTo, Reply}
-use Rattle.typed_machine.specs.Turns.{Answer, Turned, turned, begun, line_granted, entry_of, kernel_goes_on, ended_by, replied, after_effect, instruction, interrupt_or, TurnOf}
+use Rattle.typed_machine.specs.Placing.{Answer}
+use Rattle.typed_machine.specs.Turns.{Turned, turned, begun, line_granted, entry_of, kernel_goes_on, ended_by, replied, after_effect, instruction, interrupt_or, TurnOf}
 use Rattle.kernel_machine.specs.Machine.{entry_answer, answers_of}
 
 -- the turn's entry, if it has one, tells no answer

@@ -18,7 +18,8 @@ use Rattle.typed_machine.specs.declared.ending.Ending.{Ending}
 use Rattle.typed_machine.specs.Values.{all_objects}
 use Rattle.typed_machine.specs.States.{State}
 use Rattle.typed_machine.specs.Code.{inst_at}
-use Rattle.typed_machine.specs.Turns.{Answer, Turned, begun, events_of, line_granted, interrupted, instruction, interrupt_or, TurnOf, Run, continued, RunOf}
+use Rattle.typed_machine.specs.Placing.{Answer}
+use Rattle.typed_machine.specs.Turns.{Turned, begun, events_of, line_granted, interrupted, instruction, interrupt_or, TurnOf, Run, continued, RunOf}
 use Rattle.typed_machine.specs.Typing.{TypedAmong, Typed}
 use Rattle.typed_safety.specs.Laws.{WellTypedImagesKeepTyping, TurnsKeepTyping, RunsAreTyped}
 use Rattle.nucleus_calls.specs.Nucleus.{NucleusView, NucleusStands}

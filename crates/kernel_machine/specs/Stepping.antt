@@ -12,7 +12,8 @@ use Rattle.typed_machine.specs.declared.ending.Ending.{Ending}
 use Rattle.typed_machine.specs.declared.ending.Ending.TheVariants.{Halted, KernelFault}
 use Rattle.typed_machine.specs.Values.{all_objects}
 use Rattle.typed_machine.specs.States.{State}
-use Rattle.typed_machine.specs.Turns.{Answer, Turned, TurnOf}
+use Rattle.typed_machine.specs.Placing.{Answer}
+use Rattle.typed_machine.specs.Turns.{Turned, TurnOf}
 use Rattle.typed_machine.specs.Typing.{Typed}
 use Rattle.word_machine.specs.Standing.{CpuStands}
 use Rattle.nucleus_calls.specs.declared.outcome.Leaving.{Leaving}

@@ -21,7 +21,8 @@ use Rattle.typed_machine.specs.States.{State, EmptyStack, YieldedStack, Interrup
 use Rattle.typed_machine.specs.Effects.{Faults, Calls, Ends}
 use Rattle.typed_machine.specs.Switches.{runs, switched}
 use Rattle.typed_machine.specs.Replies.{ReplyView, Replies, YieldsTo, Reply}
-use Rattle.typed_machine.specs.Turns.{Answer, Turned, turned, entry_of, kernel_goes_on, interrupted, faulted, returned, replied, after_effect}
+use Rattle.typed_machine.specs.Placing.{Answer}
+use Rattle.typed_machine.specs.Turns.{Turned, turned, entry_of, kernel_goes_on, interrupted, faulted, returned, replied, after_effect}
 use Rattle.typed_machine.specs.Typing.{TypedAmong}
 use Rattle.typed_machine.specs.Words.{stack_pointer, esp_of, register_words}
 use Rattle.word_machine.specs.Memory.{MemoryView}

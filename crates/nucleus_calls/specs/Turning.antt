@@ -10,7 +10,8 @@ use Rattle.typed_machine.specs.Values.{all_objects}
 use Rattle.typed_machine.specs.States.{State, at_place}
 use Rattle.typed_machine.specs.Code.{inst_at}
 use Rattle.typed_machine.specs.Effects.{EffectView, Moves, Faults, Calls, Ends}
-use Rattle.typed_machine.specs.Turns.{Answer, Turned}
+use Rattle.typed_machine.specs.Placing.{Answer}
+use Rattle.typed_machine.specs.Turns.{Turned}
 use Rattle.typed_machine.specs.Typing.{TypedAmong}
 use Rattle.word_machine.specs.declared.step.Step.{Step}
 use Rattle.word_machine.specs.declared.step.Step.TheVariants as step

@@ -18,5 +18,5 @@ pub mod Turns
 pub mod Frames
 pub mod Typing
 -- Computed by the definitions: stores, gaps and runs.
-pub mod HeapExamples
 pub mod Examples
+pub mod HeapExamples

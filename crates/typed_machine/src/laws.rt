@@ -1,6 +1,6 @@
 // What small programs come to: the definitions, computed. Each law is a function with nothing to do, whose clause is the law.
 ghost use Rattle.typed_machine.specs.Examples.{StaticIsWritten, MethodIsCalled, ElementIsRead, DivideErrorEnds, RefusalsAreTold, TickInterrupts, EachCallReplies};
-ghost use Rattle.typed_machine.specs.HeapExamples.{RingIsReached, GapsDecide};
+ghost use Rattle.typed_machine.specs.HeapExamples.{RingIsReached, GapsDecide, AllocationsAreTold};
 
 /// A program that writes 5 into a static halts with 5 after three turns, and the static is 5.
 pub fn a_static_is_written()
@@ -33,7 +33,7 @@ pub fn a_tick_interrupts()
     ensures { TickInterrupts }
 {}
 
-/// Each call of the Nucleus but those of the heap replies what its row says, where it is done and where it is refused.
+/// Each call of the Nucleus behind those of the heap replies what its row says, where it is done and where it is refused.
 pub fn each_call_replies()
     ensures { EachCallReplies }
 {}
@@ -46,4 +46,11 @@ pub fn a_ring_is_reached()
 /// What has room in a gap of the heap is placed in one, at a multiple of 4 words, and else it is refused.
 pub fn gaps_decide()
     ensures { GapsDecide }
+{}
+
+/// An object is placed, and a collection counts its words while a static holds it and not while a register alone does; an array
+/// without room is refused. A place beside the multiples of 4 words and a refusal in spite of room are told as not legal, and
+/// without an answer there is no turn.
+pub fn allocations_are_told()
+    ensures { AllocationsAreTold }
 {}

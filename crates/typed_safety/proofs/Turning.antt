@@ -18,7 +18,8 @@ use Rattle.typed_machine.specs.Switches.{switched}
 use Rattle.typed_machine.specs.Replies.{ReplyView, Replies, YieldsTo, Reply}
 use Rattle.typed_machine.specs.Code.{inst_at}
 use Rattle.typed_machine.specs.Effects.{EffectView, Moves, Faults, Calls, Ends, Effect}
-use Rattle.typed_machine.specs.Turns.{Answer, turned, begun, kernel_goes_on, interrupted, ended_by, replied, after_effect, instruction, interrupt_or, TurnOf}
+use Rattle.typed_machine.specs.Placing.{Answer}
+use Rattle.typed_machine.specs.Turns.{turned, begun, kernel_goes_on, interrupted, ended_by, replied, after_effect, instruction, interrupt_or, TurnOf}
 use Rattle.typed_machine.specs.Typing.{StackFits, TypedAmong, scope_of}
 use Rattle.typed_safety.specs.Laws.{ImageLaws, CallTyped, EffectTyped, TurnTyped}
 use Rattle.typed_safety.proofs.Instructions.{state-keeps}

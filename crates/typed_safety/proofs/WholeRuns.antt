@@ -7,7 +7,8 @@ use Rattle.tal_image.specs.Formed.{Formed}
 use Rattle.tal_checker.specs.Running.{RunsOn}
 use Rattle.typed_machine.specs.Values.{all_objects}
 use Rattle.typed_machine.specs.States.{first_state}
-use Rattle.typed_machine.specs.Turns.{Answer, Turned, begun, TurnOf, Run, continued, next_run, RunOf}
+use Rattle.typed_machine.specs.Placing.{Answer}
+use Rattle.typed_machine.specs.Turns.{Turned, begun, TurnOf, Run, continued, next_run, RunOf}
 use Rattle.typed_machine.specs.Typing.{Typed}
 use Rattle.typed_safety.specs.Laws.{ImageLaws, CallsHeap, TurnTyped, RunTyped}
 use Rattle.typed_safety.proofs.Turning.{turn-typed}

@@ -34,7 +34,8 @@ use Rattle.typed_machine.specs.States.{State}
 use Rattle.typed_machine.specs.Operands.{AtDisplay, spot_of, spot_word, marked_value}
 use Rattle.typed_machine.specs.Code.{inst_at}
 use Rattle.typed_machine.specs.Effects.{EffectView, Moves, Faults, Calls, Ends, Effect}
-use Rattle.typed_machine.specs.Turns.{Answer, Turned, begun, TurnOf, Run, next_run, RunOf}
+use Rattle.typed_machine.specs.Placing.{Answer}
+use Rattle.typed_machine.specs.Turns.{Turned, begun, TurnOf, Run, next_run, RunOf}
 use Rattle.typed_machine.specs.Frames.{Scope, fits_in, Awaits}
 use Rattle.typed_machine.specs.Typing.{IsArray, TypedAmong, Typed, scope_of}
 
