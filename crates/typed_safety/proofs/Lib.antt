@@ -1,6 +1,9 @@
 pub mod Scopes
 pub mod Values
 pub mod Frames
+pub mod Naming
+pub mod Carrying
+pub mod Living
 pub mod Fitted
 pub mod Spots
 pub mod Reading

@@ -37,6 +37,7 @@ use Rattle.typed_machine.specs.Effects.{EffectView, Moves, Faults, Calls, Ends, 
 use Rattle.typed_machine.specs.Placing.{Answer}
 use Rattle.typed_machine.specs.Turns.{Turned, begun, TurnOf, Run, next_run, RunOf}
 use Rattle.typed_machine.specs.Frames.{Scope, fits_in, Awaits}
+use Rattle.typed_machine.specs.Reaching.{live_in}
 use Rattle.typed_machine.specs.Typing.{IsArray, TypedAmong, Typed, scope_of}
 
 -- the store begins with the data arrays, and these live
@@ -138,3 +139,14 @@ abbrev pub RunsAreTyped : Type 0
 RunsAreTyped =
     (image : ImageParts) → WellTyped image → (events : List Event) (n : ℕ) (answers : List Answer) (r : Run) → RunOf image events n answers ≡ Some r
     → RunTyped image events r
+
+-- ---- the objects that a run can come to
+
+-- A state that is typed among some objects is typed among those that a run can come to, and these are among those.
+pub record LivesAmong (image : ImageParts) (live : ℕ → Bool) (s : State) : Type 0 where
+  pub typed : TypedAmong image (live_in image s) s
+  pub least : (i : ℕ) → live_in image s i ≡ true → live i ≡ true
+
+-- so it is in each well typed image: what is reached is the least set over which a state is typed
+abbrev pub LiveObjectsAreLeast : Type 0
+LiveObjectsAreLeast = (image : ImageParts) → WellTyped image → (live : ℕ → Bool) (s : State) → TypedAmong image live s → LivesAmong image live s

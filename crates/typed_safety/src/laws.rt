@@ -1,5 +1,5 @@
 // What holds of the definitions alone: each law is a function with nothing to do, whose clause is the law.
-ghost use Rattle.typed_safety.specs.Laws.{FormedImagesTell, InstructionsKeepTyping, WellTypedImagesKeepTyping, DisplaysAreThere, TurnsKeepTyping, RunsAreTyped};
+ghost use Rattle.typed_safety.specs.Laws.{FormedImagesTell, InstructionsKeepTyping, WellTypedImagesKeepTyping, DisplaysAreThere, TurnsKeepTyping, RunsAreTyped, LiveObjectsAreLeast};
 
 /// A formed image tells what typed instructions rest on: its classes keep the laws of classes, its methods are its functions,
 /// at its blocks instructions begin, and what its marks stand for has the marks' types and words.
@@ -49,4 +49,13 @@ pub fn runs_are_typed()
 {
     formed_images_tell();
     tal_checker::laws::accepted_runs();
+}
+
+/// In a well typed image a typed state is typed among the objects that a run can come to: the data arrays and what is reached
+/// from what the state holds. They are the least set over which it is typed.
+pub fn live_objects_are_least()
+    ensures { LiveObjectsAreLeast }
+{
+    tal_checker::laws::esp_is_junk();
+    reached_objects::laws::reach_is_least();
 }
