@@ -29,7 +29,7 @@ use Rattle.typed_safety.proofs.Resuming.{starts-fit}
 -- ---- stacks and statics
 
 -- each of several copies is the one
-copy-read : {A : Type 0} (n i : ℕ) (x y : A) → slice_get (replicate n x) i ≡ Some y → x ≡ y
+pub copy-read : {A : Type 0} (n i : ℕ) (x y : A) → slice_get (replicate n x) i ≡ Some y → x ≡ y
 copy-read zero i x y e = absurd (cc)
 copy-read (suc n) zero x y e = cc
 copy-read (suc n) (suc i) x y e = copy-read n i x y e
@@ -45,7 +45,7 @@ first-runs count zero e = refl
 first-runs count (suc n) e = absurd (let same = copy-read (count - 1) n EmptyStack RunningStack e in cc)
 
 -- what a value starts as has its type
-zero-fits : (l : Scope) (t : FieldTy) → fits_in l (zero_of t) (of_field t) ≡ true
+pub zero-fits : (l : Scope) (t : FieldTy) → fits_in l (zero_of t) (of_field t) ≡ true
 unfolding zero_of fits_among of_field
 zero-fits l t = grind arith
 

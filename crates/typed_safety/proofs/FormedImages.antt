@@ -226,6 +226,7 @@ pub image_laws : TypeLaws → ((image : ImageParts) (formed : Formed image) → 
 unfolding shown
 image_laws types codes shapes image formed = record {
   types = types;
+  heap = formed.condition_1;
   classes = classes;
   methods = methods-begin image formed code;
   blocks = code.blocks;

@@ -25,7 +25,9 @@ pub mod DisplayWords
 pub mod FormedImages
 pub mod Resuming
 pub mod Switching
+pub mod FirstStates
+pub mod Growing
+pub mod Gaps
 pub mod Replying
 pub mod Turning
-pub mod FirstStates
 pub mod WholeRuns

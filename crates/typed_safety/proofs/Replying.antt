@@ -1,5 +1,7 @@
--- Calls of the Nucleus keep typing, but for those of the heap.
-use Rattle.std.proofs.Common.{◌≡◌, ◌≢◌, ◌⊎◌, ◌∙◌, sym, ap, ◌<◌, ◌+◌, ◌%◌, ◌^◌, ◌==◌, ◌&&◌, ◌||◌, not, ℕ, zero, suc, Bool, true, false, if◌then◌else◌, Option, Some, None, is_some, arith, refl, List, [], ◌∷◌, ◌++◌, length, slice_get, slice_set, ⊎_elim}
+-- Calls of the Nucleus keep typing.
+use Rattle.std.proofs.Common.{◌≡◌, ◌≢◌, ◌⊎◌, ◌∙◌, sym, ap, ◌<◌, ◌+◌, ◌%◌, ◌^◌, ◌==◌, ◌&&◌, ◌||◌, not, ℕ, zero, suc, Bool, true, false, if◌then◌else◌, Option, Some, None, is_some, arith, refl, List, [], ◌∷◌, ◌++◌, length, slice_get, slice_set, eq-eqb, ⊎_elim}
+use Rattle.std.specs.Option.{option_map}
+use Rattle.std.proofs.lemmas.Bool.{and_parts}
 use Rattle.std.proofs.lemmas.Bool.Decides.{nat_tests}
 use Rattle.std.proofs.lemmas.List.{length-set}
 use Rattle.std.proofs.lemmas.Option.{slice_get_within}
@@ -8,18 +10,21 @@ use Rattle.device_model.specs.History.{History, Item, Wrote, Took, Drew}
 use Rattle.tal_types.specs.declared.types.Ty.{Ty}
 use Rattle.tal_types.specs.declared.types.Ty.TheVariants as ty
 use Rattle.tal_flow.specs.declared.calls.Arguments.{Arguments}
-use Rattle.tal_flow.specs.declared.calls.Arguments.TheVariants.{Nothing, OneNumber, TwoNumbers}
+use Rattle.tal_flow.specs.declared.calls.Arguments.TheVariants.{Table, DescriptorAndNumber, Nothing, OneNumber, TwoNumbers}
 use Rattle.tal_flow.specs.declared.calls.Called.TheVariants.{Gives}
 use Rattle.tal_flow.specs.Calls.{nucleus_arguments, entry_gives}
 use Rattle.tal_image.specs.Image.{ImageParts}
 use Rattle.tal_image.specs.Shown.{shown}
 use Rattle.tal_checker.specs.Running.{RunsOn}
 use Rattle.typed_machine.specs.declared.ending.Ending.{Ending}
-use Rattle.typed_machine.specs.Values.{Value, Number, fits_among}
+use Rattle.object_layout.specs.declared.rows.KindRow.{KindRow}
+use Rattle.object_layout.specs.Classes.{ShapesView, Below, Element, IsShape}
+use Rattle.typed_machine.specs.Values.{Value, Number, Null, Ref, Tab, Desc, ObjectShape, InstanceOf, ArrayOf, fits_among}
+use Rattle.typed_machine.specs.Stores.{shape_in}
 use Rattle.typed_machine.specs.States.{State, Stack, EmptyStack, RunningStack, YieldedStack, InterruptedStack, fresh_thread}
 use Rattle.typed_machine.specs.Operands.{number_in}
 use Rattle.typed_machine.specs.Switches.{runs, switched}
-use Rattle.typed_machine.specs.Replies.{ReplyView, Replies, YieldsTo, is_stack, is_application, yield_to, emptied, reset_stack, get_stack_state, current_stack, happened, vga_text_write, code_taken, try_read_keyboard, count_items, start_timer, send_eoi, by_nothing, by_number, by_numbers, Reply}
+use Rattle.typed_machine.specs.Replies.{ReplyView, Replies, YieldsTo, Allocates, Collects, alloc_object, alloc_array, garbage_collect, is_stack, is_application, yield_to, emptied, reset_stack, get_stack_state, current_stack, happened, vga_text_write, code_taken, try_read_keyboard, count_items, start_timer, send_eoi, by_nothing, by_number, by_numbers, Reply}
 use Rattle.typed_machine.specs.Frames.{Scope, Awaits, fits_in}
 use Rattle.typed_machine.specs.Typing.{TypedAmong, scope_of}
 use Rattle.typed_safety.specs.Laws.{ImageLaws, CallTyped}
@@ -39,6 +44,16 @@ gives-one t u r h = grind arith
 gives-two : (t u r : Ty) → entry_gives TwoNumbers t u ≡ Gives r → (t ≡ ty.Num) × (u ≡ ty.Num) × (r ≡ ty.Num)
 gives-two t u r h = grind arith
 
+-- what they give that ask for a class's table, or for a descriptor and a number
+gives-object : (t u r : Ty) → entry_gives Table t u ≡ Gives r → (c : ℕ) × (t ≡ ty.Tab c) × (r ≡ ty.Ref c)
+gives-object (ty.Tab c) u r h = (c, refl, cc)
+gives-object t u r h = absurd (cc)
+
+gives-array : (t u r : Ty) → entry_gives DescriptorAndNumber t u ≡ Gives r → (k : ℕ) × (t ≡ ty.Desc k) × (u ≡ ty.Num) × (r ≡ ty.ArrRef k)
+gives-array (ty.Desc k) ty.Num r h = (k, refl, refl, cc)
+gives-array (ty.Desc k) u r h = absurd (cc)
+gives-array t u r h = absurd (cc)
+
 -- what an entry gives, by its arguments
 gives-by : {l : Scope} {s : State} {next k : ℕ} (c : CallTyped l s next k) (a : Arguments) → slice_get nucleus_arguments k ≡ Some a
     → entry_gives a c.eax c.ecx ≡ Gives c.reply
@@ -54,6 +69,32 @@ unfolding fits_among number_in
 holds-number l (Number n) t f e = (n, refl)
 holds-number l w t f e = absurd (grind arith)
 
+-- a value of that type is a class's table, of a class below it
+holds-table : (l : Scope) (w : Value) (c : ℕ) → fits_in l w (ty.Tab c) ≡ true → (d : ℕ) × (w ≡ Tab d) × (Below (shown l.image).shapes d c ≡ true)
+unfolding fits_among
+holds-table l (Tab d) c f = (d, refl, f)
+holds-table l w c f = absurd (grind arith)
+
+-- or a kind's descriptor
+holds-descriptor : (l : Scope) (w : Value) (k : ℕ) → fits_in l w (ty.Desc k) ≡ true → (w ≡ Desc k) × (is_some (Element (shown l.image).shapes k) ≡ true)
+unfolding fits_among
+holds-descriptor l (Desc j) k f = let p = and_parts (j == k) _ f in let same : j ≡ k = grind (arith, nat_tests) in (ap Desc same, p.1)
+holds-descriptor l w k f = absurd (grind arith)
+
+-- a class below another is there
+below-there : (v : ShapesView) (d c : ℕ) → Below v d c ≡ true → d < length v.classes
+unfolding Below
+below-there v d c h = grind (arith, nat_tests)
+
+-- a kind of elements is there
+element-there : (v : ShapesView) (k : ℕ) → is_some (Element v k) ≡ true → k < length v.kinds
+unfolding Element
+element-there v k h = go (slice_get v.kinds k) refl h
+  where
+    go : (o : Option KindRow) → slice_get v.kinds k ≡ o → is_some (option_map (λ (row : KindRow). row.element) o) ≡ true → k < length v.kinds
+    go None e f = absurd (cc)
+    go (Some row) e f = slice_get_within v.kinds k row e
+
 -- ---- what a call comes to
 
 -- typing looks at no devices, no turns and no end
@@ -62,9 +103,28 @@ pub aside-typed : (image : ImageParts) (live : ℕ → Bool) (s : State) (d : Hi
 aside-typed image live s d n e t =
     record { thread = t.thread; others = t.others; one = t.one; only = t.only; kernel = t.kernel; count = t.count; statics = t.statics; store = t.store }
 
+-- An object of the shape is asked for: there is such a shape, and a reply is awaited whose type such an object has, and null.
+pub record AllocationTyped (image : ImageParts) (live : ℕ → Bool) (s : State) (next : ℕ) (shape : ObjectShape) : Type 0 where
+  pub is_shape : IsShape (shown image).shapes (shape_in shape)
+  pub type : Ty
+  pub awaited : Awaits (scope_of image live s) type next s.values
+  pub null : (l : Scope) → fits_in l Null type ≡ true
+  pub object : (among : ℕ → Bool) (os : List ObjectShape) (i : ℕ) → among i ≡ true → slice_get os i ≡ Some shape → fits_among (shown image) among os (Ref i) type ≡ true
+
+-- null has the type of a reference
+null-fits : (l : Scope) (c : ℕ) → fits_in l Null (ty.Ref c) ≡ true
+unfolding fits_among
+null-fits l c = refl
+
+null-array : (l : Scope) (k : ℕ) → fits_in l Null (ty.ArrRef k) ≡ true
+unfolding fits_among
+null-array l k = refl
+
 -- the state that a reply leads to is typed, where the call comes back to `next`
 abbrev pub ReplyTyped : ImageParts → (ℕ → Bool) → State → ℕ → ReplyView → Type 0
 ReplyTyped image live s next (Replies n t) = TypedAmong image live (runs (fresh_thread (Number n) next) t.values t)
+ReplyTyped image live s next (Allocates shape) = AllocationTyped image live s next shape
+ReplyTyped image live s next Collects = Awaits (scope_of image live s) ty.Num next s.values
 ReplyTyped image live s next (YieldsTo to) = SomeTyped image live (switched image to (Number (65536 + s.current)) (YieldedStack next s.values) s)
 
 -- there is a reply, and it is so
@@ -79,6 +139,25 @@ stack-within ks n h = go (slice_get ks n) refl h
     go : (o : Option Stack) → slice_get ks n ≡ o → is_some o ≡ true → n < length ks
     go None e f = absurd (cc)
     go (Some k) e f = slice_get_within ks n k e
+
+module _ (image : ImageParts) where
+  -- an object of a class that lives has the type of each class above
+  instance-fits : (among : ℕ → Bool) (os : List ObjectShape) (i d c : ℕ) → among i ≡ true → slice_get os i ≡ Some (InstanceOf d) → Below (shown image).shapes d c ≡ true
+      → fits_among (shown image) among os (Ref i) (ty.Ref c) ≡ true
+  unfolding fits_among
+  instance-fits among os i d c lives is below = rw (lives, is) below
+
+  -- an array has that of its kind
+  array-fits : (among : ℕ → Bool) (os : List ObjectShape) (i k n : ℕ) → among i ≡ true → slice_get os i ≡ Some (ArrayOf k n)
+      → fits_among (shown image) among os (Ref i) (ty.ArrRef k) ≡ true
+  unfolding fits_among
+  array-fits among os i k n lives is = rw (lives, is) (eq-eqb k k refl)
+
+-- the number that a value is
+number-value : (w : Value) (n : ℕ) → number_in w ≡ Some n → w ≡ Number n
+unfolding number_in
+number-value (Number m) n e = cc
+number-value w n e = absurd (cc)
 
 module _ (image : ImageParts) (rests : RunsOn image) (laws : ImageLaws image) (live : ℕ → Bool) (s : State) (t : TypedAmong image live s) (next : ℕ) where
   -- a number is replied in a typed state that awaits it
@@ -198,15 +277,53 @@ module _ (image : ImageParts) (rests : RunsOn image) (laws : ImageLaws image) (l
       let ecx = holds-number (scope_of image live s) (s.thread.regs Ecx) c.ecx c.ecx_fits gives.1 in
       rw (eax.1, ecx.1) (typed (awaits-number c gives.2) eax.0 ecx.0)
 
+  -- an object of the class whose table is in EAX
+  object-typed : CallTyped (scope_of image live s) s next 0 → SomeReplyTyped image live s next (alloc_object s)
+  unfolding nucleus_arguments
+  object-typed c =
+      let gives = gives-object c.eax c.ecx c.reply (gives-by c Table refl) in
+      let eax = holds-table (scope_of image live s) (s.thread.regs Eax) gives.0 (rw gives.1 at c.eax_fits) in
+      rw eax.1 (record {
+        is_shape = below-there (shown image).shapes eax.0 gives.0 eax.2;
+        type = ty.Ref gives.0;
+        awaited = rw gives.2 at c.awaited;
+        null = λ l. null-fits l gives.0;
+        object = λ among os i lives is. instance-fits image among os i eax.0 gives.0 lives is eax.2;
+      })
+
+  -- an array of the kind whose descriptor is in EAX
+  array-typed : CallTyped (scope_of image live s) s next 1 → SomeReplyTyped image live s next (alloc_array s)
+  unfolding nucleus_arguments
+  array-typed c =
+      let gives = gives-array c.eax c.ecx c.reply (gives-by c DescriptorAndNumber refl) in
+      let eax = holds-descriptor (scope_of image live s) (s.thread.regs Eax) gives.0 (rw gives.1 at c.eax_fits) in
+      let ecx = holds-number (scope_of image live s) (s.thread.regs Ecx) c.ecx c.ecx_fits gives.2 in
+      let length = number-value (s.thread.regs Ecx) ecx.0 ecx.1 in
+      rw (eax.0, length) (record {
+        is_shape = element-there (shown image).shapes gives.0 eax.1;
+        type = ty.ArrRef gives.0;
+        awaited = rw gives.3 at c.awaited;
+        null = λ l. null-array l gives.0;
+        object = λ among os i lives is. array-fits image among os i gives.0 ecx.0 lives is;
+      })
+
   -- each entry behind those of the heap
-  pub call-replies : (k : ℕ) → CallTyped (scope_of image live s) s next (suc (suc (suc k))) → SomeReplyTyped image live s next (Reply (suc (suc (suc k))) s)
+  behind-heap : (k : ℕ) → CallTyped (scope_of image live s) s next (suc (suc (suc k))) → SomeReplyTyped image live s next (Reply (suc (suc (suc k))) s)
   unfolding Reply nucleus_arguments
-  call-replies zero c = one-typed 3 yield_to c refl yield-typed
-  call-replies (suc zero) c = one-typed 4 get_stack_state c refl (λ a n. same-typed a _)
-  call-replies (suc (suc zero)) c = one-typed 5 reset_stack c refl reset-typed
-  call-replies (suc (suc (suc zero))) c = two-typed 6 vga_text_write c refl (λ a n m. done-typed a _ (Drew n (m % 2 ^ 16) ∷ []))
-  call-replies (suc (suc (suc (suc zero)))) c = nothing-typed 7 try_read_keyboard c refl (λ a. code-typed a _)
-  call-replies (suc (suc (suc (suc (suc zero))))) c = one-typed 8 start_timer c refl (λ a n. done-typed a _ (count_items n))
-  call-replies (suc (suc (suc (suc (suc (suc zero)))))) c = nothing-typed 9 send_eoi c refl (λ a. done-typed a _ (Wrote 0x20 0x20 ∷ []))
-  call-replies (suc (suc (suc (suc (suc (suc (suc zero))))))) c = nothing-typed 10 current_stack c refl (λ a. same-typed a _)
-  call-replies (suc (suc (suc (suc (suc (suc (suc (suc k)))))))) c = absurd (let x = c.entry in cc)
+  behind-heap zero c = one-typed 3 yield_to c refl yield-typed
+  behind-heap (suc zero) c = one-typed 4 get_stack_state c refl (λ a n. same-typed a _)
+  behind-heap (suc (suc zero)) c = one-typed 5 reset_stack c refl reset-typed
+  behind-heap (suc (suc (suc zero))) c = two-typed 6 vga_text_write c refl (λ a n m. done-typed a _ (Drew n (m % 2 ^ 16) ∷ []))
+  behind-heap (suc (suc (suc (suc zero)))) c = nothing-typed 7 try_read_keyboard c refl (λ a. code-typed a _)
+  behind-heap (suc (suc (suc (suc (suc zero))))) c = one-typed 8 start_timer c refl (λ a n. done-typed a _ (count_items n))
+  behind-heap (suc (suc (suc (suc (suc (suc zero)))))) c = nothing-typed 9 send_eoi c refl (λ a. done-typed a _ (Wrote 0x20 0x20 ∷ []))
+  behind-heap (suc (suc (suc (suc (suc (suc (suc zero))))))) c = nothing-typed 10 current_stack c refl (λ a. same-typed a _)
+  behind-heap (suc (suc (suc (suc (suc (suc (suc (suc k)))))))) c = absurd (let x = c.entry in cc)
+
+  -- each entry
+  pub call-replies : (k : ℕ) → CallTyped (scope_of image live s) s next k → SomeReplyTyped image live s next (Reply k s)
+  unfolding Reply nucleus_arguments
+  call-replies zero c = object-typed c
+  call-replies (suc zero) c = array-typed c
+  call-replies (suc (suc zero)) c = nothing-typed 2 garbage_collect c refl (λ a. a)
+  call-replies (suc (suc (suc k))) c = behind-heap k c

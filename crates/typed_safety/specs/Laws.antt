@@ -1,5 +1,5 @@
 -- What an image tells of its data and marks, and the laws: instructions, turns and runs keep typing.
-use Rattle.std.specs.Prelude.{◌≡◌, ◌<◌, ℕ, Bool, true, List, Option, Some, None, is_some, slice_get}
+use Rattle.std.specs.Prelude.{◌≡◌, ℕ, Bool, true, List, [], Option, Some, None, is_some, slice_get}
 use Rattle.std.specs.Option.{option_and_then}
 use Rattle.ia32_code.specs.declared.instruction.Reg.TheVariants.{Eax, Ecx}
 use Rattle.ia32_code.specs.declared.instruction.Alu.TheVariants as alu
@@ -23,17 +23,18 @@ use Rattle.tal_flow.specs.Rules.{next_address}
 use Rattle.tal_flow.specs.Strongest.{PlacedInst}
 use Rattle.tal_image.specs.declared.parts.DataRow.{DataRow}
 use Rattle.tal_image.specs.Image.{ImageParts}
-use Rattle.tal_image.specs.Conditions.{marked_number}
+use Rattle.tal_image.specs.Conditions.{heap_fits, marked_number}
 use Rattle.tal_image.specs.Formed.{Formed}
 use Rattle.tal_image.specs.Shown.{shown, data_row_in}
 use Rattle.tal_checker.specs.WellTyped.{WellTyped}
 use Rattle.tal_checker.specs.Running.{RunsOn, instruction_in}
-use Rattle.typed_machine.specs.Values.{Number, Word, fits_among}
+use Rattle.typed_machine.specs.Values.{Number, Word, ObjectShape, fits_among}
 use Rattle.typed_machine.specs.Stores.{Store, shapes_in, places_in}
 use Rattle.typed_machine.specs.States.{State}
 use Rattle.typed_machine.specs.Operands.{AtDisplay, spot_of, spot_word, marked_value}
 use Rattle.typed_machine.specs.Code.{inst_at}
 use Rattle.typed_machine.specs.Effects.{EffectView, Moves, Faults, Calls, Ends, Effect}
+use Rattle.typed_machine.specs.Replies.{Allocates, Reply}
 use Rattle.typed_machine.specs.Placing.{Answer}
 use Rattle.typed_machine.specs.Turns.{Turned, begun, TurnOf, Run, next_run, RunOf}
 use Rattle.typed_machine.specs.Frames.{Scope, fits_in, Awaits}
@@ -45,9 +46,11 @@ pub record HasArrays (image : ImageParts) (live : ℕ → Bool) (store : Store) 
   pub stand : (d : ℕ) (row : DataRow) → data_row_in image d ≡ Some row → IsArray store d row
   pub alive : (d : ℕ) (row : DataRow) → data_row_in image d ≡ Some row → live d ≡ true
 
--- What a formed image tells of its classes, methods, blocks and marks, beside what holds of all types.
+-- What a formed image tells of its heap, classes, methods, blocks and marks, beside what holds of all types.
 pub record ImageLaws (image : ImageParts) : Type 0 where
   pub types : TypeLaws
+  -- the heap has at most 2^22 words
+  pub heap : heap_fits image.heap_words ≡ true
   pub classes : ClassLaws (shown image).shapes
   -- a method is a function of the image, with the signature that its row says
   pub methods : (c m f : ℕ) → slice_get (Methods (shown image).shapes c) m ≡ Some f
@@ -112,32 +115,35 @@ DisplaysAreThere =
     → (a : Mem) (y : Operand) → x.inst ≡ inst.Alu alu.Cmp (M a) y → (c d : ℕ) → spot_of (shown image).shapes s a ≡ Some (AtDisplay c d)
     → (w : ℕ) × (spot_word (shown image).shapes s (AtDisplay c d) ≡ Some w)
 
--- at the place of a state stands an instruction that calls an entry of the heap: AllocObject, AllocArray or GarbageCollect
-abbrev pub CallsHeap : ImageParts → State → Type 0
-CallsHeap image s =
-    (k : ℕ) × (k < 3) × (option_and_then (λ (i : Inst × ℕ). Effect image s i.0 i.1) (inst_at image s.thread.place) ≡ Some (Calls k))
+-- ---- turns and runs
 
--- A turn that starts with the instruction or an interrupt of a state leads to a typed state. It is none at a call of an entry
--- of the heap alone, which no turn takes yet.
-abbrev pub TurnTyped : ImageParts → (ℕ → Bool) → State → Option Turned → Type 0
-TurnTyped image live s None = CallsHeap image s
-TurnTyped image live s (Some r) = TypedAmong image live r.state
+-- at the place of a state stands an instruction that calls an entry of the Nucleus for an object of the shape
+pub record AsksFor (image : ImageParts) (s : State) (shape : ObjectShape) : Type 0 where
+  pub entry : ℕ
+  pub calls : option_and_then (λ (i : Inst × ℕ). Effect image s i.0 i.1) (inst_at image s.thread.place) ≡ Some (Calls entry)
+  pub asks : Reply entry s ≡ Some (Allocates shape)
+
+-- A turn that starts with the instruction or an interrupt of a state leads to a typed state, where the answer that it took was legal
+-- if it took one. There is no turn where an allocation has no answer, and only there.
+abbrev pub TurnTyped : ImageParts → List Answer → State → Option Turned → Type 0
+TurnTyped image answers s None = (answers ≡ []) × (shape : ObjectShape) × AsksFor image s shape
+TurnTyped image answers s (Some r) = r.legal ≡ true → Typed image r.state
 
 -- so it is in each well typed image with a turn from a typed state
 abbrev pub TurnsKeepTyping : Type 0
 TurnsKeepTyping =
-    (image : ImageParts) → WellTyped image → (live : ℕ → Bool) (events : List Event) (answers : List Answer) (s : State) → TypedAmong image live s
-    → TurnTyped image live (begun events s) (TurnOf image events answers s)
+    (image : ImageParts) → WellTyped image → (events : List Event) (answers : List Answer) (s : State) → Typed image s
+    → TurnTyped image answers (begun events s) (TurnOf image events answers s)
 
--- A run has come to a typed state, and it goes on unless it comes to a call of an entry of the heap.
+-- A run has come to a typed state, and it goes on unless an allocation has no answer.
 pub record RunTyped (image : ImageParts) (events : List Event) (r : Run) : Type 0 where
   pub typed : Typed image r.state
-  pub goes_on : next_run image events r ≡ None → CallsHeap image (begun events r.state)
+  pub goes_on : next_run image events r ≡ None → (r.left ≡ []) × (shape : ObjectShape) × AsksFor image (begun events r.state) shape
 
--- so it is with each run of a well typed image, the run of no turns included
+-- so it is with each run of a well typed image whose answers were legal, the run of no turns included
 abbrev pub RunsAreTyped : Type 0
 RunsAreTyped =
-    (image : ImageParts) → WellTyped image → (events : List Event) (n : ℕ) (answers : List Answer) (r : Run) → RunOf image events n answers ≡ Some r
+    (image : ImageParts) → WellTyped image → (events : List Event) (n : ℕ) (answers : List Answer) (r : Run) → RunOf image events n answers ≡ Some r → r.legal ≡ true
     → RunTyped image events r
 
 -- ---- the objects that a run can come to

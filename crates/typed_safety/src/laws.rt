@@ -1,7 +1,7 @@
 // What holds of the definitions alone: each law is a function with nothing to do, whose clause is the law.
 ghost use Rattle.typed_safety.specs.Laws.{FormedImagesTell, InstructionsKeepTyping, WellTypedImagesKeepTyping, DisplaysAreThere, TurnsKeepTyping, RunsAreTyped, LiveObjectsAreLeast};
 
-/// A formed image tells what typed instructions rest on: its classes keep the laws of classes, its methods are its functions,
+/// A formed image tells what typed instructions rest on: its heap has its limit, its classes keep the laws of classes, its methods are its functions,
 /// at its blocks instructions begin, and what its marks stand for has the marks' types and words.
 pub fn formed_images_tell()
     ensures { FormedImagesTell }
@@ -34,21 +34,23 @@ pub fn displays_are_there()
 }
 
 /// In a well typed image a turn from a typed state leads to a typed state, whether an interrupt is accepted, or an instruction
-/// moves on, faults, ends a stack or calls the Nucleus. There is no turn at a call of an entry of the heap alone.
+/// moves on, faults, ends a stack or calls the Nucleus; of an allocation, where its answer is legal. There is no turn where an
+/// allocation has no answer, and only there.
 pub fn turns_keep_typing()
     ensures { TurnsKeepTyping }
 {
     formed_images_tell();
     tal_checker::laws::accepted_runs();
+    tal_checker::laws::esp_is_junk();
 }
 
-/// Each run of a well typed image has come to a typed state, and goes on unless it has come to a call of an entry of the
-/// heap.
+/// Each run of a well typed image with legal answers has come to a typed state, and goes on unless an allocation has no answer.
 pub fn runs_are_typed()
     ensures { RunsAreTyped }
 {
     formed_images_tell();
     tal_checker::laws::accepted_runs();
+    tal_checker::laws::esp_is_junk();
 }
 
 /// In a well typed image a typed state is typed among the objects that a run can come to: the data arrays and what is reached

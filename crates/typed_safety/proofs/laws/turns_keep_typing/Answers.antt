@@ -1,5 +1,7 @@
-use Rattle.typed_safety.proofs.Turning.{turn-typed}
+use Rattle.typed_safety.proofs.WholeRuns.{turn-keeps}
+use Rattle.typed_safety.proofs.Living.{esp-refers-not}
 use Rattle.typed_safety.proofs.laws.turns_keep_typing.Goals as goal
 
 pub returns : goal.returns
-returns c = λ image typed live events answers. turn-typed image (c.accepted_runs.ensures image typed) (c.formed_images_tell.ensures image typed.formed) live answers events
+returns c = λ image typed events. turn-keeps image (c.accepted_runs.ensures image typed) (c.formed_images_tell.ensures image typed.formed)
+    (esp-refers-not image (λ pc k. c.esp_is_junk.ensures image pc k typed)) events
