@@ -18,7 +18,7 @@ use Rattle.kernel_machine.specs.Stepping.{viewed}
 
 -- the run of no turns
 abbrev first_run : ImageParts → Run
-first_run image = record { state = first_state image; entries = []; left = [] }
+first_run image = record { state = first_state image; entries = []; left = []; legal = true }
 
 -- the processor
 first-cpu : (image : ImageParts) → CpuStands (first_state image) (first_cpu image)
@@ -38,7 +38,7 @@ first-lawful law image events v w built ordered nucleus = record {
   well_typed = w;
   built = built;
   state = first_state image;
-  typed = (law image w events 0 [] (first_run image) refl).typed;
+  typed = (law image w events 0 [] (first_run image) refl refl).typed;
   stands = first-stands image events v nucleus;
   next = record { rest = λ later low. refl; in_order = ordered };
 }
@@ -48,4 +48,4 @@ pub first-follows : (image : ImageParts) (events : List Event) (v : NucleusView)
     → Follows (viewed image events (first_cpu image) v 0 None) []
 unfolding RunOf
 first-follows image events v nucleus =
-    record { run = first_run image; legal = record { reached = refl; used = refl }; entries_are = refl; stands = first-stands image events v nucleus }
+    record { run = first_run image; legal = record { reached = refl; used = refl; legal = refl }; entries_are = refl; stands = first-stands image events v nucleus }

@@ -157,7 +157,7 @@ stands-shows machine s typed h =
 -- the law: the state that a run comes to is typed
 pub follows-shows : RunsAreTyped → MachinesShowTheirRuns
 follows-shows law machine entries w f =
-    stands-shows machine f.run.state (law machine.image w machine.events machine.turns _ f.run f.legal.reached).typed f.stands
+    stands-shows machine f.run.state (law machine.image w machine.events machine.turns _ f.run f.legal.reached f.legal.legal).typed f.stands
 
 -- ---- what is looked up of a machine
 

@@ -155,8 +155,9 @@ module _ {image : ImageParts} {events : List Event} {cpu : Cpu} {v come : Nucleu
 
 -- the state after a turn from a typed one is typed
 typed-after : TurnsKeepTyping → (image moved : ImageParts) → moved ≡ image → WellTyped image → (events : List Event) (answers : List Answer) (s : State) (r : Turned)
-    → Typed image s → TurnOf image events answers s ≡ Some r → Typed moved r.state
-typed-after law image moved same w events answers s r typed e = rw same (rw e at (law image w all_objects events answers s typed))
+    → Typed image s → TurnOf image events answers s ≡ Some r → r.left ≡ answers → Typed moved r.state
+typed-after law image moved same w events answers s r typed e left =
+    let none = rw e at (turn-tells-none image events answers s) in rw same ((rw e at (law image w events answers s typed)) (none left).0)
 
 -- the machine stands for the state that a turn comes to
 after-stands : (before after : MachineView) (entries more : List Entry) → TakesTurn before after entries more → (s : State) → Typed before.image s → Stands before s
@@ -175,7 +176,7 @@ turn-lawful law before after entries more index next h takes comes =
       well_typed = rw takes.image h.well_typed;
       built = rw takes.image h.built;
       state = r.state;
-      typed = typed-after law before.image after.image takes.image h.well_typed before.events [] h.state r h.typed is;
+      typed = typed-after law before.image after.image takes.image h.well_typed before.events [] h.state r h.typed is left;
       stands = stands;
       next = rw (takes.events, takes.turns) comes;
     }
@@ -203,10 +204,10 @@ pub turn-follows : RunsAreTyped → (before after : MachineView) (entries more :
     → before.ending ≡ None → Follows before entries → Follows after more
 turn-follows law before after entries more index h takes on f =
     let off : f.run.state.ending ≡ None = sym f.stands.ending ∙ on in
-    let typed = (law before.image h.well_typed before.events before.turns (answers_of entries) f.run f.legal.reached).typed in
+    let typed = (law before.image h.well_typed before.events before.turns (answers_of entries) f.run f.legal.reached f.legal.legal).typed in
     let (r, is, stands, added, left) = after-stands before after entries more takes f.run.state typed f.stands f.run.left in
-    let none : answers_of (option_to_list r.entry) ≡ [] = rw is at (turn-tells-none before.image before.events f.run.left f.run.state) in
-    let same : answers_of more ≡ answers_of entries = ap answers_of (added) ∙ answers-stay entries r none in
+    let none = (rw is at (turn-tells-none before.image before.events f.run.left f.run.state)) left in
+    let same : answers_of more ≡ answers_of entries = ap answers_of (added) ∙ answers-stay entries r none.1 in
     record {
       run = continued f.run r;
       legal = record {
@@ -214,6 +215,7 @@ turn-follows law before after entries more index h takes on f =
             takes.image takes.events takes.turns same
             (run-more before.image before.events before.turns (answers_of entries) f.run r f.legal.reached off is);
         used = left ∙ f.legal.used;
+        legal = rw (f.legal.legal, none.0) refl;
       };
       entries_are = ap (λ es. es ++ option_to_list r.entry) f.entries_are ∙ sym added;
       stands = stands;

@@ -30,4 +30,5 @@ pub mod Growing
 pub mod Gaps
 pub mod Replying
 pub mod Turning
+pub mod Staying
 pub mod WholeRuns

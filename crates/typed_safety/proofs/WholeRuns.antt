@@ -15,6 +15,7 @@ use Rattle.typed_safety.specs.Laws.{ImageLaws, AsksFor, TurnTyped, RunTyped}
 use Rattle.typed_safety.proofs.Carrying.{EspRefersNot}
 use Rattle.typed_safety.proofs.Turning.{TurnAmong, turn-typed}
 use Rattle.typed_safety.proofs.FirstStates.{first-typed}
+use Rattle.typed_safety.proofs.Staying.{turn-cases}
 
 module _ (image : ImageParts) (rests : RunsOn image) (laws : ImageLaws image) (esp : EspRefersNot image) (events : List Event) where
   -- a turn of a typed state
