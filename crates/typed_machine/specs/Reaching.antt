@@ -129,6 +129,10 @@ Held image s = data_references image s ++ thread_references image s.thread s.val
 unfoldable pub Roots : ImageParts → ℕ → State → List Value
 Roots image next s = data_references image s ++ frame_references image (slots_at image next) s.values ++ waiting_references image s
 
+-- The data arrays, and what is reached from the roots at such a call.
+unfoldable pub rooted : ImageParts → ℕ → State → ℕ → Bool
+rooted image next s i = nat_lt i (length image.arrays) || Reach (shown image).shapes s.store (Roots image next s) i
+
 -- The objects that a run can come to: the data arrays, and what is reached from what the state holds.
 unfoldable pub live_in : ImageParts → State → ℕ → Bool
 live_in image s i = nat_lt i (length image.arrays) || Reach (shown image).shapes s.store (Held image s) i

@@ -1,8 +1,9 @@
 -- Typed states: what typing knows of a state before its next turn.
-use Rattle.std.specs.Prelude.{◌≡◌, ◌≤◌, ◌<◌, ◌^◌, ℕ, zero, suc, Bool, true, false, nat_lt, List, length, Option, Some, slice_get}
+use Rattle.std.specs.Prelude.{◌≡◌, ◌≢◌, ◌≤◌, ◌<◌, ◌⊎◌, ◌+◌, ◌*◌, ◌%◌, ◌^◌, ℕ, zero, suc, Bool, true, false, nat_lt, List, length, Option, Some, slice_get}
 use Rattle.ia32_code.specs.declared.instruction.Reg.{Reg}
 use Rattle.ia32_code.specs.declared.instruction.Cond.{Cond}
 use Rattle.object_layout.specs.declared.rows.FieldTy.{FieldTy}
+use Rattle.object_layout.specs.Areas.{heap_start}
 use Rattle.object_layout.specs.Classes.{ShapesView, IsShape, Below}
 use Rattle.tal_types.specs.declared.types.FlagKind.{FlagKind}
 use Rattle.tal_types.specs.declared.types.FlagKind.TheVariants as kind
@@ -17,9 +18,11 @@ use Rattle.tal_image.specs.Shown.{shown, data_row_in}
 use Rattle.tal_checker.specs.WellTyped.{strongest_at}
 use Rattle.tal_checker.specs.Running.{signature_at}
 use Rattle.typed_machine.specs.Values.{Value, Number, Null, Ref, Tab, ObjectShape, InstanceOf, ArrayOf, all_objects}
-use Rattle.typed_machine.specs.Stores.{Object, Store, shapes_in, shape_in, value_type, value_count}
+use Rattle.typed_machine.specs.Stores.{Object, Store, shapes_in, shape_in, need, value_type, value_count}
 use Rattle.typed_machine.specs.States.{State, Thread, Stack, EmptyStack, RunningStack, YieldedStack, InterruptedStack, most_values}
 use Rattle.typed_machine.specs.Effects.{is_known}
+use Rattle.typed_machine.specs.Reaching.{live_in}
+use Rattle.typed_machine.specs.Placing.{block_of}
 use Rattle.typed_machine.specs.Frames.{Scope, fits_in, FramesFit, Awaits}
 
 -- ---- what is known of flags and registers
@@ -142,6 +145,32 @@ pub record TypedAmong (image : ImageParts) (live : ℕ → Bool) (s : State) : T
   pub statics : StaticsFit (scope_of image live s) s.statics
   pub store : StoreFits (scope_of image live s) s.store
 
--- the same over all objects
-abbrev pub Typed : ImageParts → State → Type 0
-Typed image s = TypedAmong image all_objects s
+-- ---- the heap
+
+-- the object's block lies in the heap at a multiple of 4 words; its place is 8 bytes above the block
+pub record LiesInHeap (image : ImageParts) (o : Object) : Type 0 where
+  pub first : ℕ
+  pub place : o.place ≡ heap_start + 4 * first + 8
+  pub aligned : first % 4 ≡ 0
+  pub ends : first + need (shown image).shapes o.shape ≤ image.heap_words
+
+-- one block ends before the other begins
+abbrev pub BlocksApart : ImageParts → Object → Object → Type 0
+BlocksApart image o p =
+    (block_of o.place + need (shown image).shapes o.shape ≤ block_of p.place) ⊎ (block_of p.place + need (shown image).shapes p.shape ≤ block_of o.place)
+
+-- object i is one of the heap, which are those behind the data arrays, and it lives
+pub record LiveInHeap (image : ImageParts) (live : ℕ → Bool) (store : Store) (i : ℕ) (o : Object) : Type 0 where
+  pub behind : length image.arrays ≤ i
+  pub lives : live i ≡ true
+  pub here : slice_get store i ≡ Some o
+
+-- the blocks of those that live lie in the heap and do not overlap
+pub record BlocksLie (image : ImageParts) (live : ℕ → Bool) (store : Store) : Type 0 where
+  pub lie : (i : ℕ) (o : Object) → LiveInHeap image live store i o → LiesInHeap image o
+  pub apart : (i j : ℕ) (o p : Object) → i ≢ j → LiveInHeap image live store i o → LiveInHeap image live store j p → BlocksApart image o p
+
+-- A typed state: it is typed whichever objects live, and the blocks of those that a run can come to lie in the heap, apart.
+pub record Typed (image : ImageParts) (s : State) : Type 0 where
+  pub among : TypedAmong image all_objects s
+  pub heap : BlocksLie image (live_in image s) s.store

@@ -3,11 +3,11 @@ use Rattle.std.proofs.Common.{◌≡◌, ◌⊎◌, inl, inr, ◌∙◌, sym, ap
 use Rattle.std.specs.Option.{option_map, option_and_then, option_map_or}
 use Rattle.std.proofs.lemmas.Bool.Decides.{nat_tests}
 use Rattle.std.proofs.lemmas.List.{length-map, length-replicate}
-use Rattle.std.proofs.lemmas.Option.{slice_get-map}
+use Rattle.std.proofs.lemmas.Option.{slice_get-map, slice_get_within}
 use Rattle.object_layout.specs.declared.rows.FieldTy.{FieldTy}
 use Rattle.object_layout.specs.declared.rows.FieldTy.TheVariants as field
 use Rattle.object_layout.specs.declared.rows.KindRow.{KindRow}
-use Rattle.object_layout.specs.Areas.{statics_start}
+use Rattle.object_layout.specs.Areas.{statics_start, heap_start}
 use Rattle.object_layout.specs.Classes.{ShapesView, Element, IsShape}
 use Rattle.tal_types.specs.Types.{of_field}
 use Rattle.tal_image.specs.declared.parts.ArrayPart.{ArrayPart}
@@ -22,7 +22,7 @@ use Rattle.typed_machine.specs.Values.{Value, Number, Null, ArrayOf, fits_among,
 use Rattle.typed_machine.specs.Stores.{Object, shape_in, value_type, value_count, zero_of, first_elements, data_objects, first_store}
 use Rattle.typed_machine.specs.States.{Stack, EmptyStack, RunningStack, first_stacks, first_state}
 use Rattle.typed_machine.specs.Frames.{Scope, fits_in}
-use Rattle.typed_machine.specs.Typing.{StackFits, StaticsFit, StoreFits, IsArray, Typed, scope_of}
+use Rattle.typed_machine.specs.Typing.{StackFits, StaticsFit, StoreFits, IsArray, TypedAmong, Typed, scope_of}
 use Rattle.typed_safety.proofs.FormedImages.{each-row}
 use Rattle.typed_safety.proofs.Resuming.{starts-fit}
 
@@ -97,9 +97,9 @@ laid-there s (b ∷ arrays) [] d a place e f = absurd (cc)
 laid-there s (b ∷ arrays) (p ∷ places) zero a place e f = let part : b ≡ a = cc in let same : p ≡ place = cc in rw (part, same) refl
 laid-there s (b ∷ arrays) (p ∷ places) (suc d) a place e f = laid-there s arrays places d a place e f
 
--- conditions 21 and 22: the places of data arrays
-places-low : (t : Tables) (kinds : List KindRow) (used : ℕ) (arrays : List ArrayPart) (d place : ℕ) → EachAfter with_array (λ later used a. IsArrayPart t kinds used a) used arrays
-    → slice_get (array_places (statics_start + 4 * used) arrays) d ≡ Some place → (0 < place) × (place < 2 ^ 32)
+-- conditions 21 and 22: the places of data arrays, which are below the heap
+pub places-low : (t : Tables) (kinds : List KindRow) (used : ℕ) (arrays : List ArrayPart) (d place : ℕ) → EachAfter with_array (λ later used a. IsArrayPart t kinds used a) used arrays
+    → slice_get (array_places (statics_start + 4 * used) arrays) d ≡ Some place → (0 < place) × (place < heap_start)
 unfolding array_places
 places-low t kinds used [] d place h e = absurd (cc)
 places-low t kinds used (a ∷ arrays) zero place h e =
@@ -109,6 +109,10 @@ places-low t kinds used (a ∷ arrays) zero place h e =
 places-low t kinds used (a ∷ arrays) (suc d) place h e =
     let next : statics_start + 4 * used + 4 * (2 + a.size) ≡ statics_start + 4 * (used + 2 + a.size) = omega arith in
     places-low t kinds (used + 2 + a.size) arrays d place h.1 (subst (λ n. slice_get (array_places n arrays) d ≡ Some place) next e)
+
+-- what is below the heap is a word
+below-word : (n : ℕ) → n < heap_start → n < 2 ^ 32
+below-word n h = omega (arith, h)
 
 -- an element at first is a number that the image gives, or what elements start as
 element-read : (ns : List ℕ) (m j : ℕ) (z w : Value) → slice_get (map Number ns ++ replicate m z) j ≡ Some w → ((0 < length ns) × ((n : ℕ) × (w ≡ Number n))) ⊎ (z ≡ w)
@@ -207,8 +211,8 @@ module _ (image : ImageParts) (formed : Formed image) where
     arrays_live = λ d row e. refl;
     there = λ i o e. let r = read i o e in subst (λ (x : Object). IsShape (shapes_of image) (shape_in x.shape)) r.is_object (kind-there i r.part r.is_part);
     counts = λ i o e. let r = read i o e in subst (λ (x : Object). length x.values ≡ value_count (shapes_of image) x.shape) r.is_object (elements-count i r.part r.is_part);
-    placed = λ i o e. let r = read i o e in subst (λ (x : Object). (0 < x.place) × (x.place < 2 ^ 32)) r.is_object
-        (places-low (tables image) image.kinds (length image.statics) image.arrays i r.place formed.arrays r.is_place);
+    placed = λ i o e. let r = read i o e in let low = places-low (tables image) image.kinds (length image.statics) image.arrays i r.place formed.arrays r.is_place in
+        subst (λ (x : Object). (0 < x.place) × (x.place < 2 ^ 32)) r.is_object (low.0, below-word r.place low.1);
     fit = λ i j o t w alive e is value. let r = read i o e in
         elements-fit (first_scope image) i r.part j t w r.is_part
         (ap (λ (x : Object). value_type (shapes_of image) x.shape j) r.is_object ∙ is)
@@ -219,9 +223,9 @@ module _ (image : ImageParts) (formed : Formed image) where
       read i o e = laid-read (shapes_of image) image.arrays places i o e
 
   -- the first state
-  pub first-typed : RunsOn image → Typed image (first_state image)
+  first-among : RunsOn image → TypedAmong image all_objects (first_state image)
   unfolding first_state
-  first-typed runs = record {
+  first-among runs = record {
     thread = starts-fit (first_scope image) runs 0 some;
     others = stacks-fit (first_scope image) image.stacks;
     one = refl;
@@ -234,3 +238,20 @@ module _ (image : ImageParts) (formed : Formed image) where
     where
       some : 0 < image.stacks
       some = let h = formed.condition_2 in grind (arith, nat_tests)
+
+  -- it has no object of the heap
+  pub first-typed : RunsOn image → Typed image (first_state image)
+  unfolding first_state first_store
+  first-typed runs = record {
+    among = first-among runs;
+    heap = record {
+      lie = λ i o h. absurd (none i o h.behind h.here);
+      apart = λ i j o p differ h k. absurd (none i o h.behind h.here);
+    };
+  }
+    where
+      none : (i : ℕ) (o : Object) → length image.arrays ≤ i → slice_get (data_objects (shapes_of image) image.arrays places) i ≡ Some o → ⊥
+      none i o behind e =
+          let r = laid-read (shapes_of image) image.arrays places i o e in
+          let low = slice_get_within image.arrays i r.part r.is_part in
+          omega (arith, behind, low)

@@ -31,4 +31,7 @@ pub mod Gaps
 pub mod Replying
 pub mod Turning
 pub mod Staying
+pub mod AfterReplies
+pub mod Lying
+pub mod Keeping
 pub mod WholeRuns

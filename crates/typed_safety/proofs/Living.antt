@@ -64,7 +64,7 @@ fits-live l w t i h is f = go t (rw is at h) f
 -- ---- what a typed state holds lives
 
 -- what the references of a frame name
-frames-live : (l : Scope) (t : Ty) (ts : List Ty) (ws : List Value) → FramesFit l t ts ws
+pub frames-live : (l : Scope) (t : Ty) (ts : List Ty) (ws : List Value) → FramesFit l t ts ws
     → (i : ℕ) → names (frame_references l.image ts ws) i ≡ true → (l.live i ≡ true) × (is_some (slice_get l.shapes i) ≡ true)
 frames-live l t (u ∷ ts) [] h i e = absurd h
 frames-live l t (u ∷ ts) (w ∷ ws) h i e = go (frames-live l t ts ws h.1 i) (may_refer u) refl (rw (slot-references l u ts w ws h.0) at e)
@@ -91,7 +91,7 @@ thread-live l t ws h i e = ⊎_elim
     (names-either (register_references (strongest_at l.image t.place) t) (frame_references l.image (slots_at l.image t.place) ws) i e)
 
 -- and a stack's
-stack-live : (l : Scope) (stack : Stack) → StackFits l stack
+pub stack-live : (l : Scope) (stack : Stack) → StackFits l stack
     → (i : ℕ) → names (stack_references l.image stack) i ≡ true → (l.live i ≡ true) × (is_some (slice_get l.shapes i) ≡ true)
 stack-live l EmptyStack h i e = absurd (cc)
 stack-live l RunningStack h i e = absurd (cc)
@@ -111,7 +111,7 @@ take-read (suc n) [] k x e = absurd (cc)
 take-read (suc n) (y ∷ xs) zero x e = (omega arith, e)
 take-read (suc n) (y ∷ xs) (suc k) x e = let h = take-read n xs k x e in let l = h.0 in (omega arith, h.1)
 
-take-front : {A : Type 0} (n : ℕ) (xs : List A) (k : ℕ) (x : A) → k < n → slice_get xs k ≡ Some x → slice_get (take n xs) k ≡ Some x
+pub take-front : {A : Type 0} (n : ℕ) (xs : List A) (k : ℕ) (x : A) → k < n → slice_get xs k ≡ Some x → slice_get (take n xs) k ≡ Some x
 take-front zero xs k x h e = absurd (omega arith)
 take-front (suc n) [] k x h e = e
 take-front (suc n) (y ∷ xs) zero x h e = e
@@ -159,7 +159,7 @@ module _ (image : ImageParts) (live : ℕ → Bool) (s : State) (t : TypedAmong 
       fits-live (scope_of image live s) (Ref i) (of_field r.1) i (t.store.fit j r.0 o r.1 (Ref i) lives here r.2 r.4) refl (rw (field-refers r.1) r.3)
 
   -- what the data names
-  data-live : (i : ℕ) → names (data_references image s) i ≡ true → (live i ≡ true) × (is_some (slice_get (shapes_in s.store) i) ≡ true)
+  pub data-live : (i : ℕ) → names (data_references image s) i ≡ true → (live i ≡ true) × (is_some (slice_get (shapes_in s.store) i) ≡ true)
   data-live i e = ⊎_elim
       (λ (f : names (static_references image.statics s.statics) i ≡ true).
       let r = statics-are image.statics s.statics i f in

@@ -27,7 +27,7 @@ use Rattle.typed_machine.specs.Switches.{runs, switched}
 use Rattle.typed_machine.specs.Replies.{ReplyView, Replies, YieldsTo, Allocates, Collects, alloc_object, alloc_array, garbage_collect, is_stack, is_application, yield_to, emptied, reset_stack, get_stack_state, current_stack, happened, vga_text_write, code_taken, try_read_keyboard, count_items, start_timer, send_eoi, by_nothing, by_number, by_numbers, Reply}
 use Rattle.typed_machine.specs.Frames.{Scope, Awaits, fits_in}
 use Rattle.typed_machine.specs.Typing.{TypedAmong, scope_of}
-use Rattle.typed_safety.specs.Laws.{ImageLaws, CallTyped}
+use Rattle.typed_safety.specs.Laws.{ImageLaws, CallTyped, AllocationTyped}
 use Rattle.typed_safety.proofs.Values.{number-num}
 use Rattle.typed_safety.proofs.Resuming.{replied-fits}
 use Rattle.typed_safety.proofs.Switching.{SomeTyped, set-there, set-read, switch-typed}
@@ -102,14 +102,6 @@ pub aside-typed : (image : ImageParts) (live : ℕ → Bool) (s : State) (d : Hi
     → TypedAmong image live (record s { devices = d; turns = n; ending = e })
 aside-typed image live s d n e t =
     record { thread = t.thread; others = t.others; one = t.one; only = t.only; kernel = t.kernel; count = t.count; statics = t.statics; store = t.store }
-
--- An object of the shape is asked for: there is such a shape, and a reply is awaited whose type such an object has, and null.
-pub record AllocationTyped (image : ImageParts) (live : ℕ → Bool) (s : State) (next : ℕ) (shape : ObjectShape) : Type 0 where
-  pub is_shape : IsShape (shown image).shapes (shape_in shape)
-  pub type : Ty
-  pub awaited : Awaits (scope_of image live s) type next s.values
-  pub null : (l : Scope) → fits_in l Null type ≡ true
-  pub object : (among : ℕ → Bool) (os : List ObjectShape) (i : ℕ) → among i ≡ true → slice_get os i ≡ Some shape → fits_among (shown image) among os (Ref i) type ≡ true
 
 -- null has the type of a reference
 null-fits : (l : Scope) (c : ℕ) → fits_in l Null (ty.Ref c) ≡ true

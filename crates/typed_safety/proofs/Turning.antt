@@ -27,10 +27,10 @@ use Rattle.typed_machine.specs.Reaching.{Roots}
 use Rattle.typed_machine.specs.Placing.{Answer, Placed, Refused, WordRun, Gaps, Legal, fresh_object, reply_to, allocated, free_words}
 use Rattle.typed_machine.specs.Turns.{Turned, turned, begun, kernel_goes_on, interrupted, ended_by, comes_back, answered, replied, after_effect, instruction, interrupt_or, TurnOf}
 use Rattle.typed_machine.specs.Typing.{StackFits, TypedAmong, scope_of}
-use Rattle.typed_safety.specs.Laws.{ImageLaws, CallTyped, EffectTyped, AsksFor}
+use Rattle.typed_safety.specs.Laws.{ImageLaws, CallTyped, EffectTyped, AsksFor, AllocationTyped}
 use Rattle.typed_safety.proofs.Instructions.{state-keeps}
 use Rattle.typed_safety.proofs.Switching.{SomeTyped, KernelKept, switch-typed}
-use Rattle.typed_safety.proofs.Replying.{aside-typed, AllocationTyped, SomeReplyTyped, call-replies}
+use Rattle.typed_safety.proofs.Replying.{aside-typed, SomeReplyTyped, call-replies}
 use Rattle.typed_safety.proofs.Resuming.{replied-fits}
 use Rattle.typed_safety.proofs.Values.{number-num}
 use Rattle.typed_safety.proofs.Carrying.{EspRefersNot}
@@ -44,7 +44,7 @@ TurnAmong image live answers s None = (answers ≡ []) × (shape : ObjectShape) 
 TurnAmong image live answers s (Some r) = r.legal ≡ true → (r.left ≢ answers → live (length s.store) ≡ true) → TypedAmong image live r.state
 
 -- a list is none of those that begin with more
-longer : {A : Type 0} (x : A) (xs : List A) → xs ≢ x ∷ xs
+pub longer : {A : Type 0} (x : A) (xs : List A) → xs ≢ x ∷ xs
 longer x xs e = let same : length xs ≡ length (x ∷ xs) = ap length e in omega (arith, same)
 
 module _ (image : ImageParts) (rests : RunsOn image) (laws : ImageLaws image) (esp : EspRefersNot image) (live : ℕ → Bool) (answers : List Answer) where

@@ -6,29 +6,21 @@ use Rattle.device_model.specs.declared.events.Event.{Event}
 use Rattle.tal_image.specs.Image.{ImageParts}
 use Rattle.tal_image.specs.Formed.{Formed}
 use Rattle.tal_checker.specs.Running.{RunsOn}
-use Rattle.typed_machine.specs.Values.{ObjectShape, all_objects}
-use Rattle.typed_machine.specs.States.{State, first_state}
+use Rattle.typed_machine.specs.Values.{ObjectShape}
+use Rattle.typed_machine.specs.States.{first_state}
 use Rattle.typed_machine.specs.Placing.{Answer}
 use Rattle.typed_machine.specs.Turns.{Turned, begun, TurnOf, Run, continued, next_run, RunOf}
 use Rattle.typed_machine.specs.Typing.{Typed}
 use Rattle.typed_safety.specs.Laws.{ImageLaws, AsksFor, TurnTyped, RunTyped}
 use Rattle.typed_safety.proofs.Carrying.{EspRefersNot}
-use Rattle.typed_safety.proofs.Turning.{TurnAmong, turn-typed}
+use Rattle.typed_safety.proofs.Living.{ReachIsLeast}
+use Rattle.typed_safety.proofs.Keeping.{turn-keeps}
 use Rattle.typed_safety.proofs.FirstStates.{first-typed}
-use Rattle.typed_safety.proofs.Staying.{turn-cases}
 
-module _ (image : ImageParts) (rests : RunsOn image) (laws : ImageLaws image) (esp : EspRefersNot image) (events : List Event) where
-  -- a turn of a typed state
-  pub turn-keeps : (answers : List Answer) (s : State) → Typed image s → TurnTyped image answers (begun events s) (TurnOf image events answers s)
-  turn-keeps answers s t = go (TurnOf image events answers s) (turn-typed image rests laws esp all_objects answers events s t)
-    where
-      go : (o : Option Turned) → TurnAmong image all_objects answers (begun events s) o → TurnTyped image answers (begun events s) o
-      go None h = h
-      go (Some r) h = λ legal. h legal (λ other. refl)
-
+module _ (image : ImageParts) (rests : RunsOn image) (laws : ImageLaws image) (esp : EspRefersNot image) (reaches : ReachIsLeast) (events : List Event) where
   -- a typed run after a turn more
   next-typed : (r next : Run) → Typed image r.state → next_run image events r ≡ Some next → next.legal ≡ true → Typed image next.state
-  next-typed r next t e legal = go (is_some r.state.ending) (TurnOf image events r.left r.state) (turn-keeps r.left r.state t) e
+  next-typed r next t e legal = go (is_some r.state.ending) (TurnOf image events r.left r.state) (turn-keeps image rests laws esp reaches events r.left r.state t) e
     where
       go : (b : Bool) (o : Option Turned) → TurnTyped image r.left (begun events r.state) o → (if b then Some r else option_map (continued r) o) ≡ Some next → Typed image next.state
       go true o h f = let same : r ≡ next = cc in subst (λ (x : Run). Typed image x.state) same t
@@ -52,7 +44,7 @@ module _ (image : ImageParts) (rests : RunsOn image) (laws : ImageLaws image) (e
 
   -- a typed run goes on, but where an allocation has no answer
   next-there : (r : Run) → Typed image r.state → next_run image events r ≡ None → (r.left ≡ []) × (shape : ObjectShape) × AsksFor image (begun events r.state) shape
-  next-there r t e = go (is_some r.state.ending) (TurnOf image events r.left r.state) (turn-keeps r.left r.state t) e
+  next-there r t e = go (is_some r.state.ending) (TurnOf image events r.left r.state) (turn-keeps image rests laws esp reaches events r.left r.state t) e
     where
       go : (b : Bool) (o : Option Turned) → TurnTyped image r.left (begun events r.state) o → (if b then Some r else option_map (continued r) o) ≡ None
           → (r.left ≡ []) × (shape : ObjectShape) × AsksFor image (begun events r.state) shape

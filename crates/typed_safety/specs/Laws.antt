@@ -1,5 +1,5 @@
 -- What an image tells of its data and marks, and the laws: instructions, turns and runs keep typing.
-use Rattle.std.specs.Prelude.{◌≡◌, ℕ, Bool, true, List, [], Option, Some, None, is_some, slice_get}
+use Rattle.std.specs.Prelude.{◌≡◌, ◌≢◌, ◌⊎◌, length, ℕ, Bool, true, List, [], Option, Some, None, is_some, slice_get}
 use Rattle.std.specs.Option.{option_and_then}
 use Rattle.ia32_code.specs.declared.instruction.Reg.TheVariants.{Eax, Ecx}
 use Rattle.ia32_code.specs.declared.instruction.Alu.TheVariants as alu
@@ -9,9 +9,10 @@ use Rattle.ia32_code.specs.declared.instruction.Operand.TheVariants.{M}
 use Rattle.ia32_code.specs.declared.instruction.Inst.{Inst}
 use Rattle.ia32_code.specs.declared.instruction.Inst.TheVariants as inst
 use Rattle.device_model.specs.declared.events.Event.{Event}
-use Rattle.object_layout.specs.Classes.{Methods, fun_row}
+use Rattle.object_layout.specs.Classes.{Methods, IsShape, fun_row}
 use Rattle.object_layout.specs.Laws.{ClassLaws}
 use Rattle.tal_types.specs.declared.types.Ty.{Ty}
+use Rattle.tal_types.specs.declared.types.Ty.TheVariants.{Num}
 use Rattle.tal_types.specs.declared.views.Mark.{Mark}
 use Rattle.tal_types.specs.Contexts.{ContextView}
 use Rattle.tal_types.specs.Laws.{TypeLaws}
@@ -28,17 +29,17 @@ use Rattle.tal_image.specs.Formed.{Formed}
 use Rattle.tal_image.specs.Shown.{shown, data_row_in}
 use Rattle.tal_checker.specs.WellTyped.{WellTyped}
 use Rattle.tal_checker.specs.Running.{RunsOn, instruction_in}
-use Rattle.typed_machine.specs.Values.{Number, Word, ObjectShape, fits_among}
-use Rattle.typed_machine.specs.Stores.{Store, shapes_in, places_in}
+use Rattle.typed_machine.specs.Values.{Value, Number, Null, Ref, Word, ObjectShape, fits_among}
+use Rattle.typed_machine.specs.Stores.{Object, Store, shapes_in, shape_in, places_in}
 use Rattle.typed_machine.specs.States.{State}
 use Rattle.typed_machine.specs.Operands.{AtDisplay, spot_of, spot_word, marked_value}
 use Rattle.typed_machine.specs.Code.{inst_at}
 use Rattle.typed_machine.specs.Effects.{EffectView, Moves, Faults, Calls, Ends, Effect}
-use Rattle.typed_machine.specs.Replies.{Allocates, Reply}
-use Rattle.typed_machine.specs.Placing.{Answer}
-use Rattle.typed_machine.specs.Turns.{Turned, begun, TurnOf, Run, next_run, RunOf}
+use Rattle.typed_machine.specs.Replies.{ReplyView, Allocates, Collects, Reply}
+use Rattle.typed_machine.specs.Placing.{Answer, Placed, allocated}
+use Rattle.typed_machine.specs.Turns.{Turned, begun, comes_back, TurnOf, Run, next_run, RunOf}
 use Rattle.typed_machine.specs.Frames.{Scope, fits_in, Awaits}
-use Rattle.typed_machine.specs.Reaching.{live_in}
+use Rattle.typed_machine.specs.Reaching.{names, Held, Roots, rooted, live_in}
 use Rattle.typed_machine.specs.Typing.{IsArray, TypedAmong, Typed, scope_of}
 
 -- the store begins with the data arrays, and these live
@@ -156,3 +157,69 @@ pub record LivesAmong (image : ImageParts) (live : ℕ → Bool) (s : State) : T
 -- so it is in each well typed image: what is reached is the least set over which a state is typed
 abbrev pub LiveObjectsAreLeast : Type 0
 LiveObjectsAreLeast = (image : ImageParts) → WellTyped image → (live : ℕ → Bool) (s : State) → TypedAmong image live s → LivesAmong image live s
+
+-- Where an answer that a turn took was legal, what a run can come to afterwards it could come to before, but for the object that
+-- the store may have got.
+abbrev pub ReachShrinks : Type 0
+ReachShrinks =
+    (image : ImageParts) → WellTyped image → (events : List Event) (answers : List Answer) (s : State) → Typed image s
+    → (r : Turned) → TurnOf image events answers s ≡ Some r → r.legal ≡ true
+    → (i : ℕ) → live_in image r.state i ≡ true → (live_in image s i ≡ true) ⊎ ((r.left ≢ answers) × (i ≡ length s.store))
+
+-- two objects that a run can come to stand at different places, be they data arrays or in the heap
+abbrev pub PlacesDiffer : Type 0
+PlacesDiffer =
+    (image : ImageParts) → WellTyped image → (s : State) → Typed image s
+    → (i j : ℕ) (o p : Object) → i ≢ j → live_in image s i ≡ true → live_in image s j ≡ true → slice_get s.store i ≡ Some o → slice_get s.store j ≡ Some p
+    → o.place ≢ p.place
+
+-- ---- calls of the heap
+
+-- At the place of a state entry k of the Nucleus is called, the call comes back to `next`, and the entry's row gives this.
+pub record CallComesTo (image : ImageParts) (s : State) (next k : ℕ) (reply : ReplyView) : Type 0 where
+  pub inst : Inst
+  pub len : ℕ
+  pub here : inst_at image s.thread.place ≡ Some (inst, len)
+  pub calls : Effect image s inst len ≡ Some (Calls k)
+  pub follows : next ≡ next_address s.thread.place len
+  pub gives : Reply k s ≡ Some reply
+
+-- An object of the shape is asked for, and the call comes back to `next`: there is such a shape, and a reply is awaited of a type that
+-- null and each such object has.
+pub record AllocationTyped (image : ImageParts) (live : ℕ → Bool) (s : State) (next : ℕ) (shape : ObjectShape) : Type 0 where
+  pub is_shape : IsShape (shown image).shapes (shape_in shape)
+  pub type : Ty
+  pub awaited : Awaits (scope_of image live s) type next s.values
+  pub null : (l : Scope) → fits_in l Null type ≡ true
+  pub object : (among : ℕ → Bool) (os : List ObjectShape) (i : ℕ) → among i ≡ true → slice_get os i ≡ Some shape → fits_among (shown image) among os (Ref i) type ≡ true
+
+-- what a call of the heap finds, by what it comes to
+abbrev pub HeapCallTyped : ImageParts → (ℕ → Bool) → State → ℕ → ReplyView → Type 0
+HeapCallTyped image live s next (Allocates shape) = AllocationTyped image live s next shape
+HeapCallTyped image live s next Collects = Awaits (scope_of image live s) Num next s.values
+HeapCallTyped image live s next reply = Unit {0}
+
+-- so it is in each well typed image
+abbrev pub HeapCallsAreTyped : Type 0
+HeapCallsAreTyped =
+    (image : ImageParts) → WellTyped image → (live : ℕ → Bool) (s : State) → TypedAmong image live s
+    → (next k : ℕ) (reply : ReplyView) → CallComesTo image s next k reply → HeapCallTyped image live s next reply
+
+-- where a reply is awaited, the data arrays and what is reached from the roots live
+abbrev pub RootedObjectsLive : Type 0
+RootedObjectsLive =
+    (image : ImageParts) (live : ℕ → Bool) (s : State) → TypedAmong image live s → (t : Ty) (next : ℕ) → Awaits (scope_of image live s) t next s.values
+    → (i : ℕ) → rooted image next s i ≡ true → live i ≡ true
+
+-- What the state after a reply holds and reaches: the caller's registers hold the reply alone.
+pub record HeldAfterReply (image : ImageParts) (s : State) (next : ℕ) : Type 0 where
+  pub held : (reply : Value) (i : ℕ) → names (Held image (comes_back reply next s)) i ≡ true → (reply ≡ Ref i) ⊎ (names (Roots image next s) i ≡ true)
+  -- a number or null reaches nothing more
+  pub reached : (reply : Value) → ((k : ℕ) → reply ≢ Ref k) → (i : ℕ) → live_in image (comes_back reply next s) i ≡ true → rooted image next s i ≡ true
+  -- a fresh object reaches nothing but itself
+  pub placed : (shape : ObjectShape) (a i : ℕ) → live_in image (comes_back (Ref (length s.store)) next (allocated (shown image).shapes shape (Placed a) s)) i ≡ true
+      → (rooted image next s i ≡ true) ⊎ (i ≡ length s.store)
+
+-- so it is from each typed state
+abbrev pub RepliesHold : Type 0
+RepliesHold = (image : ImageParts) (s : State) → Typed image s → (next : ℕ) → HeldAfterReply image s next

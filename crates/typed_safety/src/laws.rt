@@ -1,5 +1,5 @@
 // What holds of the definitions alone: each law is a function with nothing to do, whose clause is the law.
-ghost use Rattle.typed_safety.specs.Laws.{FormedImagesTell, InstructionsKeepTyping, WellTypedImagesKeepTyping, DisplaysAreThere, TurnsKeepTyping, RunsAreTyped, LiveObjectsAreLeast};
+ghost use Rattle.typed_safety.specs.Laws.{FormedImagesTell, InstructionsKeepTyping, WellTypedImagesKeepTyping, DisplaysAreThere, TurnsKeepTyping, RunsAreTyped, LiveObjectsAreLeast, ReachShrinks, PlacesDiffer, HeapCallsAreTyped, RootedObjectsLive, RepliesHold};
 
 /// A formed image tells what typed instructions rest on: its heap has its limit, its classes keep the laws of classes, its methods are its functions,
 /// at its blocks instructions begin, and what its marks stand for has the marks' types and words.
@@ -42,6 +42,7 @@ pub fn turns_keep_typing()
     formed_images_tell();
     tal_checker::laws::accepted_runs();
     tal_checker::laws::esp_is_junk();
+    reached_objects::laws::reach_is_least();
 }
 
 /// Each run of a well typed image with legal answers has come to a typed state, and goes on unless an allocation has no answer.
@@ -51,6 +52,7 @@ pub fn runs_are_typed()
     formed_images_tell();
     tal_checker::laws::accepted_runs();
     tal_checker::laws::esp_is_junk();
+    reached_objects::laws::reach_is_least();
 }
 
 /// In a well typed image a typed state is typed among the objects that a run can come to: the data arrays and what is reached
@@ -59,5 +61,44 @@ pub fn live_objects_are_least()
     ensures { LiveObjectsAreLeast }
 {
     tal_checker::laws::esp_is_junk();
+    reached_objects::laws::reach_is_least();
+}
+
+/// What a run can come to after a turn it could come to before, but for the object that an allocation places.
+pub fn reach_shrinks()
+    ensures { ReachShrinks }
+{
+    formed_images_tell();
+    tal_checker::laws::accepted_runs();
+    tal_checker::laws::esp_is_junk();
+    reached_objects::laws::reach_is_least();
+}
+
+/// Two objects that a run can come to stand at different places.
+pub fn places_differ()
+    ensures { PlacesDiffer }
+{}
+
+/// In a well typed image a call of the heap from a typed state finds its arguments, and the reply's type is awaited where the
+/// call comes back.
+pub fn heap_calls_are_typed()
+    ensures { HeapCallsAreTyped }
+{
+    formed_images_tell();
+    tal_checker::laws::accepted_runs();
+}
+
+/// What is reached from the roots of a call is what a run can come to.
+pub fn rooted_objects_live()
+    ensures { RootedObjectsLive }
+{
+    reached_objects::laws::reach_is_least();
+}
+
+/// After a reply the caller's registers hold that alone, so that a run can come to what the roots reach, and to the object that
+/// was placed if one was.
+pub fn replies_hold()
+    ensures { RepliesHold }
+{
     reached_objects::laws::reach_is_least();
 }
