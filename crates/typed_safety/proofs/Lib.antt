@@ -22,6 +22,7 @@ pub mod Branches
 pub mod CallForms
 pub mod Instructions
 pub mod DisplayWords
+pub mod LivingOperands
 pub mod FormedImages
 pub mod Resuming
 pub mod Switching

@@ -33,7 +33,7 @@ use Rattle.typed_safety.proofs.Fitted.{StateFits}
 abbrev pub value_type_at : Scope → ℕ → ℕ → Option FieldTy
 value_type_at l i j = option_and_then (λ shape. value_type (rows l) shape j) (slice_get l.shapes i)
 
--- an array is in the register
+-- an array that lives is in the register
 pub record HoldsArray (l : Scope) (s : State) (base : Option Reg) (object : ℕ) : Type 0 where
   pub register : Reg
   pub kind : ℕ
@@ -41,6 +41,7 @@ pub record HoldsArray (l : Scope) (s : State) (base : Option Reg) (object : ℕ)
   pub is_base : base ≡ Some register
   pub holds : s.thread.regs register ≡ Ref object
   pub is_long : slice_get l.shapes object ≡ Some (ArrayOf kind size)
+  pub lives : l.live object ≡ true
 
 -- the place, of an operand with this base, is seen where the values find the spot
 abbrev pub SpotFits : Scope → LiveContext → State → Option Reg → Place → Spot → Type 0
@@ -48,7 +49,7 @@ SpotFits l c s base (Whole t) (AtStatic j) = (f : FieldTy) × (slice_get l.image
 SpotFits l c s base (Whole t) (AtValue i j) = (f : FieldTy) × (l.live i ≡ true) × (value_type_at l i j ≡ Some f) × (t ≡ of_field f)
 SpotFits l c s base (Slot i) (AtSlot j) = (t : Ty) × (i ≡ j) × (slice_get c.slots i ≡ Some t)
 SpotFits l c s base Length (AtLength i) = HoldsArray l s base i
-SpotFits l c s base (Head r k) (AtHead i) = (s.thread.regs r ≡ Ref i) × (is_instance (rows l) (slice_get l.shapes i) k ≡ true)
+SpotFits l c s base (Head r k) (AtHead i) = (s.thread.regs r ≡ Ref i) × (is_instance (rows l) (slice_get l.shapes i) k ≡ true) × (l.live i ≡ true)
 SpotFits l c s base (Method g) (AtMethod d m) = (f : ℕ) × (slice_get (Methods (rows l) d) m ≡ Some f) × (g ≡ (fun_row (rows l) f).sig)
 SpotFits l c s base (Display t k) (AtDisplay d e) = (k ≡ e) × (k ≤ 7) × (s.thread.regs t ≡ Tab d) × (d < length (rows l).classes)
 SpotFits l c s base place spot = ⊥
@@ -123,20 +124,20 @@ module _ (l : Scope) (c : LiveContext) (s : State) (base : Option Reg) where
       go : (b : Bool) → SpotFound l c s base
           (if b then Some (Head r e) else field_place (field_at (rows l) e disp))
           (if b then Some (AtHead i) else (if is_some (field_at (rows l) d disp) then option_map (AtValue i) (word_index 4 disp) else None))
-      go true = (holds, rw shape h)
+      go true = (holds, rw shape h, live)
       go false = field-found laws i d e disp live shape h
 
   -- the base is an array, without an index
-  array-found : (r : Reg) (i k disp : ℕ) → base ≡ Some r → s.thread.regs r ≡ Ref i
+  array-found : (r : Reg) (i k disp : ℕ) → base ≡ Some r → s.thread.regs r ≡ Ref i → l.live i ≡ true
       → (shape : Option ObjectShape) → slice_get l.shapes i ≡ shape → is_array shape k ≡ true
       → SpotFound l c s base (array_place disp) (option_and_then (λ x. object_spot (rows l) i x disp) shape)
   unfolding object_spot
-  array-found r i k disp is holds None shape h = absurd (grind arith)
-  array-found r i k disp is holds (Some (InstanceOf d)) shape h = absurd (grind arith)
-  array-found r i k disp is holds (Some (ArrayOf m n)) shape h = go (disp == 4)
+  array-found r i k disp is holds live None shape h = absurd (grind arith)
+  array-found r i k disp is holds live (Some (InstanceOf d)) shape h = absurd (grind arith)
+  array-found r i k disp is holds live (Some (ArrayOf m n)) shape h = go (disp == 4)
     where
       go : (b : Bool) → SpotFound l c s base (if b then Some Length else None) (if b then Some (AtLength i) else None)
-      go true = record { register = r; kind = m; size = n; is_base = is; holds = holds; is_long = shape }
+      go true = record { register = r; kind = m; size = n; is_base = is; holds = holds; is_long = shape; lives = live }
       go false = tt
 
   -- element j of an array
@@ -227,7 +228,7 @@ module _ (l : Scope) (c : LiveContext) (s : State) (base : Option Reg) where
     unfolding fits_among
     array-based k scale disp (Ref i) holds f =
         let parts = and_parts (l.live i) (is_array (slice_get l.shapes i) k) f in
-        rw (← h.store.shapes) (array-found r i k disp is holds (slice_get l.shapes i) refl parts.1)
+        rw (← h.store.shapes) (array-found r i k disp is holds parts.0 (slice_get l.shapes i) refl parts.1)
     array-based k scale disp w holds f = absurd (grind arith)
 
     -- the base is an array, and there is an index

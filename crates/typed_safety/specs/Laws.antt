@@ -32,7 +32,7 @@ use Rattle.tal_checker.specs.Running.{RunsOn, instruction_in}
 use Rattle.typed_machine.specs.Values.{Value, Number, Null, Ref, Word, ObjectShape, fits_among}
 use Rattle.typed_machine.specs.Stores.{Object, Store, shapes_in, shape_in, places_in}
 use Rattle.typed_machine.specs.States.{State}
-use Rattle.typed_machine.specs.Operands.{AtDisplay, spot_of, spot_word, marked_value}
+use Rattle.typed_machine.specs.Operands.{Spot, AtValue, AtLength, AtHead, AtDisplay, spot_of, spot_word, marked_value}
 use Rattle.typed_machine.specs.Code.{inst_at}
 use Rattle.typed_machine.specs.Effects.{EffectView, Moves, Faults, Calls, Ends, Effect}
 use Rattle.typed_machine.specs.Replies.{ReplyView, Allocates, Collects, Reply}
@@ -115,6 +115,44 @@ DisplaysAreThere =
     (image : ImageParts) → WellTyped image → (live : ℕ → Bool) (s : State) → TypedAmong image live s → (x : PlacedInst) → instruction_in image s.thread.place ≡ Some x
     → (a : Mem) (y : Operand) → x.inst ≡ inst.Alu alu.Cmp (M a) y → (c d : ℕ) → spot_of (shown image).shapes s a ≡ Some (AtDisplay c d)
     → (w : ℕ) × (spot_word (shown image).shapes s (AtDisplay c d) ≡ Some w)
+
+-- the object that a spot belongs to, if it belongs to one, lives
+abbrev pub SpotLives : (ℕ → Bool) → Spot → Type 0
+SpotLives live (AtValue i j) = live i ≡ true
+SpotLives live (AtLength i) = live i ≡ true
+SpotLives live (AtHead i) = live i ≡ true
+SpotLives live spot = Unit {0}
+
+-- so it is with what an operand in memory points to
+abbrev pub PointsToLiving : ImageParts → (ℕ → Bool) → State → Operand → Type 0
+PointsToLiving image live s (M a) = (spot : Spot) → spot_of (shown image).shapes s a ≡ Some spot → SpotLives live spot
+PointsToLiving image live s x = Unit {0}
+
+-- and with each operand that an instruction reads or writes
+abbrev pub OperandsLive : ImageParts → (ℕ → Bool) → State → Inst → Type 0
+OperandsLive image live s (inst.Alu op d x) = PointsToLiving image live s d × PointsToLiving image live s x
+OperandsLive image live s (inst.Mov d x) = PointsToLiving image live s d × PointsToLiving image live s x
+OperandsLive image live s (inst.Test d x) = PointsToLiving image live s d × PointsToLiving image live s x
+OperandsLive image live s (inst.Inc d) = PointsToLiving image live s d
+OperandsLive image live s (inst.Dec d) = PointsToLiving image live s d
+OperandsLive image live s (inst.Not d) = PointsToLiving image live s d
+OperandsLive image live s (inst.Neg d) = PointsToLiving image live s d
+OperandsLive image live s (inst.Mul x) = PointsToLiving image live s x
+OperandsLive image live s (inst.Imul1 x) = PointsToLiving image live s x
+OperandsLive image live s (inst.Div x) = PointsToLiving image live s x
+OperandsLive image live s (inst.Idiv x) = PointsToLiving image live s x
+OperandsLive image live s (inst.Imul2 d x) = PointsToLiving image live s d × PointsToLiving image live s x
+OperandsLive image live s (inst.Imul3 d x n) = PointsToLiving image live s d × PointsToLiving image live s x
+OperandsLive image live s (inst.Shift op d by) = PointsToLiving image live s d
+OperandsLive image live s (inst.Push x) = PointsToLiving image live s x
+OperandsLive image live s (inst.CallAt x) = PointsToLiving image live s x
+OperandsLive image live s i = Unit {0}
+
+-- the instruction at the place of a typed state uses objects that live
+abbrev pub InstructionsUseLiving : Type 0
+InstructionsUseLiving =
+    (image : ImageParts) → WellTyped image → (live : ℕ → Bool) (s : State) → TypedAmong image live s → (x : PlacedInst) → instruction_in image s.thread.place ≡ Some x
+    → OperandsLive image live s x.inst
 
 -- ---- turns and runs
 

@@ -1,5 +1,5 @@
 // What holds of the definitions alone: each law is a function with nothing to do, whose clause is the law.
-ghost use Rattle.typed_safety.specs.Laws.{FormedImagesTell, InstructionsKeepTyping, WellTypedImagesKeepTyping, DisplaysAreThere, TurnsKeepTyping, RunsAreTyped, LiveObjectsAreLeast, ReachShrinks, PlacesDiffer, HeapCallsAreTyped, RootedObjectsLive, RepliesHold};
+ghost use Rattle.typed_safety.specs.Laws.{FormedImagesTell, InstructionsKeepTyping, WellTypedImagesKeepTyping, DisplaysAreThere, InstructionsUseLiving, TurnsKeepTyping, RunsAreTyped, LiveObjectsAreLeast, ReachShrinks, PlacesDiffer, HeapCallsAreTyped, RootedObjectsLive, RepliesHold};
 
 /// A formed image tells what typed instructions rest on: its heap has its limit, its classes keep the laws of classes, its methods are its functions,
 /// at its blocks instructions begin, and what its marks stand for has the marks' types and words.
@@ -28,6 +28,15 @@ pub fn well_typed_images_keep_typing()
 /// In a well typed image, where CMP at the place of a typed state names a word of a display, the word is there.
 pub fn displays_are_there()
     ensures { DisplaysAreThere }
+{
+    formed_images_tell();
+    tal_checker::laws::accepted_runs();
+}
+
+/// In a well typed image, what the operands of the instruction at the place of a typed state point to belongs to objects that
+/// live.
+pub fn instructions_use_living()
+    ensures { InstructionsUseLiving }
 {
     formed_images_tell();
     tal_checker::laws::accepted_runs();

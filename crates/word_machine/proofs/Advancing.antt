@@ -22,7 +22,7 @@ use Rattle.tal_flow.specs.Forms.{form_of}
 use Rattle.tal_flow.specs.Rules.{next_address}
 use Rattle.tal_image.specs.Image.{ImageParts}
 use Rattle.tal_image.specs.Shown.{shown}
-use Rattle.typed_machine.specs.Values.{Value, Ret, Word, all_objects}
+use Rattle.typed_machine.specs.Values.{Value, Ret, Word}
 use Rattle.typed_machine.specs.States.{State, places_of, with_values, most_values}
 use Rattle.typed_machine.specs.Operands.{operand_value}
 use Rattle.typed_machine.specs.Effects.{EffectView, Moves, Faults, Calls, goes_on, is_full, pushes, arguments_fit, entered, calls_function, calls_entry, entry_or, calls_to, returns_from, form_effect, Effect}
@@ -33,7 +33,8 @@ use Rattle.word_machine.specs.Standing.{MemoryStands, WordsStand}
 use Rattle.word_machine.specs.Following.{Grounds, StandsAt, Runs, Came}
 use Rattle.word_machine.specs.Laws.{Written, PushLaw, DropLaw}
 use Rattle.word_machine.specs.Stepping.{StepLaws, is_push, is_at_limit, overflows, Left, returned, went_back}
-use Rattle.word_machine.proofs.Grounding.{held, there, written-told, thread-stands, Begins, begins, current-few}
+use Rattle.word_machine.proofs.Telling.{there}
+use Rattle.word_machine.proofs.Grounding.{held, thread-stands, Begins, begins, current-few}
 use Rattle.word_machine.proofs.StackForms.{below-top, not-full, full}
 use Rattle.word_machine.proofs.Table.{step-of}
 use Rattle.word_machine.proofs.Leaving.{Ran, StepOf}
@@ -62,78 +63,78 @@ limit-room s cpu regs few h =
 -- ---- the instruction
 
 -- PUSH of this value on a full stack
-push-faults : (image : ImageParts) (s : State) (cpu : Cpu) (m : MemoryView) (x : Operand) (len next : ℕ) → Begins image s cpu m (inst.Push x) len
-    → most_values ≤ length s.values → Left image s next (left.Fault 12) (Effect image s (inst.Push x) len) cpu m
+push-faults : (image : ImageParts) (live : ℕ → Bool) (s : State) (cpu : Cpu) (m : MemoryView) (x : Operand) (len next : ℕ) → Begins image live s cpu m (inst.Push x) len
+    → most_values ≤ length s.values → Left image live s next (left.Fault 12) (Effect image s (inst.Push x) len) cpu m
 unfolding Effect form_effect form_of pushes
-push-faults image s cpu m x len next b h = go (operand_value (shown image) s x) b.known
+push-faults image live s cpu m x len next b h = go (operand_value (shown image) s x) b.known
   where
     go : (o : Option Value) → option_map (λ w. pushes (next_address s.thread.place len) w s) o ≢ None
-        → Left image s next (left.Fault 12) (option_map (λ w. pushes (next_address s.thread.place len) w s) o) cpu m
+        → Left image live s next (left.Fault 12) (option_map (λ w. pushes (next_address s.thread.place len) w s) o) cpu m
     go None known = absurd (known refl)
     go (Some w) known = rw (full s h) (refl, b.grounds.stand)
 
 module _ (laws : StepLaws) (cpu : Cpu) (m : MemoryView) (current : ℕ) (i : Inst) (len : ℕ) (spelled : Canonical i ≢ None) where
   -- where PUSH does not overflow there is room
-  room-for : (image : ImageParts) (s : State) → StandsAt image s cpu m i len → s.current ≡ current → (t : Bool) → is_at_limit cpu current ≡ t
+  room-for : (image : ImageParts) (live : ℕ → Bool) (s : State) → StandsAt image live s cpu m i len → s.current ≡ current → (t : Bool) → is_at_limit cpu current ≡ t
       → is_push i && t ≡ false → (x : Operand) → i ≡ inst.Push x → length s.values < most_values
-  room-for image s at same false e h x is = limit-room s cpu at.grounds.stand.processor.regs at.grounds.typed.thread.room (rw same e)
-  room-for image s at same true e h x is = let on : is_push i ≡ true = rw is refl in absurd (cc)
+  room-for image live s at same false e h x is = limit-room s cpu at.grounds.stand.processor.regs at.grounds.typed.thread.room (rw same e)
+  room-for image live s at same true e h x is = let on : is_push i ≡ true = rw is refl in absurd (cc)
 
   -- the step of the instruction
-  step-here : (image : ImageParts) (s : State) → StandsAt image s cpu m i len → s.current ≡ current → overflows i cpu current ≡ false
-      → StepOf image s m i len (Effect image s i len)
-  step-here image s at same h =
-      step-of i (begins image s cpu m i len laws spelled at) (room-for image s at same (is_at_limit cpu current) refl h)
+  step-here : (image : ImageParts) (live : ℕ → Bool) (s : State) → StandsAt image live s cpu m i len → s.current ≡ current → overflows i cpu current ≡ false
+      → StepOf image live s m i len (Effect image s i len)
+  step-here image live s at same h =
+      step-of i (begins image live s cpu m i len laws spelled at) (room-for image live s at same (is_at_limit cpu current) refl h)
 
   -- what it asks of the words
   pub step-asks : Runs current i len cpu m → overflows i cpu current ≡ false → (is_system i ≡ false) × Reaches i (state_of cpu (word_at m)) (is_mapped m)
-  step-asks (image, s, at, same) h =
-      let step = step-here image s at same h in
+  step-asks (image, live, s, at, same) h =
+      let step = step-here image live s at same h in
       (step.runs, rw (held s cpu m at.grounds.stand.processor) step.reaches)
 
   -- what it leaves
   pub step-leaves : overflows i cpu current ≡ false → (e : StepEffect) (ran : Cpu) (after : MemoryView) → e ≡ effect_of i (state_of cpu (word_at m)) len
-      → Ran i len (state_of cpu (word_at m)) m ran after → (image : ImageParts) (s : State) → StandsAt image s cpu m i len → s.current ≡ current
-      → Left image s (next_address s.thread.place len) e (Effect image s i len) ran after
-  step-leaves h e ran after is r image s at same =
+      → Ran i len (state_of cpu (word_at m)) m ran after → (image : ImageParts) (live : ℕ → Bool) (s : State) → StandsAt image live s cpu m i len → s.current ≡ current
+      → Left image live s (next_address s.thread.place len) e (Effect image s i len) ran after
+  step-leaves h e ran after is r image live s at same =
       let words = held s cpu m at.grounds.stand.processor in
-      rw (is, words) ((step-here image s at same h).leaves ran after (rw words at r))
+      rw (is, words) ((step-here image live s at same h).leaves ran after (rw words at r))
 
 -- PUSH on a full stack is the stack fault
 pub step-overflows : (laws : StepLaws) (cpu : Cpu) (m : MemoryView) (current : ℕ) (i : Inst) (len : ℕ) → Canonical i ≢ None → overflows i cpu current ≡ true
-    → (image : ImageParts) (s : State) → StandsAt image s cpu m i len → s.current ≡ current
-    → Left image s (next_address s.thread.place len) (left.Fault 12) (Effect image s i len) cpu m
-step-overflows laws cpu m current (inst.Push x) len spelled h image s at same =
-    push-faults image s cpu m x len (next_address s.thread.place len) (begins image s cpu m (inst.Push x) len laws spelled at)
+    → (image : ImageParts) (live : ℕ → Bool) (s : State) → StandsAt image live s cpu m i len → s.current ≡ current
+    → Left image live s (next_address s.thread.place len) (left.Fault 12) (Effect image s i len) cpu m
+step-overflows laws cpu m current (inst.Push x) len spelled h image live s at same =
+    push-faults image live s cpu m x len (next_address s.thread.place len) (begins image live s cpu m (inst.Push x) len laws spelled at)
     (limit-full s cpu at.grounds.stand.processor.regs at.grounds.typed.thread.room (rw same h))
-step-overflows laws cpu m current i len spelled h image s at same = absurd (cc)
+step-overflows laws cpu m current i len spelled h image live s at same = absurd (cc)
 
 -- the running stack is one of 64
 pub stack-few : (current : ℕ) (i : Inst) (len : ℕ) (cpu : Cpu) (m : MemoryView) → Runs current i len cpu m → current < 64
-stack-few current i len cpu m (image, s, at, same) = rw (← same) (current-few at.grounds)
+stack-few current i len cpu m (image, live, s, at, same) = rw (← same) (current-few at.grounds)
 
 -- ---- what came, by what is left
 
 -- an instruction that goes on
-pub next-comes : (image : ImageParts) (s : State) (e : Option EffectView) (ran : Cpu) (after : MemoryView)
-    → (t : State) × (e ≡ Some (Moves t)) × WordsStand image all_objects t ran after → Came step.Moves ran after image s e
-next-comes image s e ran after (t, is, stand) = rw is (refl, stand)
+pub next-comes : (image : ImageParts) (live : ℕ → Bool) (s : State) (e : Option EffectView) (ran : Cpu) (after : MemoryView)
+    → (t : State) × (e ≡ Some (Moves t)) × WordsStand image live t ran after → Came step.Moves ran after image live s e
+next-comes image live s e ran after (t, is, stand) = rw is (refl, stand)
 
 -- a fault
-pub fault-comes : (image : ImageParts) (s : State) (e : Option EffectView) (ran : Cpu) (after : MemoryView) (n : ℕ)
-    → (e ≡ Some (Faults n)) × WordsStand image all_objects s ran after → Came (step.Faults n) ran after image s e
-fault-comes image s e ran after n (is, stand) = rw is (refl, stand)
+pub fault-comes : (image : ImageParts) (live : ℕ → Bool) (s : State) (e : Option EffectView) (ran : Cpu) (after : MemoryView) (n : ℕ)
+    → (e ≡ Some (Faults n)) × WordsStand image live s ran after → Came (step.Faults n) ran after image live s e
+fault-comes image live s e ran after n (is, stand) = rw is (refl, stand)
 
 -- the words that are left stand for the same typed state
-pub left-grounds : (image : ImageParts) (s : State) (cpu ran : Cpu) (m after : MemoryView) (i : Inst) (len : ℕ) → StandsAt image s cpu m i len
-    → WordsStand image all_objects s ran after → Grounds image all_objects s ran after
-left-grounds image s cpu ran m after i len at stand = record { well_typed = at.grounds.well_typed; typed = at.grounds.typed; stand = stand }
+pub left-grounds : (image : ImageParts) (live : ℕ → Bool) (s : State) (cpu ran : Cpu) (m after : MemoryView) (i : Inst) (len : ℕ) → StandsAt image live s cpu m i len
+    → WordsStand image live s ran after → Grounds image live s ran after
+left-grounds image live s cpu ran m after i len at stand = record { well_typed = at.grounds.well_typed; typed = at.grounds.typed; stand = stand }
 
 -- where the next instruction stands
-pub next-place : (image : ImageParts) (s : State) (cpu : Cpu) (m : MemoryView) (i : Inst) (len : ℕ) → StandsAt image s cpu m i len
+pub next-place : (image : ImageParts) (live : ℕ → Bool) (s : State) (cpu : Cpu) (m : MemoryView) (i : Inst) (len : ℕ) → StandsAt image live s cpu m i len
     → (cpu.pc + len) % 2 ^ 32 ≡ next_address s.thread.place len
 unfolding next_address
-next-place image s cpu m i len at = ap (λ pc. (pc + len) % 2 ^ 32) at.grounds.stand.processor.place
+next-place image live s cpu m i len at = ap (λ pc. (pc + len) % 2 ^ 32) at.grounds.stand.processor.place
 
 -- ---- calls
 
@@ -147,10 +148,10 @@ entry-there a k h e = at (slice_get nucleus_arguments k) (rw e at h)
     at (Some x) h = (x, refl)
 
 -- a call of an entry
-pub entry-comes : (image : ImageParts) (s : State) (next a k : ℕ) (ran : Cpu) (after : MemoryView) (e : Option EffectView) → is_entry a ≡ true → entry_number a ≡ Some k
-    → Left image s next (left.Call a) e ran after → Came (step.Calls k) ran after image s e
+pub entry-comes : (image : ImageParts) (live : ℕ → Bool) (s : State) (next a k : ℕ) (ran : Cpu) (after : MemoryView) (e : Option EffectView) → is_entry a ≡ true → entry_number a ≡ Some k
+    → Left image live s next (left.Call a) e ran after → Came (step.Calls k) ran after image live s e
 unfolding calls_to
-entry-comes image s next a k ran after e h number (known, is, stand) =
+entry-comes image live s next a k ran after e h number (known, is, stand) =
     let x = entry-there a k h number in
     let calls : calls_to (shown image) s next a ≡ calls_entry s k x.0 = rw (number, x.1) refl in
     let there : calls_entry s k x.0 ≢ None = λ none. known (is ∙ (calls ∙ none)) in
@@ -190,10 +191,10 @@ entered-full : (s : State) (next : ℕ) → is_full (entered next s) ≡ is_full
 unfolding is_full
 entered-full s next = refl
 
-module _ (laws : StepLaws) (image : ImageParts) (s : State) (next a : ℕ) (ran : Cpu) (after : MemoryView) (g : Grounds image all_objects s ran after)
-    (e : Option EffectView) (other : is_entry a ≡ false) (call : Left image s next (left.Call a) e ran after) where
+module _ (laws : StepLaws) (image : ImageParts) (live : ℕ → Bool) (s : State) (next a : ℕ) (ran : Cpu) (after : MemoryView) (g : Grounds image live s ran after)
+    (e : Option EffectView) (other : is_entry a ≡ false) (call : Left image live s next (left.Call a) e ran after) where
   -- on a full stack it is the stack fault
-  pub call-overflows : is_at_limit ran s.current ≡ true → Came (step.Faults 12) ran after image s e
+  pub call-overflows : is_at_limit ran s.current ≡ true → Came (step.Faults 12) ran after image live s e
   unfolding pushes
   call-overflows h =
       let no_room = full s (limit-full s ran g.stand.processor.regs g.typed.thread.room h) in
@@ -203,21 +204,21 @@ module _ (laws : StepLaws) (image : ImageParts) (s : State) (next a : ℕ) (ran 
   pub call-reaches : is_at_limit ran s.current ≡ false → is_mapped after (below_top (state_of ran (word_at after))) ≡ true
   call-reaches h =
       let room = limit-room s ran g.stand.processor.regs g.typed.thread.room h in
-      let law : PushLaw image all_objects s after = laws.pushes image all_objects s ran after g room in
+      let law : PushLaw image live s after = laws.pushes image live s ran after g room in
       rw (ap (λ r. slice_index r 4) g.stand.processor.regs, (below-top s.current (length s.values) (current-few g) room).0) law.there
 
   -- and the place after the call is pushed there
   pub call-enters : is_at_limit ran s.current ≡ false → (entered_cpu : Cpu) (written : MemoryView)
       → entered_cpu.regs ≡ (pushed next (state_of ran (word_at after))).regs → entered_cpu.flags ≡ ran.flags → entered_cpu.pc ≡ a
-      → ((b : ℕ) → word_at written b ≡ (pushed next (state_of ran (word_at after))).memory b) → ((b : ℕ) → is_mapped written b ≡ is_mapped after b)
-      → Came step.Moves entered_cpu written image s e
+      → Written after written (below_top (state_of ran (word_at after))) next
+      → Came step.Moves entered_cpu written image live s e
   unfolding pushes Word
-  call-enters h cpu written regs flags place words mapped =
+  call-enters h cpu written regs flags place word =
       let room = limit-room s ran g.stand.processor.regs g.typed.thread.room h in
-      let law : PushLaw image all_objects s after = laws.pushes image all_objects s ran after g room in
+      let law : PushLaw image live s after = laws.pushes image live s ran after g room in
       let under = below-top s.current (length s.values) (current-few g) room in
       let top : below_top (state_of ran (word_at after)) ≡ esp_of s - 4 = rw (ap (λ r. slice_index r 4) g.stand.processor.regs) under.0 in
-      let put : Written after written (esp_of s - 4) next = written-told after written (esp_of s - 4) next law.there (λ b. rw top at (words b)) mapped in
+      let put : Written after written (esp_of s - 4) next = rw top at word in
       rw (call-is image s next a e call.0 other call.1, entered-full s next, not-full s room) (
         refl,
         record {
@@ -233,8 +234,8 @@ returned-top : (vs : List Value) (s : State) → returns_from vs s ≢ None → 
 returned-top (Ret a ∷ us) s h = (a, us, refl)
 returned-top vs s h = absurd (h refl)
 
-module _ (image : ImageParts) (s : State) (ran : Cpu) (after : MemoryView) (g : Grounds image all_objects s ran after) (law : DropLaw image all_objects s after)
-    (next : ℕ) (e : Option EffectView) (back : Left image s next left.Return e ran after) where
+module _ (image : ImageParts) (live : ℕ → Bool) (s : State) (ran : Cpu) (after : MemoryView) (g : Grounds image live s ran after) (law : DropLaw image live s after)
+    (next : ℕ) (e : Option EffectView) (back : Left image live s next left.Return e ran after) where
   -- a place is on top
   place-there : (a : ℕ) × (us : List Value) × (s.values ≡ Ret a ∷ us)
   place-there = returned-top s.values s (λ none. back.0 (back.1 ∙ none))
@@ -243,22 +244,22 @@ module _ (image : ImageParts) (s : State) (ran : Cpu) (after : MemoryView) (g : 
   pub return-reaches : is_mapped after (slice_index ran.regs 4) ≡ true
   return-reaches =
       let top = place-there in
-      rw (ap (λ r. slice_index r 4) g.stand.processor.regs) (there after (esp_of s) (Word (places_of s) (Ret top.0)) (law.top (Ret top.0) top.1 top.2)).0
+      rw (ap (λ r. slice_index r 4) g.stand.processor.regs) (law.there (Ret top.0) top.1 top.2)
 
   -- the word is the place
   return-word : (a : ℕ) (us : List Value) → s.values ≡ Ret a ∷ us → word_at after (slice_index ran.regs 4) ≡ a
   unfolding Word
-  return-word a us values = rw (ap (λ r. slice_index r 4) g.stand.processor.regs) (there after (esp_of s) a (law.top (Ret a) us values)).1
+  return-word a us values = rw (ap (λ r. slice_index r 4) g.stand.processor.regs) (there after (esp_of s) a (law.top (Ret a) us values))
 
   -- a return to a place
   goes-back : (a : ℕ) (us : List Value) → s.values ≡ Ret (suc a) ∷ us
-      → Came step.Moves (record { regs = slice_set ran.regs 4 ((slice_index ran.regs 4 + 4) % 2 ^ 32); flags = ran.flags; pc = suc a }) after image s
+      → Came step.Moves (record { regs = slice_set ran.regs 4 ((slice_index ran.regs 4 + 4) % 2 ^ 32); flags = ran.flags; pc = suc a }) after image live s
       (Some (goes_on (suc a) (with_values us s)))
   goes-back a us values =
       let depth : length s.values ≡ suc (length us) = ap length values in
       let up : (esp_of s + 4) % 2 ^ 32 ≡ stack_pointer s.current (length us) =
       let few = current-few g in let room = g.typed.thread.room in omega (arith, few, room, depth) in
-      let left : MemoryStands image all_objects (with_values us s) after = rw values at (law.dropped 1 (omega (arith, depth))) in (
+      let left : MemoryStands image live (with_values us s) after = rw values at (law.dropped 1 (omega (arith, depth))) in (
         refl,
         record {
           processor = record {
@@ -271,11 +272,11 @@ module _ (image : ImageParts) (s : State) (ran : Cpu) (after : MemoryView) (g : 
       )
 
   -- a return goes back, or ends at the end word
-  pub return-comes : Came (returned (word_at after (slice_index ran.regs 4))) (went_back (word_at after (slice_index ran.regs 4)) ran) after image s e
+  pub return-comes : Came (returned (word_at after (slice_index ran.regs 4))) (went_back (word_at after (slice_index ran.regs 4)) ran) after image live s e
   return-comes = let top = place-there in go top.0 top.1 top.2
     where
       go : (a : ℕ) (us : List Value) → s.values ≡ Ret a ∷ us
-          → Came (returned (word_at after (slice_index ran.regs 4))) (went_back (word_at after (slice_index ran.regs 4)) ran) after image s e
+          → Came (returned (word_at after (slice_index ran.regs 4))) (went_back (word_at after (slice_index ran.regs 4)) ran) after image live s e
       go zero [] values = rw (back.1 ∙ ap (λ vs. returns_from vs s) values, return-word zero [] values) (refl, g.stand)
       go zero (v ∷ us) values = absurd (back.0 (back.1 ∙ ap (λ vs. returns_from vs s) values))
       go (suc a) us values =

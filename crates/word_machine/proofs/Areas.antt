@@ -1,15 +1,18 @@
 -- The words of an area by their addresses, and what changes where one of them is written.
-use Rattle.std.specs.Prelude.{slice_get, slice_set, is_some, if◌then◌else◌, ◌&&◌, nat_le, nat_eq, ◌==◌}
-use Rattle.std.proofs.Common.{◌≡◌, ◌≢◌, ℕ, zero, suc, ◌+◌, ◌-◌, ◌*◌, ◌/◌, ◌%◌, ◌<◌, ◌≤◌, Bool, true, false, ◌⊎◌, inl, inr, List, [], ◌∷◌, length, take, drop, Some, None, refl, sym, ◌∙◌, arith}
+use Rattle.std.specs.Prelude.{slice_get, slice_set, is_some, if◌then◌else◌, ◌&&◌, ◌||◌, nat_le, nat_lt, nat_eq, ◌==◌}
+use Rattle.std.proofs.Common.{◌≡◌, ◌≢◌, ℕ, zero, suc, ◌+◌, ◌-◌, ◌*◌, ◌/◌, ◌%◌, ◌<◌, ◌≤◌, Bool, true, false, ◌⊎◌, inl, inr, List, [], ◌∷◌, length, take, drop, Option, Some, None, refl, ap, sym, ◌∙◌, arith}
+use Rattle.std.proofs.lemmas.Bool.{and_parts}
 use Rattle.std.proofs.lemmas.Bool.Decides.{nat_tests}
 use Rattle.std.proofs.lemmas.Option.{slice_get_cases}
 use Rattle.object_layout.specs.Areas.{word_index}
-use Rattle.std.specs.List.{between}
+use Rattle.std.specs.List.{between, list_any}
 use Rattle.std.specs.Option.{option_map_or}
-use Rattle.object_layout.specs.Areas.{tables_start, descriptors_start, statics_start, stacks_start}
-use Rattle.word_machine.specs.Memory.{MemoryView, word_in, word_of, is_mapped, word_at}
+use Rattle.heap_words.specs.Blocks.{Block, Blocks}
+use Rattle.object_layout.specs.Areas.{tables_start, descriptors_start, statics_start, stacks_start, heap_start}
+use Rattle.word_machine.specs.Memory.{MemoryView, word_in, word_of, has_word, is_object_word, is_open, is_mapped, word_at}
 use Rattle.word_machine.specs.Laws.{Written}
 use Rattle.word_machine.proofs.Lists.{drop-read}
+use Rattle.word_machine.proofs.Heaps.{same-list}
 
 -- an address is that of a word of the area, or of none
 abbrev IsPlace : ℕ → ℕ → Type 0
@@ -69,9 +72,13 @@ WrittenIn start words more a w = (b : ℕ) → word_in start more b ≡ (if b ==
 
 -- what is written in the area of an address is written in the memory
 module _ (m : MemoryView) (words : List ℕ) (a w : ℕ) where
-  pub in_stacks : stacks_start ≤ a → WrittenIn stacks_start m.stacks words a w → Written m (record m { stacks = words }) a w
+  pub in_heap : heap_start ≤ a → WrittenIn heap_start m.heap words a w → Written m (record m { heap = words }) a w
   unfolding word_of
-  in_stacks low h b = grind (arith, nat_tests, h b)
+  in_heap low h b = grind (arith, nat_tests, h b)
+
+  pub in_stacks : a < heap_start → stacks_start ≤ a → WrittenIn stacks_start m.stacks words a w → Written m (record m { stacks = words }) a w
+  unfolding word_of
+  in_stacks high low h b = grind (arith, nat_tests, h b)
 
   pub in_statics : a < stacks_start → statics_start ≤ a → WrittenIn statics_start m.statics words a w → Written m (record m { statics = words }) a w
   unfolding word_of
@@ -86,23 +93,60 @@ module _ (m : MemoryView) (words : List ℕ) (a w : ℕ) where
   unfolding word_of
   in_tables high h b = grind (arith, nat_tests, h b)
 
+-- a word stands at an address that is mapped, and in the heap it is an object's
+pub mapped-word : (m : MemoryView) (a : ℕ) → is_mapped m a ≡ true → (is_some (word_of m a) ≡ true) × (is_open m.heap a ≡ true)
+unfolding is_mapped
+mapped-word m a there = and_parts (is_some (word_of m a)) (is_open m.heap a) there
+
 -- the area of an address has a word there where the memory has one
-pub there_in_stacks : (m : MemoryView) (a : ℕ) → is_mapped m a ≡ true → stacks_start ≤ a → is_some (word_in stacks_start m.stacks a) ≡ true
-unfolding is_mapped word_of
-there_in_stacks m a there low = grind (arith, nat_tests)
+pub there_in_heap : (m : MemoryView) (a : ℕ) → is_mapped m a ≡ true → heap_start ≤ a → is_some (word_in heap_start m.heap a) ≡ true
+unfolding word_of
+there_in_heap m a there low = let word = (mapped-word m a there).0 in grind (arith, nat_tests)
+
+pub there_in_stacks : (m : MemoryView) (a : ℕ) → is_mapped m a ≡ true → a < heap_start → stacks_start ≤ a → is_some (word_in stacks_start m.stacks a) ≡ true
+unfolding word_of
+there_in_stacks m a there high low = let word = (mapped-word m a there).0 in grind (arith, nat_tests)
 
 pub there_in_statics : (m : MemoryView) (a : ℕ) → is_mapped m a ≡ true → a < stacks_start → statics_start ≤ a → is_some (word_in statics_start m.statics a) ≡ true
-unfolding is_mapped word_of
-there_in_statics m a there high low = grind (arith, nat_tests)
+unfolding word_of
+there_in_statics m a there high low = let word = (mapped-word m a there).0 in grind (arith, nat_tests)
 
 pub there_in_descriptors : (m : MemoryView) (a : ℕ) → is_mapped m a ≡ true → a < statics_start → descriptors_start ≤ a
     → is_some (word_in descriptors_start m.descriptors a) ≡ true
-unfolding is_mapped word_of
-there_in_descriptors m a there high low = grind (arith, nat_tests)
+unfolding word_of
+there_in_descriptors m a there high low = let word = (mapped-word m a there).0 in grind (arith, nat_tests)
 
 pub there_in_tables : (m : MemoryView) (a : ℕ) → is_mapped m a ≡ true → a < descriptors_start → is_some (word_in tables_start m.tables a) ≡ true
-unfolding is_mapped word_of
-there_in_tables m a there high = grind (arith, nat_tests)
+unfolding word_of
+there_in_tables m a there high = let word = (mapped-word m a there).0 in grind (arith, nat_tests)
+
+-- an address below the heap is open
+pub low-open : (words : List ℕ) (a : ℕ) → a < heap_start → is_open words a ≡ true
+unfolding is_open
+low-open words a low = grind (arith, nat_tests)
+
+-- one of the heap is open where its word is an object's
+pub heap-open : (words : List ℕ) (k : ℕ) → is_open words (heap_start + 4 * k) ≡ is_object_word words k
+unfolding is_open word_index
+heap-open words k =
+    let low : nat_lt (heap_start + 4 * k) heap_start ≡ false = grind (arith, nat_tests) in
+    let t : (nat_le heap_start (heap_start + 4 * k) && ((heap_start + 4 * k - heap_start) % 4 == 0)) ≡ true = grind (arith, nat_tests) in
+    let e : (heap_start + 4 * k - heap_start) / 4 ≡ k = omega arith in
+    rw (low, t, e) refl
+
+-- what is open hangs on the blocks alone
+pub same-open : (xs ys : List ℕ) → Blocks ys ≡ Blocks xs → (a : ℕ) → is_open ys a ≡ is_open xs a
+unfolding is_open is_object_word
+same-open xs ys e a = ap (λ b. nat_lt a heap_start || b) (go (word_index heap_start a))
+  where
+    go : (o : Option ℕ) → option_map_or (is_object_word ys) o false ≡ option_map_or (is_object_word xs) o false
+    go None = refl
+    go (Some k) = ap (λ (blocks : List Block). list_any (has_word k) blocks) e
+
+-- the word of the heap at an address, and of an object where the address is mapped
+pub heap-object : (m : MemoryView) (a : ℕ) → is_mapped m a ≡ true → heap_start ≤ a → is_object_word m.heap ((a - heap_start) / 4) ≡ true
+unfolding is_open word_index
+heap-object m a there low = let test = (mapped-word m a there).1 in grind (arith, nat_tests)
 
 -- what a bus tells after a write
 pub words_after : (m n : MemoryView) (a w : ℕ) → Written m n a w → (b : ℕ) → word_at n b ≡ (if b == a then w else word_at m b)
@@ -114,13 +158,38 @@ words_after m n a w h b = go (nat_eq b a) (h b)
     go true e = rw e refl
     go false e = rw e refl
 
-pub mapped_after : (m n : MemoryView) (a w : ℕ) → is_mapped m a ≡ true → Written m n a w → (b : ℕ) → is_mapped n b ≡ is_mapped m b
+pub mapped_after : (m n : MemoryView) (a w : ℕ) → is_mapped m a ≡ true → Written m n a w → ((b : ℕ) → is_open n.heap b ≡ is_open m.heap b)
+    → (b : ℕ) → is_mapped n b ≡ is_mapped m b
 unfolding is_mapped
-mapped_after m n a w there h b = go (nat_eq b a) refl (h b)
+mapped_after m n a w there h opened b = go (nat_eq b a) refl (h b)
   where
-    go : (t : Bool) → nat_eq b a ≡ t → word_of n b ≡ (if t then Some w else word_of m b) → is_some (word_of n b) ≡ is_some (word_of m b)
-    go true t e = let same : b ≡ a = grind (arith, nat_tests) in rw (e, same) (sym there)
-    go false t e = rw e refl
+    go : (t : Bool) → nat_eq b a ≡ t → word_of n b ≡ (if t then Some w else word_of m b)
+        → (is_some (word_of n b) && is_open n.heap b) ≡ (is_some (word_of m b) && is_open m.heap b)
+    go true t e =
+        let same : b ≡ a = grind (arith, nat_tests) in
+        rw (e, opened b, same, (mapped-word m a there).0) refl
+    go false t e = rw (e, opened b) refl
+
+-- the same where the blocks of the heap stay
+pub mapped-through : (m n : MemoryView) (a w : ℕ) → is_mapped m a ≡ true → Written m n a w → Blocks n.heap ≡ Blocks m.heap → (b : ℕ) → is_mapped n b ≡ is_mapped m b
+mapped-through m n a w there h blocks = mapped_after m n a w there h (same-open m.heap n.heap blocks)
+
+-- what is mapped below the heap, and in it
+pub low-mapped : (m : MemoryView) (a : ℕ) → a < heap_start → is_mapped m a ≡ is_some (word_of m a)
+unfolding is_mapped
+low-mapped m a low = rw (low-open m.heap a low) (also-true (is_some (word_of m a)))
+  where
+    also-true : (b : Bool) → (b && true) ≡ b
+    also-true true = refl
+    also-true false = refl
+
+pub high-mapped : (m : MemoryView) (a : ℕ) → heap_start ≤ a
+    → is_mapped m a ≡ (is_some (word_in heap_start m.heap a) && option_map_or (is_object_word m.heap) (word_index heap_start a) false)
+unfolding is_mapped word_of is_open
+high-mapped m a high =
+    let up : nat_le heap_start a ≡ true = grind (arith, nat_tests) in
+    let low : nat_lt a heap_start ≡ false = grind (arith, nat_tests) in
+    rw (up, low) refl
 
 -- ---- the words of the areas, by their numbers
 
@@ -134,31 +203,41 @@ word_there start k words =
 pub table_there : (m : MemoryView) (k : ℕ) → 4 * k < 0x80000 → word_of m (tables_start + 4 * k) ≡ slice_get m.tables k
 unfolding word_of
 table_there m k h =
+    let z : nat_le heap_start (tables_start + 4 * k) ≡ false = grind (arith, nat_tests) in
     let a : nat_le stacks_start (tables_start + 4 * k) ≡ false = grind (arith, nat_tests) in
     let b : nat_le statics_start (tables_start + 4 * k) ≡ false = grind (arith, nat_tests) in
     let c : nat_le descriptors_start (tables_start + 4 * k) ≡ false = grind (arith, nat_tests) in
-    rw (a, b, c) (word_there tables_start k m.tables)
+    rw (z, a, b, c) (word_there tables_start k m.tables)
 
 pub descriptor_there : (m : MemoryView) (k : ℕ) → 4 * k < 0x80000 → word_of m (descriptors_start + 4 * k) ≡ slice_get m.descriptors k
 unfolding word_of
 descriptor_there m k h =
+    let z : nat_le heap_start (descriptors_start + 4 * k) ≡ false = grind (arith, nat_tests) in
     let a : nat_le stacks_start (descriptors_start + 4 * k) ≡ false = grind (arith, nat_tests) in
     let b : nat_le statics_start (descriptors_start + 4 * k) ≡ false = grind (arith, nat_tests) in
     let c : nat_le descriptors_start (descriptors_start + 4 * k) ≡ true = grind (arith, nat_tests) in
-    rw (a, b, c) (word_there descriptors_start k m.descriptors)
+    rw (z, a, b, c) (word_there descriptors_start k m.descriptors)
 
 pub static_there : (m : MemoryView) (k : ℕ) → 4 * k < 0x100000 → word_of m (statics_start + 4 * k) ≡ slice_get m.statics k
 unfolding word_of
 static_there m k h =
+    let z : nat_le heap_start (statics_start + 4 * k) ≡ false = grind (arith, nat_tests) in
     let a : nat_le stacks_start (statics_start + 4 * k) ≡ false = grind (arith, nat_tests) in
     let b : nat_le statics_start (statics_start + 4 * k) ≡ true = grind (arith, nat_tests) in
-    rw (a, b) (word_there statics_start k m.statics)
+    rw (z, a, b) (word_there statics_start k m.statics)
 
-pub stack_there : (m : MemoryView) (k : ℕ) → word_of m (stacks_start + 4 * k) ≡ slice_get m.stacks k
+pub stack_there : (m : MemoryView) (k : ℕ) → 4 * k < 0x400000 → word_of m (stacks_start + 4 * k) ≡ slice_get m.stacks k
 unfolding word_of
-stack_there m k =
+stack_there m k h =
+    let z : nat_le heap_start (stacks_start + 4 * k) ≡ false = grind (arith, nat_tests) in
     let a : nat_le stacks_start (stacks_start + 4 * k) ≡ true = grind (arith, nat_tests) in
-    rw a (word_there stacks_start k m.stacks)
+    rw (z, a) (word_there stacks_start k m.stacks)
+
+pub heap_there : (m : MemoryView) (k : ℕ) → word_of m (heap_start + 4 * k) ≡ slice_get m.heap k
+unfolding word_of
+heap_there m k =
+    let a : nat_le heap_start (heap_start + 4 * k) ≡ true = grind (arith, nat_tests) in
+    rw a (word_there heap_start k m.heap)
 
 -- an area has the words that are mapped
 within : (words : List ℕ) (k : ℕ) → is_some (slice_get words k) ≡ true → k < length words
@@ -168,12 +247,24 @@ within words k h = elim (slice_get_cases words k).1 [
 ]
 
 pub static_within : (m : MemoryView) (k : ℕ) → 4 * k < 0x100000 → is_mapped m (statics_start + 4 * k) ≡ true → k < length m.statics
-unfolding is_mapped
-static_within m k h there = within m.statics k (rw (static_there m k h) at there)
+static_within m k h there = within m.statics k (rw (static_there m k h) at (mapped-word m _ there).0)
 
-pub stack_within : (m : MemoryView) (k : ℕ) → is_mapped m (stacks_start + 4 * k) ≡ true → k < length m.stacks
-unfolding is_mapped
-stack_within m k there = within m.stacks k (rw (stack_there m k) at there)
+pub stack_within : (m : MemoryView) (k : ℕ) → 4 * k < 0x400000 → is_mapped m (stacks_start + 4 * k) ≡ true → k < length m.stacks
+stack_within m k h there = within m.stacks k (rw (stack_there m k h) at (mapped-word m _ there).0)
+
+-- ---- the heap after a write
+
+-- a write below the heap leaves it
+pub heap-stays : (m n : MemoryView) (a w : ℕ) → Written m n a w → a < heap_start → n.heap ≡ m.heap
+heap-stays m n a w h low = same-list n.heap m.heap (λ k.
+    let other : nat_eq (heap_start + 4 * k) a ≡ false = grind (arith, nat_tests) in
+    sym (heap_there n k) ∙ h (heap_start + 4 * k) ∙ (rw other (heap_there m k)))
+
+-- a write in it changes one of its words
+pub heap-set : (m n : MemoryView) (k w : ℕ) → Written m n (heap_start + 4 * k) w → k < length m.heap → n.heap ≡ slice_set m.heap k w
+heap-set m n k w h few = same-list n.heap (slice_set m.heap k w) (λ j.
+    let same : nat_eq (heap_start + 4 * j) (heap_start + 4 * k) ≡ nat_eq j k = grind (arith, nat_tests) in
+    sym (heap_there n j) ∙ h (heap_start + 4 * j) ∙ (rw (same, get_set m.heap k j w few, heap_there m j) refl))
 
 -- the words before the n-th
 get_take : (n k : ℕ) (words : List ℕ) → k < n → slice_get (take n words) k ≡ slice_get words k

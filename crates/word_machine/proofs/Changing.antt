@@ -1,7 +1,8 @@
 -- What stays of the words of a state where one word of the memory changes.
+use Rattle.std.specs.Prelude.{◌&&◌}
 use Rattle.std.proofs.Common.{◌≡◌, ◌⊎◌, inl, inr, ◌+◌, ◌*◌, ◌%◌, ◌<◌, ◌≤◌, ◌==◌, ℕ, Bool, true, false, if◌then◌else◌, Some, is_some, arith, refl, ◌∙◌, List, length, slice_get}
 use Rattle.ia32_step.specs.declared.cpu.Cpu.{Cpu}
-use Rattle.object_layout.specs.Areas.{statics_start, stacks_start, table_address, descriptor_address}
+use Rattle.object_layout.specs.Areas.{statics_start, stacks_start, heap_start, table_address, descriptor_address}
 use Rattle.object_layout.specs.Classes.{table_word, descriptor_word}
 use Rattle.object_layout.specs.Laws.{ClassLaws}
 use Rattle.tal_image.specs.Image.{ImageParts}
@@ -11,11 +12,12 @@ use Rattle.typed_machine.specs.Stores.{Object}
 use Rattle.typed_machine.specs.States.{State, places_of}
 use Rattle.typed_machine.specs.Words.{stack_pointer, object_values}
 use Rattle.word_machine.specs.Memory.{MemoryView, word_of, is_mapped}
-use Rattle.word_machine.specs.Standing.{HoldsValues, values_at}
+use Rattle.word_machine.specs.Standing.{HoldsValues, values_at, BlocksStand}
 use Rattle.word_machine.specs.Following.{Grounds}
 use Rattle.word_machine.proofs.Holding.{Outside, Change, word-kept, holds-kept}
 use Rattle.word_machine.proofs.Tables.{table-below, descriptor-below}
-use Rattle.word_machine.proofs.Bounds.{stack-short}
+use Rattle.word_machine.proofs.Areas.{mapped-word, low-open, heap-stays}
+use Rattle.word_machine.proofs.Bounds.{few-stacks, stack-short}
 
 -- the words of stack n, where it has these values
 abbrev pub StackHolds : MemoryView → State → ℕ → List Value → Type 0
@@ -38,11 +40,15 @@ module _ {image : ImageParts} {live : ℕ → Bool} {s : State} {cpu : Cpu} {m :
   -- all words of the stacks are still there
   pub room-kept : (b : ℕ) → stacks_start ≤ b → b < stacks_start + 16384 * image.stacks → b % 4 ≡ 0 → is_mapped after b ≡ true
   unfolding is_mapped
-  room-kept b low high aligned = rw (c.written b) (go (b == a))
+  room-kept b low high aligned = let few = few-stacks g in rw (c.written b, low-open after.heap b (omega arith)) (go (b == a))
     where
-      go : (t : Bool) → is_some (if t then Some w else word_of m b) ≡ true
+      go : (t : Bool) → (is_some (if t then Some w else word_of m b) && true) ≡ true
       go true = refl
-      go false = g.stand.memory.room b low high aligned
+      go false = rw (mapped-word m b (g.stand.memory.room b low high aligned)).0 refl
+
+  -- the blocks of the heap, where the address is below it
+  pub blocks-kept : a < heap_start → BlocksStand image live s.store after.heap
+  blocks-kept low = rw (heap-stays m after a w c.written low) g.stand.memory.blocks
 
   -- the statics
   pub statics-kept : Outside a statics_start (length s.statics) → HoldsValues after (places_of s) statics_start s.statics

@@ -13,13 +13,13 @@ use Rattle.tal_flow.specs.Rows.{same_register}
 use Rattle.tal_flow.specs.Rules.{next_address}
 use Rattle.tal_image.specs.Image.{ImageParts}
 use Rattle.tal_image.specs.Shown.{shown}
-use Rattle.typed_machine.specs.Values.{Value, Number, all_objects}
+use Rattle.typed_machine.specs.Values.{Value, Number}
 use Rattle.typed_machine.specs.States.{State, Known, Equality, at_place, with_flags}
 use Rattle.typed_machine.specs.Operands.{Spot, AtDisplay, spot_of, operand_value, word_among}
 use Rattle.typed_machine.specs.Effects.{sets_flags, known_of, is_bare_zero, is_display, is_table, compares, known_of_test, tests}
 use Rattle.typed_machine.specs.Words.{words_of}
 use Rattle.word_machine.specs.Memory.{MemoryView, is_mapped, word_at}
-use Rattle.word_machine.proofs.Spelled.{SparesIndex, OneInMemory, PairIsPlain}
+use Rattle.word_machine.proofs.Spelled.{MayUse, OneInMemory, PairIsPlain}
 use Rattle.word_machine.proofs.Operating.{read-alike, SetsFlags}
 use Rattle.word_machine.proofs.Grounding.{words_over, Begins}
 use Rattle.word_machine.proofs.OperandWords.{OperandThere, value-there, spot-there}
@@ -39,11 +39,11 @@ alike-there : (image : ImageParts) (s : State) (m : MemoryView) (d x : Operand) 
 alike-there image s m (R r) (R q) h = record { reached = tt; agrees = tt }
 alike-there image s m d x h = absurd (cc)
 
-module _ {image : ImageParts} {s : State} {cpu : Cpu} {m : MemoryView} {i : Inst} {len : ℕ} (b : Begins image s cpu m i len) where
+module _ {image : ImageParts} {live : ℕ → Bool} {s : State} {cpu : Cpu} {m : MemoryView} {i : Inst} {len : ℕ} (b : Begins image live s cpu m i len) where
   -- an instruction that sets the flags by two operands that are there
   flags-step : (d x : Operand) → SetsFlags i d x → OneInMemory d x → OperandThere image s m d → OperandThere image s m x → (known : Option Known)
       → sets_flags (shown image) s i (next_address s.thread.place len) (d ∷ x ∷ []) known ≢ None
-      → StepOf image s m i len (sets_flags (shown image) s i (next_address s.thread.place len) (d ∷ x ∷ []) known)
+      → StepOf image live s m i len (sets_flags (shown image) s i (next_address s.thread.place len) (d ∷ x ∷ []) known)
   unfolding words_of next_address
   flags-step d x o one at_d at_x None h = absurd (h refl)
   flags-step d x o one at_d at_x (Some known) h =
@@ -58,19 +58,19 @@ module _ {image : ImageParts} {s : State} {cpu : Cpu} {m : MemoryView} {i : Inst
       (o.reaches over_now (is_mapped m) at_d.reached at_x.reached) o.runs
 
   -- a display that CMP names is there
-  display-read : (d x : Operand) → i ≡ inst.Alu alu.Cmp d x → SparesIndex d → is_display (shown image) s d ≡ true → OperandThere image s m d
+  display-read : (d x : Operand) → i ≡ inst.Alu alu.Cmp d x → MayUse image live s d → is_display (shown image) s d ≡ true → OperandThere image s m d
   display-read (R r) x is spares h = absurd (cc)
   display-read (I n) x is spares h = absurd (cc)
   display-read (M a) x is spares h = go (spot_of (shown image).shapes s a) refl
     where
       go : (o : Option Spot) → spot_of (shown image).shapes s a ≡ o → OperandThere image s m (M a)
       go (Some (AtDisplay c d)) e =
-          let word = b.laws.displays image b.grounds.well_typed all_objects s b.grounds.typed b.placed b.here a x (b.is ∙ is) c d e in
+          let word = b.laws.displays image b.grounds.well_typed live s b.grounds.typed b.placed b.here a x (b.is ∙ is) c d e in
           spot-there b a spares (AtDisplay c d) word.0 e word.1
       go o e = absurd (let none = rw e at h in cc)
 
   -- the operands of CMP are there, where something is known of them
-  compared-there : (d x : Operand) → i ≡ inst.Alu alu.Cmp d x → PairIsPlain d x → (o p : Option Value) → operand_value (shown image) s d ≡ o → operand_value (shown image) s x ≡ p
+  compared-there : (d x : Operand) → i ≡ inst.Alu alu.Cmp d x → PairIsPlain (MayUse image live s) d x → (o p : Option Value) → operand_value (shown image) s d ≡ o → operand_value (shown image) s x ≡ p
       → known_of o p (is_bare_zero x p) (is_display (shown image) s d) ≢ None → OperandThere image s m d × OperandThere image s m x
   compared-there d x is plain (Some w) (Some u) e f h = (value-there b d w plain.first e, value-there b x u plain.second f)
   compared-there d x is plain (Some w) None e f h = absurd (h refl)
@@ -90,8 +90,8 @@ module _ {image : ImageParts} {s : State} {cpu : Cpu} {m : MemoryView} {i : Inst
   something-known xs known h e = h (ap (sets_flags (shown image) s i (next_address s.thread.place len) xs) e)
 
   -- CMP
-  pub compare-step : (d x : Operand) → i ≡ inst.Alu alu.Cmp d x → SetsFlags i d x → PairIsPlain d x → compares (shown image) s i (next_address s.thread.place len) d x ≢ None
-      → StepOf image s m i len (compares (shown image) s i (next_address s.thread.place len) d x)
+  pub compare-step : (d x : Operand) → i ≡ inst.Alu alu.Cmp d x → SetsFlags i d x → PairIsPlain (MayUse image live s) d x → compares (shown image) s i (next_address s.thread.place len) d x ≢ None
+      → StepOf image live s m i len (compares (shown image) s i (next_address s.thread.place len) d x)
   unfolding compares
   compare-step d x is o plain h =
       let known = known_of (operand_value (shown image) s d) (operand_value (shown image) s x) (is_bare_zero x (operand_value (shown image) s x)) (is_display (shown image) s d) in
@@ -99,7 +99,7 @@ module _ {image : ImageParts} {s : State} {cpu : Cpu} {m : MemoryView} {i : Inst
       flags-step d x o plain.one at.0 at.1 known h
 
   -- the operands of TEST are there, where something is known of them
-  tested-there : (d x : Operand) → PairIsPlain d x → (o p : Option Value) → operand_value (shown image) s d ≡ o → operand_value (shown image) s x ≡ p
+  tested-there : (d x : Operand) → PairIsPlain (MayUse image live s) d x → (o p : Option Value) → operand_value (shown image) s d ≡ o → operand_value (shown image) s x ≡ p
       → known_of_test o p (same_register d x) ≢ None → OperandThere image s m d × OperandThere image s m x
   unfolding known_of_test
   tested-there d x plain None p e f h = absurd (h refl)
@@ -111,8 +111,8 @@ module _ {image : ImageParts} {s : State} {cpu : Cpu} {m : MemoryView} {i : Inst
       go false k g = absurd (g (nothing-known w))
 
   -- TEST
-  pub test-step : (d x : Operand) → SetsFlags i d x → PairIsPlain d x → tests (shown image) s i (next_address s.thread.place len) d x ≢ None
-      → StepOf image s m i len (tests (shown image) s i (next_address s.thread.place len) d x)
+  pub test-step : (d x : Operand) → SetsFlags i d x → PairIsPlain (MayUse image live s) d x → tests (shown image) s i (next_address s.thread.place len) d x ≢ None
+      → StepOf image live s m i len (tests (shown image) s i (next_address s.thread.place len) d x)
   unfolding tests
   test-step d x o plain h =
       let known = known_of_test (operand_value (shown image) s d) (operand_value (shown image) s x) (same_register d x) in

@@ -29,7 +29,7 @@ use Rattle.typed_machine.specs.Operands.{word_among, is_number, write_operand}
 use Rattle.typed_machine.specs.Effects.{Moves, Faults, goes_on, settled, fault_or, computed, computes}
 use Rattle.typed_machine.specs.Words.{words_of}
 use Rattle.word_machine.specs.Memory.{MemoryView, is_mapped, word_at}
-use Rattle.word_machine.proofs.Spelled.{SparesIndex, OneInMemory}
+use Rattle.word_machine.proofs.Spelled.{MayUse, OneInMemory}
 use Rattle.word_machine.proofs.Operating.{over, Agrees, AllAgree, Operates, Widens}
 use Rattle.word_machine.proofs.Grounding.{words_over, thread-stands, Begins}
 use Rattle.word_machine.proofs.OperandWords.{OperandThere, AllThere, all-reached, number-there}
@@ -38,10 +38,10 @@ use Rattle.word_machine.proofs.Leaving.{ran-on, StepOf, stays, thread-step}
 
 -- ---- the one word in memory
 
--- none of these operands has ESP as its index
-abbrev pub AllSpare : List Operand → Type 0
-AllSpare [] = Unit {0}
-AllSpare (x ∷ xs) = SparesIndex x × AllSpare xs
+-- each of these operands may be used
+abbrev pub AllUsed : ImageParts → (ℕ → Bool) → State → List Operand → Type 0
+AllUsed image live s [] = Unit {0}
+AllUsed image live s (x ∷ xs) = MayUse image live s x × AllUsed image live s xs
 
 module _ {image : ImageParts} {s : State} {m : MemoryView} where
   -- an operand agrees with the word of those among which it comes first
@@ -105,16 +105,16 @@ put-read v s u w c (M a) x flags h = go (address_of a (words_of s w).regs)
     go k = let e : (k == k) ≡ true = grind (arith, nat_tests) in rw e refl
 put-read v s u w c (I n) x flags h = absurd (cc)
 
-module _ {image : ImageParts} {s : State} {cpu : Cpu} {m : MemoryView} {i : Inst} {len : ℕ} (b : Begins image s cpu m i len) where
+module _ {image : ImageParts} {live : ℕ → Bool} {s : State} {cpu : Cpu} {m : MemoryView} {i : Inst} {len : ℕ} (b : Begins image live s cpu m i len) where
   -- operands that are numbers are there
-  numbers-there : (xs : List Operand) → AllSpare xs → list_all (is_number (shown image) s) xs ≡ true → AllThere image s m xs
+  numbers-there : (xs : List Operand) → AllUsed image live s xs → list_all (is_number (shown image) s) xs ≡ true → AllThere image s m xs
   numbers-there [] spare h = tt
   numbers-there (x ∷ xs) spare h =
       let parts = and_parts (is_number (shown image) s x) (list_all (is_number (shown image) s) xs) h in
       (number-there b x spare.0 parts.0, numbers-there xs spare.1 parts.1)
 
   -- an operation that puts one word
-  module _ (sources : List Operand) (d : Operand) (k : Option FlagKind) (o : Operates i sources d) (spares : SparesIndex d) (spare : AllSpare sources)
+  module _ (sources : List Operand) (d : Operand) (k : Option FlagKind) (o : Operates i sources d) (spares : MayUse image live s d) (spare : AllUsed image live s sources)
       (agree : AllThere image s m sources → AllAgree (word_at m) (word_among (shown image) s (d ∷ sources)) (words_over s m).regs sources) where
     -- the words that it computes with, and what it makes of them
     before : WordState
@@ -125,7 +125,7 @@ module _ {image : ImageParts} {s : State} {cpu : Cpu} {m : MemoryView} {i : Inst
 
     -- where its destination is written
     written-step : (u : State) → AllThere image s m sources → write_operand (shown image) s d (Number (read_word d (executed i before))) ≡ Some u
-        → StepOf image s m i len (Some (goes_on next (settled false k (executed i before) u)))
+        → StepOf image live s m i len (Some (goes_on next (settled false k (executed i before) u)))
     unfolding before next words_of Word next_address
     written-step u there written =
         let over_now = words_over s m in
@@ -141,9 +141,9 @@ module _ {image : ImageParts} {s : State} {cpu : Cpu} {m : MemoryView} {i : Inst
           runs = o.runs;
           leaves = λ ran after r.
               let on = ran-on i len over_now m ran after goes r in
-              let put : PutFor image s u m after d (o.value before) =
+              let put : PutFor image live s u m after d (o.value before) =
               put-stands b d (Number (o.value before)) u after spares is
-              (λ a. on.words a ∙ (ap (λ x. x.memory a) (o.done_is over_now) ∙ ap (λ n. (put_word d n over_now).memory a) value)) on.mapped in
+              (λ a. on.words a ∙ (ap (λ x. x.memory a) (o.done_is over_now) ∙ ap (λ n. (put_word d n over_now).memory a) value)) on.mapped on.formed in
               rw goes (
                 at_place next (settled false k (executed i before) u),
                 refl,
@@ -160,28 +160,28 @@ module _ {image : ImageParts} {s : State} {cpu : Cpu} {m : MemoryView} {i : Inst
 
     -- where its operands are numbers
     pub operation-step : computes (shown image) s i len (next_address s.thread.place len) sources d false k ≢ None
-        → StepOf image s m i len (computes (shown image) s i len (next_address s.thread.place len) sources d false k)
+        → StepOf image live s m i len (computes (shown image) s i len (next_address s.thread.place len) sources d false k)
     unfolding computes before next
     operation-step known = go (list_all (is_number (shown image) s) sources) refl known
       where
         put : (u : Option State) → AllThere image s m sources → write_operand (shown image) s d (Number (read_word d (executed i before))) ≡ u
             → option_map (λ t. goes_on next (settled false k (executed i before) t)) u ≢ None
-            → StepOf image s m i len (option_map (λ t. goes_on next (settled false k (executed i before) t)) u)
+            → StepOf image live s m i len (option_map (λ t. goes_on next (settled false k (executed i before) t)) u)
         put None there e h = absurd (h refl)
         put (Some u) there e h = written-step u there e
 
         go : (t : Bool) → list_all (is_number (shown image) s) sources ≡ t
             → (if t then computed (shown image) s i len next d false k before else None) ≢ None
-            → StepOf image s m i len (if t then computed (shown image) s i len next d false k before else None)
+            → StepOf image live s m i len (if t then computed (shown image) s i len next d false k before else None)
         go false e h = absurd (h refl)
         go true e h =
-            subst (λ (x : StepEffect). StepOf image s m i len
+            subst (λ (x : StepEffect). StepOf image live s m i len
             (fault_or x (option_map (λ t. goes_on next (settled false k (executed i before) t)) (write_operand (shown image) s d (Number (read_word d (executed i before)))))))
             (sym (o.effect_is before len))
             (put (write_operand (shown image) s d (Number (read_word d (executed i before)))) (numbers-there sources spare e) refl (rw (o.effect_is before len) at h))
 
   -- an operation on EDX and EAX
-  module _ (sources : List Operand) (k : Option FlagKind) (o : Widens i sources) (spare : AllSpare sources)
+  module _ (sources : List Operand) (k : Option FlagKind) (o : Widens i sources) (spare : AllUsed image live s sources)
       (agree : AllThere image s m sources → AllAgree (word_at m) (word_among (shown image) s (R Eax ∷ sources)) (words_over s m).regs sources) where
     wide-before : WordState
     wide-before = words_of s (word_among (shown image) s (R Eax ∷ sources))
@@ -192,7 +192,7 @@ module _ {image : ImageParts} {s : State} {cpu : Cpu} {m : MemoryView} {i : Inst
         at_place (next_address s.thread.place len) (settled true k (executed i wide-before) (with_register Eax (Number (read_word (R Eax) (executed i wide-before))) s))
 
     -- it goes on
-    wide-goes : AllThere image s m sources → effect_of i wide-before len ≡ step.Next → StepOf image s m i len (Some (Moves wide-after))
+    wide-goes : AllThere image s m sources → effect_of i wide-before len ≡ step.Next → StepOf image live s m i len (Some (Moves wide-after))
     unfolding wide-before wide-after words_of Word next_address same
     wide-goes there goes =
         let over_now = words_over s m in
@@ -205,7 +205,7 @@ module _ {image : ImageParts} {s : State} {cpu : Cpu} {m : MemoryView} {i : Inst
         (ap (λ x. x.flags) made) (o.next_is over_now len) (o.reaches over_now (is_mapped m) (all-reached image s m sources there)) o.runs
 
     -- or it is the divide error
-    wide-faults : AllThere image s m sources → effect_of i wide-before len ≡ step.Fault 0 → StepOf image s m i len (Some (Faults 0))
+    wide-faults : AllThere image s m sources → effect_of i wide-before len ≡ step.Fault 0 → StepOf image live s m i len (Some (Faults 0))
     unfolding wide-before words_of
     wide-faults there faults =
         let over_now = words_over s m in
@@ -219,22 +219,22 @@ module _ {image : ImageParts} {s : State} {cpu : Cpu} {m : MemoryView} {i : Inst
 
     -- where its operands are numbers
     pub wide-step : computes (shown image) s i len (next_address s.thread.place len) sources (R Eax) true k ≢ None
-        → StepOf image s m i len (computes (shown image) s i len (next_address s.thread.place len) sources (R Eax) true k)
+        → StepOf image live s m i len (computes (shown image) s i len (next_address s.thread.place len) sources (R Eax) true k)
     unfolding computes wide-before wide-after write_operand same
     wide-step known = go (list_all (is_number (shown image) s) sources) refl known
       where
         at : AllThere image s m sources → (e : StepEffect) → effect_of i wide-before len ≡ e → (e ≡ step.Next) ⊎ (e ≡ step.Fault 0)
-            → StepOf image s m i len (fault_or e (Some (Moves wide-after)))
+            → StepOf image live s m i len (fault_or e (Some (Moves wide-after)))
         at there step.Next is which = wide-goes there is
         at there (step.Fault n) is which =
             let zero : step.Fault n ≡ step.Fault 0 = elim which as (λ _. step.Fault n ≡ step.Fault 0) [ inl h ↦ absurd (cc) | inr h ↦ h ] in
             let same_vector : n ≡ 0 = cc in
             rw same_vector (wide-faults there (is ∙ zero))
-        at there (step.Call a) is which = elim which as (λ _. StepOf image s m i len (Some (Moves wide-after))) [ inl h ↦ absurd (cc) | inr h ↦ absurd (cc) ]
-        at there step.Return is which = elim which as (λ _. StepOf image s m i len (Some (Moves wide-after))) [ inl h ↦ absurd (cc) | inr h ↦ absurd (cc) ]
+        at there (step.Call a) is which = elim which as (λ _. StepOf image live s m i len (Some (Moves wide-after))) [ inl h ↦ absurd (cc) | inr h ↦ absurd (cc) ]
+        at there step.Return is which = elim which as (λ _. StepOf image live s m i len (Some (Moves wide-after))) [ inl h ↦ absurd (cc) | inr h ↦ absurd (cc) ]
 
         go : (t : Bool) → list_all (is_number (shown image) s) sources ≡ t
             → (if t then computed (shown image) s i len (next_address s.thread.place len) (R Eax) true k wide-before else None) ≢ None
-            → StepOf image s m i len (if t then computed (shown image) s i len (next_address s.thread.place len) (R Eax) true k wide-before else None)
+            → StepOf image live s m i len (if t then computed (shown image) s i len (next_address s.thread.place len) (R Eax) true k wide-before else None)
         go false e h = absurd (h refl)
         go true e h = at (numbers-there sources spare e) (effect_of i wide-before len) refl (o.effects wide-before len)

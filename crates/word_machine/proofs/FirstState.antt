@@ -1,23 +1,26 @@
 -- The words of a memory before the first turn stand for the first state.
-use Rattle.std.proofs.Common.{◌≡◌, ◌⊎◌, inl, inr, ℕ, zero, suc, ◌+◌, ◌-◌, ◌*◌, ◌/◌, ◌%◌, ◌<◌, ◌≤◌, Bool, true, false, nat_eq, List, [], ◌++◌, length, map, replicate, Option, Some, None, slice_get, refl, sym, ap, ◌∙◌, arith}
+use Rattle.std.proofs.Common.{◌≡◌, ◌⊎◌, inl, inr, ℕ, zero, suc, ◌+◌, ◌-◌, ◌*◌, ◌/◌, ◌%◌, ◌<◌, ◌≤◌, Bool, true, false, nat_eq, List, [], ◌∷◌, ◌++◌, length, map, replicate, Option, Some, None, slice_get, refl, sym, ap, ◌∙◌, arith}
 use Rattle.std.specs.Option.{option_map, option_map_or}
 use Rattle.std.proofs.lemmas.Bool.Decides.{nat_tests}
 use Rattle.std.proofs.lemmas.List.{length-replicate, length-map, get_or-replicate}
 use Rattle.std.proofs.lemmas.Option.{slice_get-map, slice_get-get_or, slice_get_within}
 use Rattle.object_layout.specs.declared.rows.FieldTy.{FieldTy}
 use Rattle.object_layout.specs.Areas.{tables_start, descriptors_start, statics_start, stacks_start, table_address, descriptor_address}
-use Rattle.object_layout.specs.Classes.{table, table_word, descriptor_word}
+use Rattle.heap_words.specs.Blocks.{FormedHeap}
+use Rattle.object_layout.specs.Classes.{ShapesView, table, table_word, descriptor_word}
 use Rattle.object_layout.specs.Laws.{ClassLaws}
+use Rattle.tal_image.specs.declared.parts.ArrayPart.{ArrayPart}
+use Rattle.tal_image.specs.Conditions.{array_places}
 use Rattle.tal_image.specs.Image.{ImageParts}
 use Rattle.tal_image.specs.Formed.{Formed}
 use Rattle.tal_image.specs.Shown.{shapes_of, data_words}
 use Rattle.typed_machine.specs.Values.{Ret, Word}
-use Rattle.typed_machine.specs.Stores.{Object, zero_of, first_store}
+use Rattle.typed_machine.specs.Stores.{Object, zero_of, data_objects, first_store}
 use Rattle.typed_machine.specs.States.{EmptyStack, first_state}
 use Rattle.typed_machine.specs.Words.{stack_pointer, object_values}
 use Rattle.word_machine.specs.Memory.{MemoryView, word_of, is_mapped}
 use Rattle.word_machine.specs.Standing.{HoldsValues, kept_values, values_at, ObjectsLie, MemoryStands, end_of}
-use Rattle.word_machine.proofs.Areas.{table_there, descriptor_there, static_there, stack_there}
+use Rattle.word_machine.proofs.Areas.{low-open, table_there, descriptor_there, static_there, stack_there}
 use Rattle.word_machine.proofs.FirstData.{Kept, kept, apart, roomy, data_fits, zero_word}
 use Rattle.word_machine.proofs.Lists.{front-read, behind-read}
 use Rattle.word_machine.proofs.Tables.{table-there, length-table, descriptor-there}
@@ -28,6 +31,8 @@ pub record FirstWords (image : ImageParts) (m : MemoryView) : Type 0 where
   pub descriptors : (d k : ℕ) → d < length image.kinds → k < 4 → slice_get m.descriptors (4 * d + k) ≡ descriptor_word (shapes_of image) d k
   pub statics : m.statics ≡ replicate (length image.statics) 0 ++ data_words image
   pub stacks : m.stacks ≡ replicate (4096 * image.stacks) 0
+  pub heap : FormedHeap m.heap
+  pub size : length m.heap ≡ image.heap_words
 
 -- each of so many equal words
 get_same : (n k w : ℕ) → k < n → slice_get (replicate n w) k ≡ Some w
@@ -45,6 +50,9 @@ module _ (image : ImageParts) (formed : Formed image) (laws : ClassLaws (shapes_
   few_words : length image.statics + length (data_words image) ≤ 65536
   unfolding data_words
   few_words = data_fits _ _ _ image.arrays formed.arrays (grind (arith, nat_tests, formed.condition_7))
+
+  few_stacks : image.stacks ≤ 64
+  few_stacks = let h = formed.condition_2 in grind (arith, nat_tests)
 
   first_tables : (c k w : ℕ) → table_word (shapes_of image) c k ≡ Some w → word_of m (table_address c + 4 * k) ≡ Some w
   unfolding table_address shapes_of
@@ -70,7 +78,7 @@ module _ (image : ImageParts) (formed : Formed image) (laws : ClassLaws (shapes_
   static_read k low = static_there m k low ∙ ap (λ (ws : List ℕ). slice_get ws k) words.statics
 
   stack_read : (k : ℕ) → k < 4096 * image.stacks → word_of m (stacks_start + 4 * k) ≡ Some 0
-  stack_read k h = stack_there m k ∙ ap (λ (ws : List ℕ). slice_get ws k) words.stacks ∙ get_same (4096 * image.stacks) k 0 h
+  stack_read k h = let few = few_stacks in stack_there m k (omega (arith, few)) ∙ ap (λ (ws : List ℕ). slice_get ws k) words.stacks ∙ get_same (4096 * image.stacks) k 0 h
 
   first_statics : (places : List ℕ) → HoldsValues m places statics_start (map zero_of image.statics)
   first_statics places k v h = go (slice_get image.statics k) refl (sym (slice_get-map zero_of image.statics k) ∙ h)
@@ -113,21 +121,34 @@ module _ (image : ImageParts) (formed : Formed image) (laws : ClassLaws (shapes_
   first_room : (a : ℕ) → stacks_start ≤ a → a < stacks_start + 16384 * image.stacks → a % 4 ≡ 0 → is_mapped m a ≡ true
   unfolding is_mapped
   first_room a low high whole =
+      let few = few_stacks in
       let at : a ≡ stacks_start + 4 * ((a - stacks_start) / 4) = omega arith in
       let word : word_of m a ≡ Some 0 = ap (word_of m) at ∙ stack_read ((a - stacks_start) / 4) (omega arith) in
-      rw word refl
+      rw (word, low-open m.heap a (omega arith)) refl
 
   first_apart : (i j : ℕ) (o p : Object) → i < j → slice_get (first_store image) i ≡ Some o → slice_get (first_store image) j ≡ Some p → end_of o ≤ p.place
   unfolding first_store
   first_apart i j o p lt e f =
       apart (shapes_of image) (statics_start + 4 * length image.statics) image.arrays (roomy _ _ _ image.arrays formed.arrays) i j o p lt e f
 
-  first_lie : (live : ℕ → Bool) → ObjectsLie live (first_state image)
+  -- there are no objects but the data arrays
+  first_few : (i : ℕ) (o : Object) → slice_get (first_store image) i ≡ Some o → i < length image.arrays
+  unfolding first_store
+  first_few i o h = few (shapes_of image) image.arrays (array_places (statics_start + 4 * length image.statics) image.arrays) i o h
+    where
+      few : (s : ShapesView) (arrays : List ArrayPart) (places : List ℕ) (i : ℕ) (o : Object) → slice_get (data_objects s arrays places) i ≡ Some o → i < length arrays
+      few s [] places i o h = absurd cc
+      few s (a ∷ arrays) [] i o h = absurd cc
+      few s (a ∷ arrays) (p ∷ places) zero o h = omega arith
+      few s (a ∷ arrays) (p ∷ places) (suc i) o h = omega (arith, few s arrays places i o h)
+
+  first_lie : (live : ℕ → Bool) → ObjectsLie image live (first_state image)
   unfolding first_state first_store
   first_lie live = record {
     short = omega (arith, few_words, length-map image.statics zero_of);
     aligned = λ i o lives h. omega (arith, (first_object i o h []).1.place);
     inside = λ i o lives h. inl (
+      first_few i o h,
       omega (arith, (first_object i o h []).1.place, length-map image.statics zero_of),
       omega (arith, (first_object i o h []).1.place, (first_object i o h []).1.within, few_words),
     );
@@ -146,4 +167,5 @@ module _ (image : ImageParts) (formed : Formed image) (laws : ClassLaws (shapes_
     stacks = λ n few. first_stacks _ n few;
     room = first_room;
     lie = first_lie live;
+    blocks = record { formed = words.heap; size = words.size; objects = λ i o lives behind h. absurd (omega (arith, behind, first_few i o h)) };
   }

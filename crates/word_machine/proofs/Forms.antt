@@ -60,11 +60,16 @@ mov-marked : (d x : Operand) (n : ℕ) → x ≡ I n → marked_number (inst.Mov
 unfolding marked_number immediate
 mov-marked d x n is = rw is refl
 
-module _ {image : ImageParts} {s : State} {cpu : Cpu} {m : MemoryView} {len : ℕ} where
-  module _ (d x : Operand) (b : Begins image s cpu m (inst.Mov d x) len) where
+-- what is not so is false
+not-true : (b : Bool) → not b ≡ true → b ≡ false
+not-true true h = absurd (cc)
+not-true false h = refl
+
+module _ {image : ImageParts} {live : ℕ → Bool} {s : State} {cpu : Cpu} {m : MemoryView} {len : ℕ} where
+  module _ (d x : Operand) (b : Begins image live s cpu m (inst.Mov d x) len) where
     -- MOV of this value, which gives this state
     moved-step : (w : Value) (u : State) → operand_value (shown image) s x ≡ Some w → write_operand (shown image) s d w ≡ Some u
-        → StepOf image s m (inst.Mov d x) len (Some (goes_on (next s len) u))
+        → StepOf image live s m (inst.Mov d x) len (Some (goes_on (next s len) u))
     unfolding words_of next_address
     moved-step w u value written =
         let i = inst.Mov d x in
@@ -74,9 +79,9 @@ module _ {image : ImageParts} {s : State} {cpu : Cpu} {m : MemoryView} {len : �
           runs = refl;
           leaves = λ ran after r.
               let on = ran-on i len (words_over s m) m ran after refl r in
-              let put : PutFor image s u m after d (Word (places_of s) w) =
+              let put : PutFor image live s u m after d (Word (places_of s) w) =
               put-stands b d w u after b.plain.first written
-              (λ a. on.words a ∙ ap (λ n. (put_word d n (words_over s m)).memory a) word) on.mapped in (
+              (λ a. on.words a ∙ ap (λ n. (put_word d n (words_over s m)).memory a) word) on.mapped on.formed in (
                 at_place (next s len) u,
                 refl,
                 record {
@@ -91,38 +96,38 @@ module _ {image : ImageParts} {s : State} {cpu : Cpu} {m : MemoryView} {len : �
         }
 
     -- MOV
-    pub move-step : moves (shown image) s (next s len) d x ≢ None → StepOf image s m (inst.Mov d x) len (moves (shown image) s (next s len) d x)
+    pub move-step : moves (shown image) s (next s len) d x ≢ None → StepOf image live s m (inst.Mov d x) len (moves (shown image) s (next s len) d x)
     unfolding moves
     move-step known = go (operand_value (shown image) s x) refl known
       where
         at : (w : Value) → operand_value (shown image) s x ≡ Some w → (o : Option State) → write_operand (shown image) s d w ≡ o → option_map (goes_on (next s len)) o ≢ None
-            → StepOf image s m (inst.Mov d x) len (option_map (goes_on (next s len)) o)
+            → StepOf image live s m (inst.Mov d x) len (option_map (goes_on (next s len)) o)
         at w value None e h = absurd (h refl)
         at w value (Some u) e h = moved-step w u value e
 
         go : (o : Option Value) → operand_value (shown image) s x ≡ o → option_map (goes_on (next s len)) (option_and_then (write_operand (shown image) s d) o) ≢ None
-            → StepOf image s m (inst.Mov d x) len (option_map (goes_on (next s len)) (option_and_then (write_operand (shown image) s d) o))
+            → StepOf image live s m (inst.Mov d x) len (option_map (goes_on (next s len)) (option_and_then (write_operand (shown image) s d) o))
         go None e h = absurd (h refl)
         go (Some w) e h = at w e (write_operand (shown image) s d w) refl h
 
   -- LEA
-  pub address-step : (r : Reg) (a : Mem) → Begins image s cpu m (inst.Lea (R r) (M a)) len → addresses s (inst.Lea (R r) (M a)) (next s len) r a ≢ None
-      → StepOf image s m (inst.Lea (R r) (M a)) len (addresses s (inst.Lea (R r) (M a)) (next s len) r a)
+  pub address-step : (r : Reg) (a : Mem) → Begins image live s cpu m (inst.Lea (R r) (M a)) len → addresses s (inst.Lea (R r) (M a)) (next s len) r a ≢ None
+      → StepOf image live s m (inst.Lea (R r) (M a)) len (addresses s (inst.Lea (R r) (M a)) (next s len) r a)
   unfolding addresses words_of next_address Word
   address-step r a b known = go (not (same r Esp)) refl (is_number_in s a.base && is_number_in s a.index) known
     where
       there : Operand → ℕ
       there x = read_word x (executed (inst.Lea (R r) (M a)) (words_of s 0))
 
-      goes : not (same r Esp) ≡ true → StepOf image s m (inst.Lea (R r) (M a)) len (Some (goes_on (next s len) (with_register r (Number (there (R r))) s)))
+      goes : not (same r Esp) ≡ true → StepOf image live s m (inst.Lea (R r) (M a)) len (Some (goes_on (next s len) (with_register r (Number (there (R r))) s)))
       goes e =
-          let spared : same r Esp ≡ false = grind arith in
+          let spared : same r Esp ≡ false = not-true (same r Esp) e in
           let read : there (R r) ≡ address_of a (words_of s 0).regs = register-read s 0 (address_of a (words_of s 0).regs) r in
           thread-step b (at_place (next s len) (with_register r (Number (there (R r))) s)).thread (words_over s m) refl refl refl
           (rw read (register-written s (places_of s) (esp_of s) r (Number (address_of a (words_of s 0).regs)) spared)) refl refl tt refl
 
       go : (t : Bool) → not (same r Esp) ≡ t → (u : Bool) → (if t && u then Some (goes_on (next s len) (with_register r (Number (there (R r))) s)) else None) ≢ None
-          → StepOf image s m (inst.Lea (R r) (M a)) len (if t && u then Some (goes_on (next s len) (with_register r (Number (there (R r))) s)) else None)
+          → StepOf image live s m (inst.Lea (R r) (M a)) len (if t && u then Some (goes_on (next s len) (with_register r (Number (there (R r))) s)) else None)
       go true e true h = goes e
       go true e false h = absurd (h refl)
       go false e u h = absurd (h refl)
@@ -130,29 +135,29 @@ module _ {image : ImageParts} {s : State} {cpu : Cpu} {m : MemoryView} {len : �
   -- ---- branches
 
   -- an instruction that goes to an address, and does nothing else
-  gone-step : (i : Inst) (to : ℕ) → Begins image s cpu m i len → executed i (words_over s m) ≡ words_over s m → effect_of i (words_over s m) len ≡ step.Next
-      → next_of i (words_over s m) len ≡ to → Reaches i (words_over s m) (is_mapped m) → is_system i ≡ false → StepOf image s m i len (Some (goes_on to s))
+  gone-step : (i : Inst) (to : ℕ) → Begins image live s cpu m i len → executed i (words_over s m) ≡ words_over s m → effect_of i (words_over s m) len ≡ step.Next
+      → next_of i (words_over s m) len ≡ to → Reaches i (words_over s m) (is_mapped m) → is_system i ≡ false → StepOf image live s m i len (Some (goes_on to s))
   unfolding words_of
   gone-step i to b nothing effect place reaches runs =
       thread-step b (at_place to s).thread (words_over s m) refl effect (ap (λ k. k.memory) nothing) (ap (λ k. k.regs) nothing)
       (ap (λ k. k.flags) nothing) place reaches runs
 
   -- NOP
-  pub nothing-step : Begins image s cpu m inst.Nop len → StepOf image s m inst.Nop len (Some (goes_on (next s len) s))
+  pub nothing-step : Begins image live s cpu m inst.Nop len → StepOf image live s m inst.Nop len (Some (goes_on (next s len) s))
   unfolding words_of next_address
   nothing-step b = gone-step inst.Nop (next s len) b refl refl refl tt refl
 
   -- JMP
-  pub jump-step : (z : ℤ) → Begins image s cpu m (inst.Jmp z) len → jumps image s (address_at (next s len) z) ≢ None
-      → StepOf image s m (inst.Jmp z) len (jumps image s (address_at (next s len) z))
+  pub jump-step : (z : ℤ) → Begins image live s cpu m (inst.Jmp z) len → jumps image s (address_at (next s len) z) ≢ None
+      → StepOf image live s m (inst.Jmp z) len (jumps image s (address_at (next s len) z))
   unfolding words_of next_address address_at
   jump-step z b known =
       let may = let-in (may_go image s.thread.place (address_at (next s len) z)) (goes_on (address_at (next s len) z) s) known in
       rw may (gone-step (inst.Jmp z) (address_at (next s len) z) b refl refl refl tt refl)
 
   -- a conditional jump
-  pub branch-step : (c : Cond) (z : ℤ) → Begins image s cpu m (inst.Jcc c z) len → branches image s (next s len) c (address_at (next s len) z) ≢ None
-      → StepOf image s m (inst.Jcc c z) len (branches image s (next s len) c (address_at (next s len) z))
+  pub branch-step : (c : Cond) (z : ℤ) → Begins image live s cpu m (inst.Jcc c z) len → branches image s (next s len) c (address_at (next s len) z) ≢ None
+      → StepOf image live s m (inst.Jcc c z) len (branches image s (next s len) c (address_at (next s len) z))
   unfolding words_of next_address address_at
   branch-step c z b known =
       let may = let-in (is_known s.thread.known c && may_go image s.thread.place (address_at (next s len) z)) _ known in
@@ -161,8 +166,8 @@ module _ {image : ImageParts} {s : State} {cpu : Cpu} {m : MemoryView} {len : �
   -- ---- calls and returns
 
   -- CALL of an address
-  pub call-step : (z : ℤ) → Begins image s cpu m (inst.CallRel z) len → calls_to (shown image) s (next s len) (address_at (next s len) z) ≢ None
-      → StepOf image s m (inst.CallRel z) len (calls_to (shown image) s (next s len) (address_at (next s len) z))
+  pub call-step : (z : ℤ) → Begins image live s cpu m (inst.CallRel z) len → calls_to (shown image) s (next s len) (address_at (next s len) z) ≢ None
+      → StepOf image live s m (inst.CallRel z) len (calls_to (shown image) s (next s len) (address_at (next s len) z))
   unfolding words_of next_address address_at
   call-step z b known = record {
     reaches = tt;
@@ -171,7 +176,7 @@ module _ {image : ImageParts} {s : State} {cpu : Cpu} {m : MemoryView} {len : �
   }
 
   -- RET
-  pub return-step : Begins image s cpu m inst.Ret len → returns_from s.values s ≢ None → StepOf image s m inst.Ret len (returns_from s.values s)
+  pub return-step : Begins image live s cpu m inst.Ret len → returns_from s.values s ≢ None → StepOf image live s m inst.Ret len (returns_from s.values s)
   return-step b known = record {
     reaches = tt;
     runs = refl;
@@ -215,10 +220,10 @@ function-called image s next a known = go (entry_number a) refl
     go None e = refl
     go (Some k) e = rw (begins ((shown image).function_at a) refl k e) refl
 
-module _ {image : ImageParts} {s : State} {cpu : Cpu} {m : MemoryView} {len : ℕ} where
+module _ {image : ImageParts} {live : ℕ → Bool} {s : State} {cpu : Cpu} {m : MemoryView} {len : ℕ} where
   -- CALL of a value
-  pub call_by-step : (x : Operand) → Begins image s cpu m (inst.CallAt x) len → calls_value (shown image) s (next s len) (operand_value (shown image) s x) ≢ None
-      → StepOf image s m (inst.CallAt x) len (calls_value (shown image) s (next s len) (operand_value (shown image) s x))
+  pub call_by-step : (x : Operand) → Begins image live s cpu m (inst.CallAt x) len → calls_value (shown image) s (next s len) (operand_value (shown image) s x) ≢ None
+      → StepOf image live s m (inst.CallAt x) len (calls_value (shown image) s (next s len) (operand_value (shown image) s x))
   unfolding Word
   call_by-step x b known = go (operand_value (shown image) s x) refl known
     where
@@ -226,7 +231,7 @@ module _ {image : ImageParts} {s : State} {cpu : Cpu} {m : MemoryView} {len : �
       no-number n is = absurd (subst IsNoNumber is b.plain.1)
 
       at : (a : ℕ) → operand_value (shown image) s x ≡ Some (Code a) → calls_function (shown image) s (next s len) a ≢ None
-          → StepOf image s m (inst.CallAt x) len (calls_function (shown image) s (next s len) a)
+          → StepOf image live s m (inst.CallAt x) len (calls_function (shown image) s (next s len) a)
       at a value h =
           let word : read_word x (words_over s m) ≡ a = value-word b x (Code a) b.plain.0 no-number value in
           record {
@@ -239,6 +244,6 @@ module _ {image : ImageParts} {s : State} {cpu : Cpu} {m : MemoryView} {len : �
             );
           }
 
-      go : (o : Option Value) → operand_value (shown image) s x ≡ o → calls_value (shown image) s (next s len) o ≢ None → StepOf image s m (inst.CallAt x) len (calls_value (shown image) s (next s len) o)
+      go : (o : Option Value) → operand_value (shown image) s x ≡ o → calls_value (shown image) s (next s len) o ≢ None → StepOf image live s m (inst.CallAt x) len (calls_value (shown image) s (next s len) o)
       go (Some (Code a)) e h = at a e h
       go o e h = absurd (h refl)

@@ -1,5 +1,6 @@
 pub mod Lists
 pub mod Holding
+pub mod Heaps
 pub mod Bounds
 pub mod Tables
 pub mod Changing
@@ -14,6 +15,7 @@ pub mod FirstData
 pub mod FirstState
 pub mod Spelled
 pub mod Operating
+pub mod Telling
 pub mod Grounding
 pub mod OperandWords
 pub mod Putting
@@ -24,3 +26,4 @@ pub mod Forms
 pub mod StackForms
 pub mod Table
 pub mod Advancing
+pub mod Falling

@@ -1,13 +1,16 @@
 -- The objects of a store: where each stands, and where they stand once a value of one was replaced.
-use Rattle.std.proofs.Common.{◌≡◌, ◌≢◌, ◌⊎◌, inl, inr, ◌+◌, ◌%◌, ◌≤◌, ℕ, zero, suc, Bool, Some, arith, refl, ◌∙◌, ap, [], ◌∷◌, ◌++◌, length, slice_get, slice_set, Option, None, slice_index}
+use Rattle.std.proofs.Common.{◌≡◌, ◌≢◌, ◌⊎◌, inl, inr, ◌+◌, ◌%◌, ◌≤◌, ℕ, zero, suc, Bool, Some, arith, refl, sym, ◌∙◌, ap, [], ◌∷◌, ◌++◌, length, slice_get, slice_set, Option, None, slice_index, List}
 use Rattle.std.specs.Option.{option_map, option_and_then}
 use Rattle.std.proofs.lemmas.Option.{slice_get-map, get_or_from_slice_get}
-use Rattle.std.proofs.lemmas.List.{length-set}
+use Rattle.std.proofs.lemmas.List.{length-set, length-append}
+use Rattle.tal_image.specs.Image.{ImageParts}
+use Rattle.tal_image.specs.Shown.{shown}
+use Rattle.object_layout.specs.Classes.{ShapesView, Need, rounded_up}
 use Rattle.typed_machine.specs.Values.{Value, ObjectShape, InstanceOf, ArrayOf}
-use Rattle.typed_machine.specs.Stores.{Object, Store, places_in, set_value, with_value}
+use Rattle.typed_machine.specs.Stores.{Object, Store, places_in, set_value, with_value, value_count, need}
 use Rattle.typed_machine.specs.States.{State, shapes_of, places_of}
 use Rattle.typed_machine.specs.Words.{head_values, object_values}
-use Rattle.word_machine.specs.Standing.{end_of, IsInside, ObjectsLie}
+use Rattle.word_machine.specs.Standing.{end_of, IsInside, ObjectsLie, BlocksStand}
 
 -- ---- place and shape
 
@@ -69,14 +72,15 @@ words-set o j v = go o.shape
     go (ArrayOf k n) = let at : 2 + j ≡ suc (suc j) = omega arith in rw at refl
 
 -- an object of before
-record Stood (store : Store) (k : ℕ) (p : Object) : Type 0 where
-  before : Object
-  there : slice_get store k ≡ Some before
-  place : p.place ≡ before.place
-  count : length (object_values p) ≡ length (object_values before)
+pub record Stood (store : Store) (k : ℕ) (p : Object) : Type 0 where
+  pub before : Object
+  pub there : slice_get store k ≡ Some before
+  pub place : p.place ≡ before.place
+  pub shape : p.shape ≡ before.shape
+  pub count : length (object_values p) ≡ length (object_values before)
 
 -- where each object stood
-stood : (store : Store) (i j : ℕ) (v : Value) (k : ℕ) (p : Object) → slice_get (set_value store i j v) k ≡ Some p → Stood store k p
+pub stood : (store : Store) (i j : ℕ) (v : Value) (k : ℕ) (p : Object) → slice_get (set_value store i j v) k ≡ Some p → Stood store k p
 stood store i j v k p h = go (store-read store i j v k p h)
   where
     go : Replaced store i j v k p → Stood store k p
@@ -84,14 +88,15 @@ stood store i j v k p h = go (store-read store i j v k p h)
       before = o;
       there = rw at there;
       place = rw is refl;
+      shape = rw is refl;
       count = rw (is, words-set o j v) (length-set (object_values o) (length (head_values o.shape) + j) v);
     }
-    go (inr (other, there)) = record { before = p; there = there; place = refl; count = refl }
+    go (inr (other, there)) = record { before = p; there = there; place = refl; shape = refl; count = refl }
 
 -- it is inside where that one was
-stood-inside : (s : State) (store : Store) (k : ℕ) (p : Object) (q : Stood store k p) → IsInside s q.before → IsInside s p
-stood-inside s store k p q (inl (low, top)) = let place = q.place in let count = q.count in inl (omega arith, omega arith)
-stood-inside s store k p q (inr (low, top)) = let place = q.place in let count = q.count in inr (omega arith, omega arith)
+stood-inside : (image : ImageParts) (s : State) (store : Store) (k : ℕ) (p : Object) (q : Stood store k p) → IsInside image s k q.before → IsInside image s k p
+stood-inside image s store k p q (inl (row, low, top)) = let place = q.place in let count = q.count in inl (row, omega arith, omega arith)
+stood-inside image s store k p q (inr (heap, low, top)) = let place = q.place in let count = q.count in inr (heap, omega arith, omega arith)
 
 -- two of them are apart where those were
 stood-apart : (store : Store) (k l : ℕ) (p r : Object) (q : Stood store k p) (t : Stood store l r)
@@ -101,13 +106,37 @@ stood-apart store k l p r q t (inl below) = let place = q.place in let count = q
 stood-apart store k l p r q t (inr above) = let place = q.place in let other = t.place in let count = t.count in inr (omega arith)
 
 -- so objects lie as they did
-pub still-lie : (live : ℕ → Bool) (s : State) (i j : ℕ) (v : Value) → ObjectsLie live s → ObjectsLie live (record s { store = set_value s.store i j v })
-still-lie live s i j v lie = record {
+pub still-lie : (image : ImageParts) (live : ℕ → Bool) (s : State) (i j : ℕ) (v : Value) → ObjectsLie image live s
+    → ObjectsLie image live (record s { store = set_value s.store i j v })
+still-lie image live s i j v lie = record {
   short = lie.short;
   aligned = λ k p lives h. let q = stood s.store i j v k p h in ap (λ n. n % 4) q.place ∙ lie.aligned k q.before lives q.there;
-  inside = λ k p lives h. let q = stood s.store i j v k p h in stood-inside s s.store k p q (lie.inside k q.before lives q.there);
+  inside = λ k p lives h. let q = stood s.store i j v k p h in stood-inside image s s.store k p q (lie.inside k q.before lives q.there);
   apart = λ k l p r lives live_too differ h e.
       let q = stood s.store i j v k p h in
       let t = stood s.store i j v l r e in
       stood-apart s.store k l p r q t (lie.apart k l q.before t.before lives live_too differ q.there t.there);
 }
+
+-- they stand in the blocks in which they stood
+pub still-blocks : (image : ImageParts) (live : ℕ → Bool) (store : Store) (i j : ℕ) (v : Value) (words : List ℕ) → BlocksStand image live store words
+    → BlocksStand image live (set_value store i j v) words
+still-blocks image live store i j v words h = record {
+  formed = h.formed;
+  size = h.size;
+  objects = λ k p lives behind there.
+      let q = stood store i j v k p there in
+      let b = h.objects k q.before lives behind q.there in
+      record { block = b.block; place = q.place ∙ b.place; used = b.used; exact = b.exact ∙ ap (λ shape. need (shown image).shapes shape) (sym q.shape) };
+}
+
+-- ---- the words of an object
+
+-- its block has two words more than it, at least
+pub object-need : (s : ShapesView) (o : Object) → length o.values ≡ value_count s o.shape → length (object_values o) + 2 ≤ need s o.shape
+unfolding object_values head_values value_count Need rounded_up
+object-need s o count = go o.shape count
+  where
+    go : (shape : ObjectShape) → length o.values ≡ value_count s shape → length (head_values shape ++ o.values) + 2 ≤ need s shape
+    go (InstanceOf c) e = omega (arith, e)
+    go (ArrayOf k n) e = omega (arith, e)

@@ -19,16 +19,16 @@ use Rattle.tal_types.specs.Shown.{ShownImage}
 use Rattle.tal_image.specs.Image.{ImageParts}
 use Rattle.tal_image.specs.Conditions.{marked_number}
 use Rattle.tal_image.specs.Shown.{shown}
-use Rattle.typed_machine.specs.Values.{Value, Number, Word, all_objects}
+use Rattle.typed_machine.specs.Values.{Value, Number, Word}
 use Rattle.typed_machine.specs.States.{State, places_of, with_register}
 use Rattle.typed_machine.specs.Operands.{Spot, AtStatic, AtSlot, AtValue, AtLength, AtHead, AtMethod, AtDisplay, spot_of, read_spot, spot_word, marked_value, immediate_value, operand_value, word_named, is_memory, word_among, number_in, is_number}
 use Rattle.typed_machine.specs.Words.{register_words, esp_of, words_of}
 use Rattle.word_machine.specs.Memory.{MemoryView, word_of, is_mapped, word_at}
-use Rattle.word_machine.specs.Laws.{SpotLives}
 use Rattle.word_machine.proofs.Spots.{register-word}
-use Rattle.word_machine.proofs.Spelled.{SparesIndex}
+use Rattle.word_machine.proofs.Spelled.{MayUse}
 use Rattle.word_machine.proofs.Operating.{Agrees, AllReached}
-use Rattle.word_machine.proofs.Grounding.{words_over, there, Begins}
+use Rattle.word_machine.proofs.Telling.{there}
+use Rattle.word_machine.proofs.Grounding.{words_over, Begins}
 
 -- ---- registers
 
@@ -40,16 +40,6 @@ register-written s places esp Esp v h = absurd (cc)
 register-written s places esp r v h = refl
 
 -- ---- spots
-
--- where all objects live, the object of a spot does
-pub spot-lives : (spot : Spot) → SpotLives all_objects spot
-spot-lives (AtStatic j) = tt
-spot-lives (AtSlot i) = tt
-spot-lives (AtValue i j) = refl
-spot-lives (AtLength i) = refl
-spot-lives (AtHead i) = refl
-spot-lives (AtMethod c m) = tt
-spot-lives (AtDisplay c d) = tt
 
 -- the word at a spot that has a value is the value's
 pub spot-value_word : (v : ShapesView) (s : State) (spot : Spot) (w : Value) → read_spot v s spot ≡ Some w → spot_word v s spot ≡ Some (Word (places_of s) w)
@@ -88,25 +78,25 @@ pub all-reached : (image : ImageParts) (s : State) (m : MemoryView) (xs : List O
 all-reached image s m [] h = tt
 all-reached image s m (x ∷ xs) h = (h.0.reached, all-reached image s m xs h.1)
 
-module _ {image : ImageParts} {s : State} {cpu : Cpu} {m : MemoryView} {i : Inst} {len : ℕ} (b : Begins image s cpu m i len) where
-  -- the word at an operand's spot stands at its address
-  pub spot-read : (x : Mem) → SparesIndex (M x) → (spot : Spot) (w : ℕ) → spot_of (shown image).shapes s x ≡ Some spot → spot_word (shown image).shapes s spot ≡ Some w
-      → word_of m (address_of x (words_over s m).regs) ≡ Some w
+module _ {image : ImageParts} {live : ℕ → Bool} {s : State} {cpu : Cpu} {m : MemoryView} {i : Inst} {len : ℕ} (b : Begins image live s cpu m i len) where
+  -- the word at an operand's spot stands at its address, which is mapped
+  pub spot-read : (x : Mem) → MayUse image live s (M x) → (spot : Spot) (w : ℕ) → spot_of (shown image).shapes s x ≡ Some spot → spot_word (shown image).shapes s spot ≡ Some w
+      → (is_mapped m (address_of x (words_over s m).regs) ≡ true) × (word_of m (address_of x (words_over s m).regs) ≡ Some w)
   unfolding words_of
   spot-read x spares spot w e f =
-      subst (λ regs. word_of m (address_of x regs) ≡ Some w) b.grounds.stand.processor.regs
-      (b.laws.reads image all_objects s cpu m b.grounds x spares spot w e (spot-lives spot) f)
+      subst (λ regs. (is_mapped m (address_of x regs) ≡ true) × (word_of m (address_of x regs) ≡ Some w)) b.grounds.stand.processor.regs
+      (b.laws.reads image live s cpu m b.grounds x spares.0 spot w e (spares.1 spot e) f)
 
   -- so an operand with a spot that has a word is there
-  pub spot-there : (x : Mem) → SparesIndex (M x) → (spot : Spot) (w : ℕ) → spot_of (shown image).shapes s x ≡ Some spot → spot_word (shown image).shapes s spot ≡ Some w
+  pub spot-there : (x : Mem) → MayUse image live s (M x) → (spot : Spot) (w : ℕ) → spot_of (shown image).shapes s x ≡ Some spot → spot_word (shown image).shapes s spot ≡ Some w
       → OperandThere image s m (M x)
   spot-there x spares spot w e f =
-      let at = there m (address_of x (words_over s m).regs) w (spot-read x spares spot w e f) in
+      let at = spot-read x spares spot w e f in
       let named : word_named (shown image) s (M x) ≡ w = rw (e, f) refl in
-      record { reached = at.0; agrees = at.1 ∙ sym named }
+      record { reached = at.0; agrees = there m (address_of x (words_over s m).regs) w at.1 ∙ sym named }
 
   -- an operand with a value is there
-  pub value-there : (x : Operand) (v : Value) → SparesIndex x → operand_value (shown image) s x ≡ Some v → OperandThere image s m x
+  pub value-there : (x : Operand) (v : Value) → MayUse image live s x → operand_value (shown image) s x ≡ Some v → OperandThere image s m x
   unfolding operand_value
   value-there (R r) v spares e = record { reached = tt; agrees = tt }
   value-there (I n) v spares e = record { reached = tt; agrees = tt }
@@ -117,7 +107,7 @@ module _ {image : ImageParts} {s : State} {cpu : Cpu} {m : MemoryView} {i : Inst
       go (Some spot) f g = spot-there x spares spot (Word (places_of s) v) f (spot-value_word (shown image).shapes s spot v g)
 
   -- an operand in memory has the word of its value
-  memory-word : (x : Mem) (v : Value) → SparesIndex (M x) → operand_value (shown image) s (M x) ≡ Some v → read_word (M x) (words_over s m) ≡ Word (places_of s) v
+  memory-word : (x : Mem) (v : Value) → MayUse image live s (M x) → operand_value (shown image) s (M x) ≡ Some v → read_word (M x) (words_over s m) ≡ Word (places_of s) v
   unfolding operand_value
   memory-word x v spares e = go (spot_of (shown image).shapes s x) refl e
     where
@@ -125,8 +115,8 @@ module _ {image : ImageParts} {s : State} {cpu : Cpu} {m : MemoryView} {i : Inst
           → word_at m (address_of x (words_over s m).regs) ≡ Word (places_of s) v
       go None f g = absurd (cc)
       go (Some spot) f g =
-          (there m (address_of x (words_over s m).regs) (Word (places_of s) v)
-          (spot-read x spares spot (Word (places_of s) v) f (spot-value_word (shown image).shapes s spot v g))).1
+          there m (address_of x (words_over s m).regs) (Word (places_of s) v)
+          (spot-read x spares spot (Word (places_of s) v) f (spot-value_word (shown image).shapes s spot v g)).1
 
   -- the number of an immediate is the word of its value, marked or not
   immediate-word : (n : ℕ) → marked_number i ≡ Some n → Word (places_of s) (immediate_value (shown image) s.thread.place n) ≡ n
@@ -136,11 +126,11 @@ module _ {image : ImageParts} {s : State} {cpu : Cpu} {m : MemoryView} {i : Inst
       go : (o : Option Mark) → (shown image).mark_at s.thread.place ≡ o → Word (places_of s) (option_map_or (marked_value n) o (Number n)) ≡ n
       go None f = refl
       go (Some mark) f =
-          (b.laws.tells image b.grounds.well_typed.formed).words s.thread.place n b.placed mark all_objects s.store b.here f (ap marked_number b.is ∙ e)
+          (b.laws.tells image b.grounds.well_typed.formed).words s.thread.place n b.placed mark live s.store b.here f (ap marked_number b.is ∙ e)
           (record { stand = b.grounds.typed.store.arrays; alive = b.grounds.typed.store.arrays_live })
 
   -- the word of an operand is its value's, where an immediate may be marked
-  pub value-word : (x : Operand) (v : Value) → SparesIndex x → ((n : ℕ) → x ≡ I n → marked_number i ≡ Some n) → operand_value (shown image) s x ≡ Some v
+  pub value-word : (x : Operand) (v : Value) → MayUse image live s x → ((n : ℕ) → x ≡ I n → marked_number i ≡ Some n) → operand_value (shown image) s x ≡ Some v
       → read_word x (words_over s m) ≡ Word (places_of s) v
   unfolding operand_value words_of
   value-word (R r) v spares marks e = go (same r Esp) refl e
@@ -152,7 +142,7 @@ module _ {image : ImageParts} {s : State} {cpu : Cpu} {m : MemoryView} {i : Inst
   value-word (I n) v spares marks e = let is : immediate_value (shown image) s.thread.place n ≡ v = cc in sym (immediate-word n (marks n refl)) ∙ ap (Word (places_of s)) is
 
   -- an operand that is a number is there
-  pub number-there : (x : Operand) → SparesIndex x → is_number (shown image) s x ≡ true → OperandThere image s m x
+  pub number-there : (x : Operand) → MayUse image live s x → is_number (shown image) s x ≡ true → OperandThere image s m x
   unfolding is_number
   number-there x spares e = go (operand_value (shown image) s x) refl e
     where

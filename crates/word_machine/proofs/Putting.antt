@@ -12,13 +12,14 @@ use Rattle.ia32_code.specs.declared.instruction.Operand.TheVariants.{R, M, I}
 use Rattle.ia32_code.specs.declared.instruction.Inst.{Inst}
 use Rattle.ia32_step.specs.declared.cpu.Cpu.{Cpu}
 use Rattle.ia32_step.specs.Operands.{address_of, put_word}
+use Rattle.heap_words.specs.Blocks.{FormedHeap}
 use Rattle.object_layout.specs.declared.rows.FieldTy.{FieldTy}
 use Rattle.object_layout.specs.Classes.{ShapesView, Fields, Element}
 use Rattle.tal_types.specs.Contexts.{same}
 use Rattle.tal_types.specs.Shown.{ShownImage}
 use Rattle.tal_image.specs.Image.{ImageParts}
 use Rattle.tal_image.specs.Shown.{shown}
-use Rattle.typed_machine.specs.Values.{Value, ObjectShape, InstanceOf, ArrayOf, Word, all_objects}
+use Rattle.typed_machine.specs.Values.{Value, ObjectShape, InstanceOf, ArrayOf, Word}
 use Rattle.typed_machine.specs.Stores.{Object, value_type, value_count, value_at}
 use Rattle.typed_machine.specs.States.{State, places_of, with_register}
 use Rattle.typed_machine.specs.Operands.{Spot, AtStatic, AtSlot, AtValue, AtLength, AtHead, AtMethod, AtDisplay, spot_of, read_spot, spot_word, may_hold, type_there, provided, write_spot, write_operand}
@@ -27,9 +28,10 @@ use Rattle.word_machine.specs.Memory.{MemoryView, is_mapped, word_at}
 use Rattle.word_machine.specs.Standing.{MemoryStands}
 use Rattle.word_machine.proofs.Spots.{spot-address}
 use Rattle.word_machine.proofs.Objects.{places-set}
-use Rattle.word_machine.proofs.Spelled.{SparesIndex}
-use Rattle.word_machine.proofs.Grounding.{words_over, told-same, written-told, thread-stands, same-stands, Begins}
-use Rattle.word_machine.proofs.OperandWords.{register-written, spot-lives, spot-value_word, spot-there}
+use Rattle.word_machine.proofs.Spelled.{MayUse}
+use Rattle.word_machine.proofs.Telling.{same-told, written-told}
+use Rattle.word_machine.proofs.Grounding.{words_over, thread-stands, same-stands, Begins}
+use Rattle.word_machine.proofs.OperandWords.{register-written, spot-value_word, spot-there}
 use Rattle.ia32_step.specs.Reaches.{IsReached}
 
 -- what a test lets through
@@ -59,7 +61,7 @@ typed-inside v (ArrayOf k n) j t h = go (nat_lt j n) refl h
     go true e g = grind (arith, nat_tests)
     go false e g = absurd (cc)
 
-module _ {image : ImageParts} {s : State} {cpu : Cpu} {m : MemoryView} {i : Inst} {len : ℕ} (b : Begins image s cpu m i len) where
+module _ {image : ImageParts} {live : ℕ → Bool} {s : State} {cpu : Cpu} {m : MemoryView} {i : Inst} {len : ℕ} (b : Begins image live s cpu m i len) where
   -- a value of an object, whose type is there
   value-inside : (o j : ℕ) (t : FieldTy) → type_there (shown image) s o j ≡ Some t → (w : Value) × (value_at s.store o j ≡ Some w)
   unfolding value_at
@@ -75,7 +77,7 @@ module _ {image : ImageParts} {s : State} {cpu : Cpu} {m : MemoryView} {i : Inst
           inside y.values j (rw count few)
 
   -- a spot that is written has a word
-  pub written-there : (x : Mem) → SparesIndex (M x) → (spot : Spot) (w : Value) (u : State) → spot_of (shown image).shapes s x ≡ Some spot → write_spot (shown image) s spot w ≡ Some u
+  pub written-there : (x : Mem) → MayUse image live s (M x) → (spot : Spot) (w : Value) (u : State) → spot_of (shown image).shapes s x ≡ Some spot → write_spot (shown image) s spot w ≡ Some u
       → (n : ℕ) × (spot_word (shown image).shapes s spot ≡ Some n)
   unfolding write_spot read_spot shown
   written-there x spares (AtStatic j) w u e h =
@@ -84,7 +86,7 @@ module _ {image : ImageParts} {s : State} {cpu : Cpu} {m : MemoryView} {i : Inst
       let at = inside s.statics j (rw b.grounds.typed.statics.count few) in
       (_, spot-value_word (shown image).shapes s (AtStatic j) at.0 at.1)
   written-there x spares (AtSlot k) w u e h =
-      let at = inside s.values k (spot-address (shown image).shapes s (AtSlot k) cpu b.grounds.stand.processor x spares e).1 in
+      let at = inside s.values k (spot-address (shown image).shapes s (AtSlot k) cpu b.grounds.stand.processor x spares.0 e).1 in
       (_, spot-value_word (shown image).shapes s (AtSlot k) at.0 at.1)
   written-there x spares (AtValue o j) w u e h =
       let held = held-type (shown image) s (type_there (shown image) s o j) w (provided-is _ _ u h).0 in
@@ -117,14 +119,14 @@ write-leaves v s (AtMethod c m) w u h = absurd (cc)
 write-leaves v s (AtDisplay c d) w u h = absurd (cc)
 
 -- what stands after a word is put for a value
-pub record PutFor (image : ImageParts) (s u : State) (m after : MemoryView) (d : Operand) (w : ℕ) : Type 0 where
+pub record PutFor (image : ImageParts) (live : ℕ → Bool) (s u : State) (m after : MemoryView) (d : Operand) (w : ℕ) : Type 0 where
   pub regs : (put_word d w (words_over s m)).regs ≡ register_words (places_of u) u.thread.regs (esp_of u)
   pub flags : u.thread.flags ≡ s.thread.flags
-  pub memory : MemoryStands image all_objects u after
+  pub memory : MemoryStands image live u after
 
-module _ {image : ImageParts} {s : State} {cpu : Cpu} {m : MemoryView} {i : Inst} {len : ℕ} (b : Begins image s cpu m i len) where
+module _ {image : ImageParts} {live : ℕ → Bool} {s : State} {cpu : Cpu} {m : MemoryView} {i : Inst} {len : ℕ} (b : Begins image live s cpu m i len) where
   -- a destination that is written names a word that is mapped
-  pub put-reached : (d : Operand) (w : Value) (u : State) → SparesIndex d → write_operand (shown image) s d w ≡ Some u → IsReached d (words_over s m) (is_mapped m)
+  pub put-reached : (d : Operand) (w : Value) (u : State) → MayUse image live s d → write_operand (shown image) s d w ≡ Some u → IsReached d (words_over s m) (is_mapped m)
   unfolding write_operand
   put-reached (R r) w u spares h = tt
   put-reached (I n) w u spares h = tt
@@ -138,33 +140,33 @@ module _ {image : ImageParts} {s : State} {cpu : Cpu} {m : MemoryView} {i : Inst
           (spot-there b x spares spot word.0 e word.1).reached
 
   -- where the word of a value is put, the words stand for the state with the value there
-  pub put-stands : (d : Operand) (w : Value) (u : State) (after : MemoryView) → SparesIndex d → write_operand (shown image) s d w ≡ Some u
+  pub put-stands : (d : Operand) (w : Value) (u : State) (after : MemoryView) → MayUse image live s d → write_operand (shown image) s d w ≡ Some u
       → ((a : ℕ) → word_at after a ≡ (put_word d (Word (places_of s) w) (words_over s m)).memory a) → ((a : ℕ) → is_mapped after a ≡ is_mapped m a)
-      → PutFor image s u m after d (Word (places_of s) w)
+      → FormedHeap after.heap → PutFor image live s u m after d (Word (places_of s) w)
   unfolding write_operand words_of
-  put-stands (I n) w u after spares h words mapped = absurd (cc)
-  put-stands (R r) w u after spares h words mapped =
+  put-stands (I n) w u after spares h words mapped formed = absurd (cc)
+  put-stands (R r) w u after spares h words mapped formed =
       let through = provided-is (not (same r Esp)) (with_register r w s) u h in
       let spared : same r Esp ≡ false = let t = through.0 in grind arith in
-      let kept = same-stands b.grounds.stand.memory after (λ a. told-same m after a (mapped a) (words a)) in
-      subst (λ y. PutFor image s y m after (R r) (Word (places_of s) w)) through.1 (record {
+      let kept = same-stands b.grounds.stand.memory after (same-told b.laws.heap m after b.grounds.stand.memory.blocks.formed formed words mapped) in
+      subst (λ y. PutFor image live s y m after (R r) (Word (places_of s) w)) through.1 (record {
         regs = register-written s (places_of s) (esp_of s) r w spared;
         flags = refl;
         memory = thread-stands kept _;
       })
-  put-stands (M x) w u after spares h words mapped = go (spot_of (shown image).shapes s x) refl h
+  put-stands (M x) w u after spares h words mapped formed = go (spot_of (shown image).shapes s x) refl h
     where
       go : (o : Option Spot) → spot_of (shown image).shapes s x ≡ o → option_and_then (λ spot. write_spot (shown image) s spot w) o ≡ Some u
-          → PutFor image s u m after (M x) (Word (places_of s) w)
+          → PutFor image live s u m after (M x) (Word (places_of s) w)
       go None e g = absurd (cc)
       go (Some spot) e g =
           let left = write-leaves (shown image) s spot w u g in
           let word = written-there b x spares spot w u e g in
           let at = (spot-there b x spares spot word.0 e word.1).reached in
-          let written = written-told m after (address_of x (words_over s m).regs) (Word (places_of s) w) at words mapped in
+          let written = written-told b.laws.heap m after b.grounds.stand.memory.blocks.formed formed (address_of x (words_over s m).regs) (Word (places_of s) w) at words mapped in
           record {
             regs = rw (left.places, left.thread, left.top) refl;
             flags = ap (λ t. t.flags) left.thread;
-            memory = b.laws.writes image all_objects s cpu m b.grounds x spares spot e (spot-lives spot) w u g after
+            memory = b.laws.writes image live s cpu m b.grounds x spares.0 spot e (spares.1 spot e) w u g after
                 (rw b.grounds.stand.processor.regs written);
           }

@@ -1,4 +1,4 @@
--- What a spelled instruction's operands are: one at most is in memory, and ESP is never an index.
+-- What a spelled instruction's operands are: one at most is in memory, ESP is never an index, and what is used lives.
 use Rattle.std.proofs.Common.{◌≡◌, ◌≢◌, ℕ, Bool, true, false, ◌&&◌, ◌⊎◌, inl, inr, Option, Some, None, refl, ap, arith}
 use Rattle.std.specs.Prelude.{◌==◌, if◌then◌else◌, option_map}
 use Rattle.ia32_code.specs.declared.instruction.Reg.{Reg}
@@ -17,6 +17,9 @@ use Rattle.ia32_code.specs.declared.spelling.Spelling.{Spelling}
 use Rattle.ia32_code.specs.declared.row.Row.{Row}
 use Rattle.ia32_code.specs.OperandForms.{number}
 use Rattle.ia32_code.specs.Spells.{text}
+use Rattle.tal_image.specs.Image.{ImageParts}
+use Rattle.typed_machine.specs.States.{State}
+use Rattle.typed_safety.specs.Laws.{PointsToLiving, OperandsLive}
 use Rattle.ia32_code.specs.Canonical.{usable, memory_form, shortest_form, with_form, is_absolute, alu_of, mov_of, test_of, step_of, imul2_of, imul3_of, shift_of, push_of, Canonical}
 
 -- ---- what is said of operands
@@ -38,39 +41,39 @@ IsNoNumber (R r) = Unit {0}
 IsNoNumber (M x) = Unit {0}
 IsNoNumber (I n) = ⊥
 
--- of two operands both spare ESP as their index, and one at most is in memory
-pub record PairIsPlain (d x : Operand) : Type 0 where
-  pub first : SparesIndex d
-  pub second : SparesIndex x
+-- of two operands this is said of both, and one at most is in memory
+pub record PairIsPlain (Said : Operand → Type 0) (d x : Operand) : Type 0 where
+  pub first : Said d
+  pub second : Said x
   pub one : OneInMemory d x
 
--- the operands of an instruction that are read or written
-abbrev pub IsPlain : Inst → Type 0
-IsPlain (inst.Alu op d x) = PairIsPlain d x
-IsPlain (inst.Mov d x) = PairIsPlain d x
-IsPlain (inst.Lea d x) = Unit {0}
-IsPlain (inst.Test d x) = PairIsPlain d x
-IsPlain (inst.Inc d) = SparesIndex d
-IsPlain (inst.Dec d) = SparesIndex d
-IsPlain (inst.Not d) = SparesIndex d
-IsPlain (inst.Neg d) = SparesIndex d
-IsPlain (inst.Mul x) = SparesIndex x
-IsPlain (inst.Imul1 x) = SparesIndex x
-IsPlain (inst.Div x) = SparesIndex x
-IsPlain (inst.Idiv x) = SparesIndex x
-IsPlain (inst.Imul2 d x) = PairIsPlain d x
-IsPlain (inst.Imul3 d x n) = PairIsPlain d x
-IsPlain (inst.Shift op d by) = SparesIndex d
-IsPlain inst.Cdq = Unit {0}
-IsPlain inst.Nop = Unit {0}
-IsPlain (inst.Push x) = SparesIndex x
-IsPlain (inst.Pop r) = Unit {0}
-IsPlain (inst.CallRel z) = Unit {0}
-IsPlain (inst.CallAt x) = SparesIndex x × IsNoNumber x
-IsPlain inst.Ret = Unit {0}
-IsPlain (inst.Jmp z) = Unit {0}
-IsPlain (inst.Jcc c z) = Unit {0}
-IsPlain (inst.Priv op arg) = Unit {0}
+-- so it is with the operands of an instruction that are read or written
+abbrev pub IsPlain : (Operand → Type 0) → Inst → Type 0
+IsPlain Said (inst.Alu op d x) = PairIsPlain Said d x
+IsPlain Said (inst.Mov d x) = PairIsPlain Said d x
+IsPlain Said (inst.Lea d x) = Unit {0}
+IsPlain Said (inst.Test d x) = PairIsPlain Said d x
+IsPlain Said (inst.Inc d) = Said d
+IsPlain Said (inst.Dec d) = Said d
+IsPlain Said (inst.Not d) = Said d
+IsPlain Said (inst.Neg d) = Said d
+IsPlain Said (inst.Mul x) = Said x
+IsPlain Said (inst.Imul1 x) = Said x
+IsPlain Said (inst.Div x) = Said x
+IsPlain Said (inst.Idiv x) = Said x
+IsPlain Said (inst.Imul2 d x) = PairIsPlain Said d x
+IsPlain Said (inst.Imul3 d x n) = PairIsPlain Said d x
+IsPlain Said (inst.Shift op d by) = Said d
+IsPlain Said inst.Cdq = Unit {0}
+IsPlain Said inst.Nop = Unit {0}
+IsPlain Said (inst.Push x) = Said x
+IsPlain Said (inst.Pop r) = Unit {0}
+IsPlain Said (inst.CallRel z) = Unit {0}
+IsPlain Said (inst.CallAt x) = Said x × IsNoNumber x
+IsPlain Said inst.Ret = Unit {0}
+IsPlain Said (inst.Jmp z) = Unit {0}
+IsPlain Said (inst.Jcc c z) = Unit {0}
+IsPlain Said (inst.Priv op arg) = Unit {0}
 
 -- ---- forms of memory operands
 
@@ -150,7 +153,7 @@ beside-number (M m) n = tt
 beside-number (I k) n = tt
 
 -- the operations on two operands
-alu_of-plain : (op : Alu) (dst src : Operand) → IsSpelled (alu_of op dst src) → PairIsPlain dst src
+alu_of-plain : (op : Alu) (dst src : Operand) → IsSpelled (alu_of op dst src) → PairIsPlain SparesIndex dst src
 alu_of-plain op dst (R r) h = record { first = formed dst _ h; second = tt; one = beside-register dst r }
 alu_of-plain op dst (I n) h = record { first = formed dst _ h; second = tt; one = beside-number dst n }
 alu_of-plain op (R r) (M m) h = record { first = tt; second = formed (M m) _ h; one = tt }
@@ -158,7 +161,7 @@ alu_of-plain op (M k) (M m) h = absurd (h refl)
 alu_of-plain op (I k) (M m) h = absurd (h refl)
 
 -- MOV
-mov_of-plain : (dst src : Operand) → IsSpelled (mov_of dst src) → PairIsPlain dst src
+mov_of-plain : (dst src : Operand) → IsSpelled (mov_of dst src) → PairIsPlain SparesIndex dst src
 mov_of-plain (R d) (R r) h = record { first = tt; second = tt; one = tt }
 mov_of-plain (R d) (I n) h = record { first = tt; second = tt; one = tt }
 mov_of-plain (R d) (M m) h = record { first = tt; second = eax-or-form d m _ _ h; one = tt }
@@ -168,7 +171,7 @@ mov_of-plain (M m) (M k) h = absurd (h refl)
 mov_of-plain (I n) src h = absurd (h refl)
 
 -- TEST
-test_of-plain : (dst src : Operand) → IsSpelled (test_of dst src) → PairIsPlain dst src
+test_of-plain : (dst src : Operand) → IsSpelled (test_of dst src) → PairIsPlain SparesIndex dst src
 test_of-plain dst (R r) h = record { first = formed dst _ h; second = tt; one = beside-register dst r }
 test_of-plain dst (I n) h = record { first = formed dst _ h; second = tt; one = beside-number dst n }
 test_of-plain dst (M m) h = absurd (h refl)
@@ -180,13 +183,13 @@ step_of-plain short row g (M m) h = formed (M m) _ h
 step_of-plain short row g (I n) h = tt
 
 -- IMUL of two operands
-imul2_of-plain : (dst src : Operand) → IsSpelled (imul2_of dst src) → PairIsPlain dst src
+imul2_of-plain : (dst src : Operand) → IsSpelled (imul2_of dst src) → PairIsPlain SparesIndex dst src
 imul2_of-plain (R d) src h = record { first = tt; second = formed src _ h; one = tt }
 imul2_of-plain (M m) src h = absurd (h refl)
 imul2_of-plain (I n) src h = absurd (h refl)
 
 -- IMUL of three operands
-imul3_of-plain : (dst src : Operand) (n : ℕ) → IsSpelled (imul3_of dst src n) → PairIsPlain dst src
+imul3_of-plain : (dst src : Operand) (n : ℕ) → IsSpelled (imul3_of dst src n) → PairIsPlain SparesIndex dst src
 imul3_of-plain (R d) src n h = record { first = tt; second = formed src _ h; one = tt }
 imul3_of-plain (M m) src n h = absurd (h refl)
 imul3_of-plain (I k) src n h = absurd (h refl)
@@ -203,7 +206,7 @@ push_of-plain (M m) h = formed (M m) _ h
 push_of-plain (I n) h = tt
 
 -- an instruction with a canonical spelling
-pub Canonical-plain : (i : Inst) → Canonical i ≢ None → IsPlain i
+pub Canonical-plain : (i : Inst) → Canonical i ≢ None → IsPlain SparesIndex i
 Canonical-plain (inst.Alu op d x) h = alu_of-plain op d x h
 Canonical-plain (inst.Mov d x) h = mov_of-plain d x h
 Canonical-plain (inst.Lea d x) h = tt
@@ -229,3 +232,49 @@ Canonical-plain inst.Ret h = tt
 Canonical-plain (inst.Jmp z) h = tt
 Canonical-plain (inst.Jcc c z) h = tt
 Canonical-plain (inst.Priv op arg) h = tt
+
+-- ---- operands in memory that may be used
+
+-- an operand in memory spares ESP as its index, and what it points to lives
+abbrev pub MayUse : ImageParts → (ℕ → Bool) → State → Operand → Type 0
+MayUse image live s (M x) = (x.index ≢ Some Esp) × PointsToLiving image live s (M x)
+MayUse image live s x = Unit {0}
+
+module _ (image : ImageParts) (live : ℕ → Bool) (s : State) where
+  -- so it is with one operand
+  may-use : (x : Operand) → SparesIndex x → PointsToLiving image live s x → MayUse image live s x
+  may-use (R r) spares lives = tt
+  may-use (M a) spares lives = (spares, lives)
+  may-use (I n) spares lives = tt
+
+  -- and with two
+  both-used : (d x : Operand) → PairIsPlain SparesIndex d x → PointsToLiving image live s d × PointsToLiving image live s x → PairIsPlain (MayUse image live s) d x
+  both-used d x p lives = record { first = may-use d p.first lives.0; second = may-use x p.second lives.1; one = p.one }
+
+  -- and with those of an instruction
+  pub plain-used : (i : Inst) → IsPlain SparesIndex i → OperandsLive image live s i → IsPlain (MayUse image live s) i
+  plain-used (inst.Alu op d x) p lives = both-used d x p lives
+  plain-used (inst.Mov d x) p lives = both-used d x p lives
+  plain-used (inst.Lea d x) p lives = tt
+  plain-used (inst.Test d x) p lives = both-used d x p lives
+  plain-used (inst.Inc d) p lives = may-use d p lives
+  plain-used (inst.Dec d) p lives = may-use d p lives
+  plain-used (inst.Not d) p lives = may-use d p lives
+  plain-used (inst.Neg d) p lives = may-use d p lives
+  plain-used (inst.Mul x) p lives = may-use x p lives
+  plain-used (inst.Imul1 x) p lives = may-use x p lives
+  plain-used (inst.Div x) p lives = may-use x p lives
+  plain-used (inst.Idiv x) p lives = may-use x p lives
+  plain-used (inst.Imul2 d x) p lives = both-used d x p lives
+  plain-used (inst.Imul3 d x n) p lives = both-used d x p lives
+  plain-used (inst.Shift op d by) p lives = may-use d p lives
+  plain-used inst.Cdq p lives = tt
+  plain-used inst.Nop p lives = tt
+  plain-used (inst.Push x) p lives = may-use x p lives
+  plain-used (inst.Pop r) p lives = tt
+  plain-used (inst.CallRel z) p lives = tt
+  plain-used (inst.CallAt x) p lives = (may-use x p.0 lives, p.1)
+  plain-used inst.Ret p lives = tt
+  plain-used (inst.Jmp z) p lives = tt
+  plain-used (inst.Jcc c z) p lives = tt
+  plain-used (inst.Priv op arg) p lives = tt

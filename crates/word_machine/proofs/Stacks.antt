@@ -1,5 +1,5 @@
 -- The running stack: the word on top, and what pushing and dropping leave.
-use Rattle.std.proofs.Common.{◌≡◌, ◌≢◌, ◌⊎◌, inl, inr, ⊎_elim, ◌+◌, ◌-◌, ◌*◌, ◌<◌, ◌≤◌, ◌==◌, ℕ, Bool, true, false, if◌then◌else◌, arith, refl, subst, List, [], ◌∷◌, length, drop, Some, slice_get}
+use Rattle.std.proofs.Common.{◌≡◌, ◌≢◌, ◌⊎◌, inl, inr, ⊎_elim, ◌+◌, ◌-◌, ◌*◌, ◌<◌, ◌≤◌, ◌==◌, ℕ, Bool, true, false, if◌then◌else◌, arith, refl, ap, subst, List, [], ◌∷◌, length, drop, Some, slice_get}
 use Rattle.std.specs.Option.{option_map_or}
 use Rattle.std.proofs.lemmas.Bool.Decides.{nat_tests}
 use Rattle.std.proofs.lemmas.List.{length-drop}
@@ -21,7 +21,7 @@ use Rattle.word_machine.specs.Standing.{HoldsValues, kept_values, values_at, IsI
 use Rattle.word_machine.specs.Following.{Grounds}
 use Rattle.word_machine.specs.Laws.{Written, PushLaw, DropLaw}
 use Rattle.word_machine.proofs.Holding.{Outside, Change, holds-pushed, holds-dropped}
-use Rattle.word_machine.proofs.Changing.{StackHolds, tables-kept, descriptors-kept, room-kept, statics-kept, object-kept, stack-kept}
+use Rattle.word_machine.proofs.Changing.{StackHolds, tables-kept, descriptors-kept, room-kept, blocks-kept, statics-kept, object-kept, stack-kept}
 use Rattle.word_machine.proofs.Bounds.{few-stacks, runs-there}
 
 -- what holds of a stack's values holds of them where the running stack has others, if it holds of those
@@ -39,8 +39,8 @@ stacks-with P s values n here other = go (n == s.current) refl (λ e. rw e at (o
     go false e f = f e
 
 -- where objects lie does not hang on the running stack
-same-lie : (live : ℕ → Bool) (s : State) (values : List Value) → ObjectsLie live s → ObjectsLie live (with_values values s)
-same-lie live s values lie = record { short = lie.short; aligned = lie.aligned; inside = lie.inside; apart = lie.apart }
+same-lie : (image : ImageParts) (live : ℕ → Bool) (s : State) (values : List Value) → ObjectsLie image live s → ObjectsLie image live (with_values values s)
+same-lie image live s values lie = record { short = lie.short; aligned = lie.aligned; inside = lie.inside; apart = lie.apart }
 
 module _ {image : ImageParts} {live : ℕ → Bool} {s : State} {cpu : Cpu} {m : MemoryView} (g : Grounds image live s cpu m) where
   -- the values of the running stack
@@ -62,15 +62,16 @@ module _ {image : ImageParts} {live : ℕ → Bool} {s : State} {cpu : Cpu} {m :
           tables = tables-kept g c laws (omega arith);
           descriptors = descriptors-kept g c laws (omega arith);
           statics = let short = memory.lie.short in statics-kept g c (inr (omega arith));
-          objects = λ i o lives there. object-kept g c i o lives there (apart o (memory.lie.inside i o lives there));
+          objects = λ i o lives there. object-kept g c i o lives there (apart i o (memory.lie.inside i o lives there));
           stacks = λ n there. stacks-with (StackHolds after s) s values n (λ is. rw is holds) (λ other. stack-kept g c n there (beside n other));
           room = room-kept g c;
-          lie = same-lie live s _ memory.lie;
+          lie = same-lie image live s _ memory.lie;
+          blocks = let few = few-stacks g in let there = runs-there g in blocks-kept g c (omega arith);
         }
       where
-        apart : (o : Object) → IsInside s o → Outside a o.place (length (object_values o))
-        apart o (inl (above, below)) = inr (omega arith)
-        apart o (inr (above, below)) = let few = few-stacks g in let there = runs-there g in inl (omega arith)
+        apart : (i : ℕ) (o : Object) → IsInside image s i o → Outside a o.place (length (object_values o))
+        apart i o (inl (row, above, below)) = inr (omega arith)
+        apart i o (inr (heap, above, below)) = let few = few-stacks g in let there = runs-there g in inl (omega arith)
 
         beside : (n : ℕ) → (n == s.current) ≡ false → (a < stacks_start + 16384 * n) ⊎ (stacks_start + 16384 * (n + 1) ≤ a)
         beside n other =
@@ -103,7 +104,8 @@ module _ {image : ImageParts} {live : ℕ → Bool} {s : State} {cpu : Cpu} {m :
         objects = memory.objects;
         stacks = λ k there. stacks-with (λ j values. StackHolds m s j values) s (drop n s.values) k (λ is. rw is shorter) (λ other. memory.stacks k there);
         room = memory.room;
-        lie = same-lie live s _ memory.lie;
+        lie = same-lie image live s _ memory.lie;
+        blocks = memory.blocks;
       }
     where
       shorter : StackHolds m s s.current (drop n s.values)
@@ -116,6 +118,11 @@ module _ {image : ImageParts} {live : ℕ → Bool} {s : State} {cpu : Cpu} {m :
   -- the law
   pub values-dropped : DropLaw image live s m
   values-dropped = record {
+    there = λ v vs is.
+        let room = g.typed.thread.room in
+        let runs = runs-there g in
+        let depth : length s.values ≡ length (v ∷ vs) = ap length is in
+        g.stand.memory.room (esp_of s) (omega arith) (omega arith) (omega arith);
     top = λ v vs is. let same : esp_of s ≡ esp_of s + 4 * 0 = omega arith in rw same (running-holds 0 v (rw is refl));
     dropped = dropped;
   }
@@ -136,10 +143,11 @@ empty-free image live s m well_typed typed memory laws n empty w after written =
       tables = tables-kept g c laws (omega arith);
       descriptors = descriptors-kept g c laws (omega arith);
       statics = let short = memory.lie.short in statics-kept g c (inr (omega arith));
-      objects = λ i o lives here. object-kept g c i o lives here (apart o (memory.lie.inside i o lives here));
+      objects = λ i o lives here. object-kept g c i o lives here (apart i o (memory.lie.inside i o lives here));
       stacks = λ k inside. at k inside (k == n) refl;
       room = room-kept g c;
       lie = memory.lie;
+      blocks = blocks-kept g c (omega (arith, there, few));
     }
   where
     g : Grounds image live s (cpu_of s) m
@@ -158,9 +166,9 @@ empty-free image live s m well_typed typed memory laws n empty w after written =
     few : image.stacks ≤ 64
     few = few-stacks g
 
-    apart : (o : Object) → IsInside s o → Outside (stack_pointer n 1) o.place (length (object_values o))
-    apart o (inl (above, below)) = inr (omega arith)
-    apart o (inr (above, below)) = inl (omega (arith, there, few))
+    apart : (i : ℕ) (o : Object) → IsInside image s i o → Outside (stack_pointer n 1) o.place (length (object_values o))
+    apart i o (inl (row, above, below)) = inr (omega arith)
+    apart i o (inr (heap, above, below)) = inl (omega (arith, there, few))
 
     others : n ≢ s.current
     others e = let runs = typed.one in let stopped = rw e at empty in cc

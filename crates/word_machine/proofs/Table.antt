@@ -1,6 +1,6 @@
 -- The step of every instruction, by the table of forms.
 use Rattle.std.specs.Prelude.{if◌then◌else◌}
-use Rattle.std.proofs.Common.{◌≡◌, ◌≢◌, ℕ, ◌<◌, ◌%◌, ◌==◌, false, [], ◌∷◌, length, Some, None, refl}
+use Rattle.std.proofs.Common.{◌≡◌, ◌≢◌, ℕ, ◌<◌, ◌%◌, ◌==◌, false, [], ◌∷◌, length, Some, None, refl, Bool}
 use Rattle.ia32_code.specs.declared.instruction.Reg.TheVariants.{Eax, Ecx, Edx, Ebx, Esp, Ebp, Esi, Edi}
 use Rattle.ia32_code.specs.declared.instruction.Alu.{Alu}
 use Rattle.ia32_code.specs.declared.instruction.Alu.TheVariants as alu
@@ -25,17 +25,17 @@ use Rattle.word_machine.proofs.Forms.{move-step, address-step, nothing-step, jum
 use Rattle.word_machine.proofs.StackForms.{push-step, pop-step, drop-step}
 use Rattle.word_machine.proofs.Leaving.{StepOf}
 
-module _ {image : ImageParts} {s : State} {cpu : Cpu} {m : MemoryView} {len : ℕ} where
+module _ {image : ImageParts} {live : ℕ → Bool} {s : State} {cpu : Cpu} {m : MemoryView} {len : ℕ} where
   -- ADD, OR, AND, SUB and XOR, where they are no sum with ESP
-  alu-step : (op : Alu) (d x : Operand) → Stores op → Begins image s cpu m (inst.Alu op d x) len
+  alu-step : (op : Alu) (d x : Operand) → Stores op → Begins image live s cpu m (inst.Alu op d x) len
       → computes (shown image) s (inst.Alu op d x) len (next s len) (d ∷ x ∷ []) d false (Some kind.Num) ≢ None
-      → StepOf image s m (inst.Alu op d x) len (computes (shown image) s (inst.Alu op d x) len (next s len) (d ∷ x ∷ []) d false (Some kind.Num))
+      → StepOf image live s m (inst.Alu op d x) len (computes (shown image) s (inst.Alu op d x) len (next s len) (d ∷ x ∷ []) d false (Some kind.Num))
   alu-step op d x stores b known =
       operation-step b (d ∷ x ∷ []) d (Some kind.Num) (alu-operates op stores d x) b.plain.first (b.plain.first, (b.plain.second, tt))
       (λ at. (agrees-first d (d ∷ x ∷ []) at.0, (agrees-third d x [] b.plain.one at.1.0, tt))) known
 
   -- ADD: that of a number to ESP drops slots, every other one computes
-  add-step : (d x : Operand) → Begins image s cpu m (inst.Alu alu.Add d x) len → StepOf image s m (inst.Alu alu.Add d x) len (Effect image s (inst.Alu alu.Add d x) len)
+  add-step : (d x : Operand) → Begins image live s cpu m (inst.Alu alu.Add d x) len → StepOf image live s m (inst.Alu alu.Add d x) len (Effect image s (inst.Alu alu.Add d x) len)
   unfolding Effect form_effect form_of
   add-step (R Esp) (I n) b = drop-step n b b.known
   add-step (R Esp) (R q) b = alu-step alu.Add (R Esp) (R q) tt b b.known
@@ -51,8 +51,8 @@ module _ {image : ImageParts} {s : State} {cpu : Cpu} {m : MemoryView} {len : �
   add-step (M a) x b = alu-step alu.Add (M a) x tt b b.known
 
   -- each instruction, where PUSH has room
-  pub step-of : (i : Inst) → Begins image s cpu m i len → ((x : Operand) → i ≡ inst.Push x → length s.values < most_values)
-      → StepOf image s m i len (Effect image s i len)
+  pub step-of : (i : Inst) → Begins image live s cpu m i len → ((x : Operand) → i ≡ inst.Push x → length s.values < most_values)
+      → StepOf image live s m i len (Effect image s i len)
   unfolding Effect form_effect form_of
   step-of (inst.Alu alu.Add d x) b room = add-step d x b
   step-of (inst.Alu alu.Or d x) b room = alu-step alu.Or d x tt b b.known

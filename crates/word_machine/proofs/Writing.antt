@@ -9,7 +9,7 @@ use Rattle.ia32_code.specs.declared.instruction.Mem.{Mem}
 use Rattle.ia32_step.specs.declared.cpu.Cpu.{Cpu}
 use Rattle.ia32_step.specs.Operands.{address_of}
 use Rattle.object_layout.specs.declared.rows.FieldTy.{FieldTy}
-use Rattle.object_layout.specs.Areas.{statics_start, stacks_start}
+use Rattle.object_layout.specs.Areas.{statics_start, stacks_start, heap_start}
 use Rattle.object_layout.specs.Classes.{ShapesView, Fields}
 use Rattle.object_layout.specs.Laws.{ClassLaws}
 use Rattle.tal_types.specs.Shown.{ShownImage}
@@ -21,16 +21,20 @@ use Rattle.typed_machine.specs.States.{State, places_of, with_values}
 use Rattle.typed_machine.specs.Operands.{Spot, AtStatic, AtSlot, AtValue, AtLength, AtHead, AtMethod, AtDisplay, may_hold, type_there, provided, write_spot, spot_of}
 use Rattle.typed_machine.specs.Words.{esp_of, head_values, object_values}
 use Rattle.word_machine.specs.Memory.{MemoryView}
-use Rattle.word_machine.specs.Standing.{HoldsValues, values_at, IsInside, MemoryStands, end_of}
+use Rattle.word_machine.specs.Standing.{HoldsValues, values_at, IsInside, BlocksStand, MemoryStands, end_of}
 use Rattle.word_machine.specs.Following.{Grounds}
-use Rattle.word_machine.specs.Laws.{SpotLives, Written}
+use Rattle.typed_safety.specs.Laws.{SpotLives}
+use Rattle.word_machine.specs.Laws.{Written}
+use Rattle.word_machine.specs.Stepping.{HeapLaws}
+use Rattle.word_machine.proofs.Areas.{heap-set}
+use Rattle.word_machine.proofs.Heaps.{block-object, object-inside, object-is-word, set-blocks}
 use Rattle.word_machine.proofs.Holding.{Outside, Change, holds-put}
 use Rattle.word_machine.proofs.Bounds.{few-stacks, runs-there}
-use Rattle.word_machine.proofs.Changing.{tables-kept, descriptors-kept, room-kept, statics-kept, object-kept, stack-kept}
+use Rattle.word_machine.proofs.Changing.{tables-kept, descriptors-kept, room-kept, blocks-kept, statics-kept, object-kept, stack-kept}
 use Rattle.word_machine.proofs.Stacks.{running-holds, stack-written}
 use Rattle.word_machine.proofs.Spots.{head_count, spot_place, IsThere, spot-address}
 use Rattle.word_machine.proofs.Reading.{inside-below}
-use Rattle.word_machine.proofs.Objects.{object-place, object-shape, no-shape, places-set, Replaced, store-read, words-set, still-lie}
+use Rattle.word_machine.proofs.Objects.{object-place, object-shape, no-shape, places-set, Replaced, store-read, words-set, still-lie, still-blocks, object-need}
 
 -- a state that is provided is the one that was given, and the test held
 provided-is : (b : Bool) (u t : State) → provided b u ≡ Some t → (b ≡ true) × (u ≡ t)
@@ -59,6 +63,11 @@ value-within : (s : State) (i j : ℕ) (h : HasValue s i j) → h.object.place +
 unfolding object_values
 value-within s i j h = let both = length-append (head_values h.object.shape) h.object.values in let few = h.few in omega arith
 
+-- the words of an object are those before its values, and its values
+object-long : (o : Object) → length (object_values o) ≡ length (head_values o.shape) + length o.values
+unfolding object_values
+object-long o = length-append (head_values o.shape) o.values
+
 module _ {image : ImageParts} {live : ℕ → Bool} {s : State} {cpu : Cpu} {m : MemoryView} (g : Grounds image live s cpu m) where
   -- a value that may be written in an object is there
   value-there : (i j : ℕ) (v : Value) → may_hold (shown image) s (type_there (shown image) s i j) v ≡ true → HasValue s i j
@@ -73,7 +82,7 @@ module _ {image : ImageParts} {live : ℕ → Bool} {s : State} {cpu : Cpu} {m :
           let count = g.typed.store.counts i o e in
           record { object = o; there = e; few = omega arith }
 
-  module _ (laws : ClassLaws (shapes_of image)) {after : MemoryView} {a w : ℕ} (c : Change m after a w) (v : Value) (is : w ≡ Word (places_of s) v) where
+  module _ (heap_laws : HeapLaws) (laws : ClassLaws (shapes_of image)) {after : MemoryView} {a w : ℕ} (c : Change m after a w) (v : Value) (is : w ≡ Word (places_of s) v) where
     -- a static
     static-written : (j : ℕ) → j < length s.statics → a ≡ statics_start + 4 * j → MemoryStands image live (record s { statics = slice_set s.statics j v }) after
     unfolding values_at
@@ -85,15 +94,16 @@ module _ {image : ImageParts} {live : ℕ → Bool} {s : State} {cpu : Cpu} {m :
           tables = tables-kept g c laws (omega arith);
           descriptors = descriptors-kept g c laws (omega arith);
           statics = holds-put c (places_of s) statics_start s.statics memory.statics j v at is;
-          objects = λ i o lives there. object-kept g c i o lives there (above o (memory.lie.inside i o lives there));
+          objects = λ i o lives there. object-kept g c i o lives there (above i o (memory.lie.inside i o lives there));
           stacks = λ n there. stack-kept g c n there (inl (omega arith));
           room = room-kept g c;
           lie = record { short = rw same short; aligned = memory.lie.aligned; inside = λ i o lives there. rw same (memory.lie.inside i o lives there); apart = memory.lie.apart };
+          blocks = blocks-kept g c (omega arith);
         }
       where
-        above : (o : Object) → IsInside s o → Outside a o.place (length (object_values o))
-        above o (inl (low, high)) = inl (omega arith)
-        above o (inr (low, high)) = let short = g.stand.memory.lie.short in inl (omega arith)
+        above : (i : ℕ) (o : Object) → IsInside image s i o → Outside a o.place (length (object_values o))
+        above i o (inl (row, low, high)) = inl (omega arith)
+        above i o (inr (heap, low, high)) = let short = g.stand.memory.lie.short in inl (omega arith)
 
     -- a slot
     slot-written : (i : ℕ) → i < length s.values → a ≡ esp_of s + 4 * i → MemoryStands image live (with_values (slice_set s.values i v) s) after
@@ -119,23 +129,40 @@ module _ {image : ImageParts} {live : ℕ → Bool} {s : State} {cpu : Cpu} {m :
           objects = λ k p live_too there. rw places (object k p live_too (store-read s.store i j v k p there));
           stacks = λ n there. rw places (stack-kept g c n there (beside n there (memory.lie.inside i o lives h.there)));
           room = room-kept g c;
-          lie = still-lie live s i j v memory.lie;
+          lie = still-lie image live s i j v memory.lie;
+          blocks = still-blocks image live s.store i j v after.heap (blocks (memory.lie.inside i o lives h.there));
         }
       where
         within : a < end_of h.object
         within = let one = value-within s i j h in omega arith
 
-        high : IsInside s h.object → statics_start ≤ a
-        high (inl (low, top)) = omega arith
-        high (inr (low, top)) = omega arith
+        high : IsInside image s i h.object → statics_start ≤ a
+        high (inl (row, low, top)) = omega arith
+        high (inr (heap, low, top)) = omega arith
 
-        behind : IsInside s h.object → statics_start + 4 * length s.statics ≤ a
-        behind (inl (low, top)) = omega arith
-        behind (inr (low, top)) = let short = g.stand.memory.lie.short in omega arith
+        behind : IsInside image s i h.object → statics_start + 4 * length s.statics ≤ a
+        behind (inl (row, low, top)) = omega arith
+        behind (inr (heap, low, top)) = let short = g.stand.memory.lie.short in omega arith
 
-        beside : (n : ℕ) → n < image.stacks → IsInside s h.object → (a < stacks_start + 16384 * n) ⊎ (stacks_start + 16384 * (n + 1) ≤ a)
-        beside n there (inl (low, top)) = let end = within in inl (omega arith)
-        beside n there (inr (low, top)) = let few = few-stacks g in inr (omega arith)
+        -- the heap: below it nothing is written, and else one word of the object's block
+        blocks : IsInside image s i h.object → BlocksStand image live s.store after.heap
+        blocks (inl (row, low, top)) = let end = within in blocks-kept g c (omega arith)
+        blocks (inr (heap, low, top)) =
+            let stand = g.stand.memory.blocks in
+            let b = stand.objects i h.object lives heap h.there in
+            let room = object-need (shown image).shapes h.object (g.typed.store.counts i h.object h.there) in
+            let long = object-long h.object in
+            let few = h.few in
+            let k = b.block + (2 + (length (head_values h.object.shape) + j)) in
+            let address : a ≡ heap_start + 4 * k = omega (arith, at, b.place) in
+            let here : Written m after (heap_start + 4 * k) w = rw address at c.written in
+            let open_to = block-object heap_laws m.heap stand.formed b.block k b.used (omega arith) (omega (arith, room, b.exact, long, few)) in
+            rw (heap-set m after k w here (object-inside heap_laws m.heap stand.formed k open_to))
+            (set-blocks heap_laws m.heap k w (object-is-word heap_laws m.heap stand.formed k open_to) image live s.store stand)
+
+        beside : (n : ℕ) → n < image.stacks → IsInside image s i h.object → (a < stacks_start + 16384 * n) ⊎ (stacks_start + 16384 * (n + 1) ≤ a)
+        beside n there (inl (row, low, top)) = let end = within in inl (omega arith)
+        beside n there (inr (heap, low, top)) = let few = few-stacks g in inr (omega arith)
 
         apart : (p : Object) → (end_of p ≤ h.object.place) ⊎ (end_of h.object ≤ p.place) → Outside a p.place (length (object_values p))
         apart p (inl below) = inr (omega arith)
@@ -157,7 +184,7 @@ module _ {image : ImageParts} {live : ℕ → Bool} {s : State} {cpu : Cpu} {m :
     object-written i j lives h at =
         let place = rw (object-place s i h.object h.there, object-shape s i h.object h.there) at at in
         let within = value-within s i j h in
-        let end = inside-below s h.object (g.stand.memory.lie.inside i h.object lives h.there) in
+        let end = inside-below image s i h.object (g.stand.memory.lie.inside i h.object lives h.there) in
         let below : h.object.place + 4 * (length (head_values h.object.shape) + j) < 2 ^ 32 = omega arith in
         value-written i j lives h (place ∙ mod-eq_of_lt below)
 
@@ -190,11 +217,11 @@ module _ {image : ImageParts} {live : ℕ → Bool} {s : State} {cpu : Cpu} {m :
     spot-written (AtDisplay d e) there lives t h at = absurd cc
 
   -- the law
-  pub spot-is-written : ClassLaws (shapes_of image) → (x : Mem) → x.index ≢ Some Esp → (spot : Spot) → spot_of (shapes_of image) s x ≡ Some spot
+  pub spot-is-written : HeapLaws → ClassLaws (shapes_of image) → (x : Mem) → x.index ≢ Some Esp → (spot : Spot) → spot_of (shapes_of image) s x ≡ Some spot
       → SpotLives live spot
       → (v : Value) (t : State) → write_spot (shown image) s spot v ≡ Some t
       → (after : MemoryView) → Written m after (address_of x cpu.regs) (Word (places_of s) v) → MemoryStands image live t after
-  spot-is-written laws x spared spot points lives v t h after written =
+  spot-is-written heap_laws laws x spared spot points lives v t h after written =
       let address = spot-address (shapes_of image) s spot cpu g.stand.processor x spared points in
       let c : Change m after (address_of x cpu.regs) (Word (places_of s) v) = record { written = written } in
-      spot-written laws c v refl spot address.1 lives t h address.0
+      spot-written heap_laws laws c v refl spot address.1 lives t h address.0

@@ -4,7 +4,6 @@ use Rattle.ia32_code.specs.declared.instruction.Inst.{Inst}
 use Rattle.ia32_step.specs.declared.cpu.Cpu.{Cpu}
 use Rattle.tal_image.specs.Image.{ImageParts}
 use Rattle.tal_checker.specs.WellTyped.{WellTyped}
-use Rattle.typed_machine.specs.Values.{all_objects}
 use Rattle.typed_machine.specs.States.{State, clear_flags, entry_place}
 use Rattle.typed_machine.specs.Code.{inst_at}
 use Rattle.typed_machine.specs.Effects.{EffectView, Moves, Faults, Calls, Ends}
@@ -21,23 +20,23 @@ pub record Grounds (image : ImageParts) (live : ℕ → Bool) (s : State) (cpu :
   pub typed : TypedAmong image live s
   pub stand : WordsStand image live s cpu m
 
--- the same with all objects, and this instruction stands at the state's place
-pub record StandsAt (image : ImageParts) (s : State) (cpu : Cpu) (m : MemoryView) (i : Inst) (len : ℕ) : Type 0 where
-  pub grounds : Grounds image all_objects s cpu m
+-- the same, and this instruction stands at the state's place
+pub record StandsAt (image : ImageParts) (live : ℕ → Bool) (s : State) (cpu : Cpu) (m : MemoryView) (i : Inst) (len : ℕ) : Type 0 where
+  pub grounds : Grounds image live s cpu m
   pub here : inst_at image s.thread.place ≡ Some (i, len)
 
 -- there is such a state, and the stack of this number runs in it
 abbrev pub Runs : ℕ → Inst → ℕ → Cpu → MemoryView → Type 0
-Runs current i len cpu m = (image : ImageParts) × (s : State) × StandsAt image s cpu m i len × (s.current ≡ current)
+Runs current i len cpu m = (image : ImageParts) × (live : ℕ → Bool) × (s : State) × StandsAt image live s cpu m i len × (s.current ≡ current)
 
 -- The words came to where an instruction's effect leads from a state: to the state after it; at a fault, a call of the
 -- Nucleus and the end word they stand where they stood.
-abbrev pub Came : Step → Cpu → MemoryView → ImageParts → State → Option EffectView → Type 0
-Came r cpu m image s None = ⊥
-Came r cpu m image s (Some (Moves t)) = (r ≡ step.Moves) × WordsStand image all_objects t cpu m
-Came r cpu m image s (Some (Faults vector)) = (r ≡ step.Faults vector) × WordsStand image all_objects s cpu m
-Came r cpu m image s (Some (Calls k)) = (r ≡ step.Calls k) × WordsStand image all_objects s cpu m
-Came r cpu m image s (Some Ends) = (r ≡ step.Ends) × WordsStand image all_objects s cpu m
+abbrev pub Came : Step → Cpu → MemoryView → ImageParts → (ℕ → Bool) → State → Option EffectView → Type 0
+Came r cpu m image live s None = ⊥
+Came r cpu m image live s (Some (Moves t)) = (r ≡ step.Moves) × WordsStand image live t cpu m
+Came r cpu m image live s (Some (Faults vector)) = (r ≡ step.Faults vector) × WordsStand image live s cpu m
+Came r cpu m image live s (Some (Calls k)) = (r ≡ step.Calls k) × WordsStand image live s cpu m
+Came r cpu m image live s (Some Ends) = (r ≡ step.Ends) × WordsStand image live s cpu m
 
 -- the processor before the first turn: all registers are 0 but ESP, which is that of stack 0 with its end word alone
 abbrev pub first_cpu : ImageParts → Cpu

@@ -9,33 +9,24 @@ use Rattle.tal_image.specs.Shown.{shown}
 use Rattle.tal_checker.specs.WellTyped.{WellTyped}
 use Rattle.typed_machine.specs.Values.{Value, Word}
 use Rattle.typed_machine.specs.States.{State, EmptyStack, places_of, with_values, most_values}
-use Rattle.typed_machine.specs.Operands.{Spot, AtStatic, AtSlot, AtValue, AtLength, AtHead, AtMethod, AtDisplay, spot_of, spot_word, write_spot}
+use Rattle.typed_machine.specs.Operands.{Spot, spot_of, spot_word, write_spot}
 use Rattle.typed_machine.specs.Typing.{TypedAmong}
 use Rattle.typed_machine.specs.Words.{stack_pointer, esp_of}
+use Rattle.typed_safety.specs.Laws.{SpotLives}
 use Rattle.word_machine.specs.Memory.{MemoryView, word_of, is_mapped}
 use Rattle.word_machine.specs.Standing.{MemoryStands}
 use Rattle.word_machine.specs.Following.{Grounds}
-
--- the object that a spot belongs to, if it belongs to one, lives
-abbrev pub SpotLives : (ℕ → Bool) → Spot → Type 0
-SpotLives live (AtValue i j) = live i ≡ true
-SpotLives live (AtLength i) = live i ≡ true
-SpotLives live (AtHead i) = live i ≡ true
-SpotLives live (AtStatic j) = Unit {0}
-SpotLives live (AtSlot i) = Unit {0}
-SpotLives live (AtMethod c j) = Unit {0}
-SpotLives live (AtDisplay c d) = Unit {0}
 
 -- the word at an address changes, and no other
 abbrev pub Written : MemoryView → MemoryView → ℕ → ℕ → Type 0
 Written before after a w = (b : ℕ) → word_of after b ≡ (if b == a then Some w else word_of before b)
 
--- the word at a spot stands at the operand's address; ESP is no index, as in each operand that is spelled
+-- the word at a spot stands at the operand's address, which is mapped; ESP is no index, as in each operand that is spelled
 abbrev pub SpotsAreRead : Type 0
 SpotsAreRead =
     (image : ImageParts) (live : ℕ → Bool) (s : State) (cpu : Cpu) (m : MemoryView) → Grounds image live s cpu m
     → (x : Mem) → x.index ≢ Some Esp → (spot : Spot) (w : ℕ) → spot_of (shown image).shapes s x ≡ Some spot → SpotLives live spot
-    → spot_word (shown image).shapes s spot ≡ Some w → word_of m (address_of x cpu.regs) ≡ Some w
+    → spot_word (shown image).shapes s spot ≡ Some w → (is_mapped m (address_of x cpu.regs) ≡ true) × (word_of m (address_of x cpu.regs) ≡ Some w)
 
 -- where the word there becomes that of a value, the memory stands for the state with this value at the spot
 abbrev pub SpotsAreWritten : Type 0
@@ -57,8 +48,9 @@ ValuesArePushed =
     (image : ImageParts) (live : ℕ → Bool) (s : State) (cpu : Cpu) (m : MemoryView) → Grounds image live s cpu m
     → length s.values < most_values → PushLaw image live s m
 
--- the word on top is that of the value on top, and values are dropped without a change of any word
+-- the word on top is mapped and that of the value on top, and values are dropped without a change of any word
 pub record DropLaw (image : ImageParts) (live : ℕ → Bool) (s : State) (m : MemoryView) : Type 0 where
+  pub there : (v : Value) (vs : List Value) → s.values ≡ v ∷ vs → is_mapped m (esp_of s) ≡ true
   pub top : (v : Value) (vs : List Value) → s.values ≡ v ∷ vs → word_of m (esp_of s) ≡ Some (Word (places_of s) v)
   pub dropped : (n : ℕ) → n ≤ length s.values → MemoryStands image live (with_values (drop n s.values) s) m
 
@@ -72,3 +64,9 @@ EmptyStacksAreFree =
     (image : ImageParts) (live : ℕ → Bool) (s : State) (m : MemoryView) → WellTyped image → TypedAmong image live s → MemoryStands image live s m
     → (n : ℕ) → slice_get s.stacks n ≡ Some EmptyStack
     → (w : ℕ) (after : MemoryView) → Written m after (stack_pointer n 1) w → MemoryStands image live s after
+
+-- where the memory stands among objects, it stands among fewer
+abbrev pub StandingFalls : Type 0
+StandingFalls =
+    (image : ImageParts) (more live : ℕ → Bool) (s : State) (m : MemoryView) → ((i : ℕ) → live i ≡ true → more i ≡ true)
+    → MemoryStands image more s m → MemoryStands image live s m

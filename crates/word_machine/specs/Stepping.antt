@@ -1,5 +1,7 @@
 -- What the parts of a step do. Contracts of private functions speak in these words; no public promise rests on them.
-use Rattle.std.specs.Prelude.{◌≡◌, ◌≢◌, ℕ, ◌+◌, ◌*◌, ◌%◌, ◌^◌, ◌==◌, ◌&&◌, Bool, true, false, Option, Some, None, slice_index, slice_set, if◌then◌else◌}
+use Rattle.std.specs.Prelude.{◌≡◌, ◌≢◌, ◌↔◌, ℕ, ◌+◌, ◌*◌, ◌%◌, ◌^◌, ◌==◌, ◌&&◌, Bool, true, false, List, Contains, Option, Some, None, slice_index, slice_set, if◌then◌else◌}
+use Rattle.heap_words.specs.Blocks.{Block, Blocks, FormedHeap, IsBlock}
+use Rattle.heap_words.specs.Laws.{BlockLaws}
 use Rattle.ia32_code.specs.declared.instruction.Inst.{Inst}
 use Rattle.ia32_code.specs.declared.instruction.Inst.TheVariants as inst
 use Rattle.ia32_step.specs.declared.cpu.Cpu.{Cpu}
@@ -8,18 +10,23 @@ use Rattle.ia32_step.specs.declared.effect.Effect.TheVariants as left
 use Rattle.object_layout.specs.Areas.{stacks_start}
 use Rattle.tal_image.specs.Image.{ImageParts}
 use Rattle.tal_image.specs.Shown.{shown}
-use Rattle.typed_machine.specs.Values.{all_objects}
 use Rattle.typed_machine.specs.States.{State, stack_bytes}
 use Rattle.typed_machine.specs.Effects.{EffectView, Moves, Faults, calls_to, returns_from}
-use Rattle.typed_safety.specs.Laws.{FormedImagesTell, WellTypedImagesKeepTyping, DisplaysAreThere}
+use Rattle.typed_safety.specs.Laws.{FormedImagesTell, WellTypedImagesKeepTyping, DisplaysAreThere, InstructionsUseLiving}
 use Rattle.word_machine.specs.declared.step.Step.{Step}
 use Rattle.word_machine.specs.declared.step.Step.TheVariants as step
 use Rattle.word_machine.specs.Memory.{MemoryView}
 use Rattle.word_machine.specs.Standing.{WordsStand}
 use Rattle.word_machine.specs.Laws.{SpotsAreRead, SpotsAreWritten, ValuesArePushed, ValuesAreDropped}
 
+-- the laws of the heap's blocks
+pub record HeapLaws : Type 0 where
+  pub blocks : BlockLaws
+  pub listed : (words : List ℕ) → FormedHeap words → (block : Block) → Contains (Blocks words) block ↔ IsBlock words block
+
 -- the laws that a step rests on
 pub record StepLaws : Type 0 where
+  pub heap : HeapLaws
   pub reads : SpotsAreRead
   pub writes : SpotsAreWritten
   pub pushes : ValuesArePushed
@@ -27,6 +34,7 @@ pub record StepLaws : Type 0 where
   pub tells : FormedImagesTell
   pub keeps : WellTypedImagesKeepTyping
   pub displays : DisplaysAreThere
+  pub lives : InstructionsUseLiving
 
 -- ESP is at the lower end of its stack
 abbrev pub is_at_limit : Cpu → ℕ → Bool
@@ -43,11 +51,11 @@ overflows i cpu stack = is_push i && is_at_limit cpu stack
 
 -- What an instruction leaves to the turn, where its effect on the state is this and the next instruction follows at an address:
 -- nothing, a fault, the call of an address or a return. But for the first, the words are those of the state before it.
-abbrev pub Left : ImageParts → State → ℕ → StepEffect → Option EffectView → Cpu → MemoryView → Type 0
-Left image s next left.Next e cpu m = (t : State) × (e ≡ Some (Moves t)) × WordsStand image all_objects t cpu m
-Left image s next (left.Fault n) e cpu m = (e ≡ Some (Faults n)) × WordsStand image all_objects s cpu m
-Left image s next (left.Call a) e cpu m = (e ≢ None) × (e ≡ calls_to (shown image) s next a) × WordsStand image all_objects s cpu m
-Left image s next left.Return e cpu m = (e ≢ None) × (e ≡ returns_from s.values s) × WordsStand image all_objects s cpu m
+abbrev pub Left : ImageParts → (ℕ → Bool) → State → ℕ → StepEffect → Option EffectView → Cpu → MemoryView → Type 0
+Left image live s next left.Next e cpu m = (t : State) × (e ≡ Some (Moves t)) × WordsStand image live t cpu m
+Left image live s next (left.Fault n) e cpu m = (e ≡ Some (Faults n)) × WordsStand image live s cpu m
+Left image live s next (left.Call a) e cpu m = (e ≢ None) × (e ≡ calls_to (shown image) s next a) × WordsStand image live s cpu m
+Left image live s next left.Return e cpu m = (e ≢ None) × (e ≡ returns_from s.values s) × WordsStand image live s cpu m
 
 -- what a return to this word comes to, and the processor after it: at the end word, 0, nothing changes
 abbrev pub returned : ℕ → Step

@@ -1,10 +1,14 @@
 // What holds of words that stand for a typed state: each law is a function with nothing to do, whose clause is the law.
-ghost use Rattle.word_machine.specs.Laws.{SpotsAreRead, SpotsAreWritten, ValuesArePushed, ValuesAreDropped, EmptyStacksAreFree};
+ghost use Rattle.word_machine.specs.Laws.{SpotsAreRead, SpotsAreWritten, ValuesArePushed, ValuesAreDropped, EmptyStacksAreFree, StandingFalls};
 
-/// The word at a spot of the state stands at the address of the operand that points there, whose index is not ESP.
+use heap_words::laws::{block_laws, blocks_listed};
+
+/// The word at a spot of the state stands at the address of the operand that points there, whose index is not ESP. It is mapped.
 pub fn spots_are_read()
     ensures { SpotsAreRead }
 {
+    block_laws();
+    blocks_listed();
     typed_safety::laws::formed_images_tell();
 }
 
@@ -12,6 +16,8 @@ pub fn spots_are_read()
 pub fn spots_are_written()
     ensures { SpotsAreWritten }
 {
+    block_laws();
+    blocks_listed();
     typed_safety::laws::formed_images_tell();
 }
 
@@ -33,3 +39,8 @@ pub fn empty_stacks_are_free()
 {
     typed_safety::laws::formed_images_tell();
 }
+
+/// Where the memory stands for a state among objects, it stands for it among fewer.
+pub fn standing_falls()
+    ensures { StandingFalls }
+{}

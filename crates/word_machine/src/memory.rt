@@ -1,17 +1,23 @@
-ghost use Rattle.std.specs.Prelude.{◌≡◌, ℕ, ◌≤◌, ◌<◌, ◌+◌, ◌*◌, ◌%◌, ◌==◌, Bool, true, ◌++◌, length, replicate, slice_get, is_some, Some, IfOk, if◌then◌else◌};
-ghost use Rattle.object_layout.specs.Areas.{statics_start, stacks_start};
+ghost use Rattle.std.specs.Prelude.{◌≡◌, ℕ, ◌≤◌, ◌<◌, ◌+◌, ◌*◌, ◌%◌, ◌==◌, ◌&&◌, Bool, true, false, ◌++◌, length, replicate, slice_get, is_some, Some, IfOk, if◌then◌else◌};
+ghost use Rattle.std.specs.Option.{option_map_or};
+ghost use Rattle.heap_words.specs.Blocks.{Begins, FormedHeap};
+ghost use Rattle.heap_words.specs.Headers.{size_at};
+ghost use Rattle.object_layout.specs.Areas.{statics_start, stacks_start, heap_start, word_index};
 ghost use Rattle.object_layout.specs.Classes.{table_word, descriptor_word};
 ghost use Rattle.tal_image.specs.Shown.{shapes_of, data_words};
 ghost use Rattle.typed_machine.specs.States.{first_state, stack_bytes};
 ghost use Rattle.typed_machine.specs.Words.{upper_end};
 ghost use Rattle.word_machine.specs.Laws.{Written};
-ghost use Rattle.word_machine.specs.Memory.{word_in, word_of, is_mapped};
+ghost use Rattle.word_machine.specs.Memory.{word_in, word_of, is_object_word, is_mapped};
 ghost use Rattle.word_machine.specs.Standing.{MemoryStands};
+ghost use Rattle.word_machine.specs.Stepping.{HeapLaws};
 
+use heap_words::Heap;
+use heap_words::laws::{block_laws, blocks_listed};
 use ia32_step::Bus;
 use no_memory::NoMemory;
 use object_layout::areas::{
-    DESCRIPTORS_START, STACKS_START, STATICS_START, TABLES_START, word_index,
+    DESCRIPTORS_START, HEAP_START, STACKS_START, STATICS_START, TABLES_START, word_index,
 };
 use std::alloc::Global;
 use std::marker::Model;
@@ -27,15 +33,20 @@ const TABLE_WORDS: u32 = 64;
 /// How many words a descriptor has.
 const DESCRIPTOR_WORDS: u32 = 4;
 
-/// The memory of a machine, without its code: class tables, descriptors, statics with the data arrays behind them, and stacks.
+/// The memory of a machine, without its code: class tables, descriptors, statics with the data arrays behind them, stacks, and
+/// the heap.
 ///
-/// Each area lies where [`object_layout::areas`] says.
+/// Each area lies where [`object_layout::areas`] says. In the heap an instruction reads and writes the words of objects alone.
 #[derive(Drop)]
 pub struct Memory {
     tables: Vec<u32>,
     descriptors: Vec<u32>,
-    statics: Vec<u32>,
-    stacks: Vec<u32>,
+    /// The statics, with the data arrays behind them.
+    pub statics: Vec<u32>,
+    /// The words of the stacks, one stack behind another.
+    pub stacks: Vec<u32>,
+    /// The heap.
+    pub heap: Heap,
 }
 
 impl Model for Memory {
@@ -43,11 +54,11 @@ impl Model for Memory {
 
     ghost Value = { MemoryView };
 
-    ghost view = { λ m. record { tables = m.tables.items; descriptors = m.descriptors.items; statics = m.statics.items; stacks = m.stacks.items } };
+    ghost view = { λ m. record { tables = m.tables.items; descriptors = m.descriptors.items; statics = m.statics.items; stacks = m.stacks.items; heap = m.heap } };
 }
 
 impl Memory {
-    /// The memory of an image before its first turn.
+    /// The memory of an image before its first turn: its heap is one free block.
     pub fn new(alloc: Global, image: &Image) -> Result<Memory, NoMemory>
         ensures { IfOk result (λ m. (live : ℕ → Bool) → MemoryStands image.now live (first_state image.now) m) }
     {
@@ -58,7 +69,15 @@ impl Memory {
             descriptors: descriptor_words(alloc, image)?,
             statics: static_words(alloc, image)?,
             stacks: zeros(alloc, STACK_WORDS * image.stacks() as usize)?,
+            heap: Heap::new(alloc, image.heap_words())?,
         })
+    }
+
+    /// The heap's words are whole blocks: a fact for the proof.
+    pub fn formed(&self)
+        ensures { FormedHeap self.now.heap }
+    {
+        let _size = self.heap.size();
     }
 
     /// The words of a stack from its top, which ESP tells, to its bottom.
@@ -91,7 +110,9 @@ impl Memory {
     fn word(&self, address: u32) -> Option<u32>
         ensures { result ≡ word_of self.now address }
     {
-        if address >= STACKS_START {
+        if address >= HEAP_START {
+            heap_word(&self.heap, address)
+        } else if address >= STACKS_START {
             word_in(&self.stacks, STACKS_START, address)
         } else if address >= STATICS_START {
             word_in(&self.statics, STATICS_START, address)
@@ -102,12 +123,18 @@ impl Memory {
         }
     }
 
-    /// Puts a word at an address, where one stands.
-    fn put(&mut self, address: u32, word: u32)
+    /// Puts a word at an address that is mapped. No other word changes, and what is mapped stays so.
+    pub fn put(&mut self, address: u32, word: u32)
         requires { is_mapped self.old address ≡ true }
-        ensures { Written self.old self.new address word }
+        ensures written { Written self.old self.new address word }
+        ensures mapped { (a : ℕ) → is_mapped self.new a ≡ is_mapped self.old a }
+        ensures formed { FormedHeap self.new.heap }
     {
-        if address >= STACKS_START {
+        heap_lawful();
+        let _size = self.heap.size();
+        if address >= HEAP_START {
+            self.heap.set_word((address - HEAP_START) / 4, word);
+        } else if address >= STACKS_START {
             put_in(&mut self.stacks, STACKS_START, address, word);
         } else if address >= STATICS_START {
             put_in(&mut self.statics, STATICS_START, address, word);
@@ -126,8 +153,10 @@ impl Bus for Memory {
 
     ghost word_at = { word_at };
 
-    #[tactic(auto, unfolding(crate::specs::Memory::is_mapped))]
     fn mapped(&self, address: u32) -> bool {
+        if address >= HEAP_START {
+            return is_object_address(&self.heap, address);
+        }
         self.word(address).is_some()
     }
 
@@ -147,6 +176,62 @@ fn word_in(words: &[u32], start: u32, address: u32) -> Option<u32>
 {
     let index = word_index(start, address)?;
     words.get(index as usize).copied()
+}
+
+/// The word at an address of the heap.
+fn heap_word(heap: &Heap, address: u32) -> Option<u32>
+    ensures { result ≡ word_in heap_start heap.now address }
+{
+    let index = word_index(HEAP_START, address)?;
+    if index >= heap.size() {
+        return None;
+    }
+    Some(heap.word(index))
+}
+
+/// Whether an object's word stands at an address of the heap. It walks the blocks up to there: no turn asks for it.
+fn is_object_address(heap: &Heap, address: u32) -> bool
+    ensures { result ≡ (is_some (word_in heap_start heap.now address) && option_map_or (is_object_word heap.now) (word_index heap_start address) false) }
+{
+    let Some(index) = word_index(HEAP_START, address) else {
+        return false;
+    };
+    index < heap.size() && is_object_word(heap, index)
+}
+
+/// Whether a word of the heap is an object's.
+fn is_object_word(heap: &Heap, index: u32) -> bool
+    requires { index < length heap.now }
+    ensures { result ≡ is_object_word heap.now index }
+{
+    heap_lawful();
+    let at = block_with(heap, index);
+    heap.used(at) && at + 2 <= index
+}
+
+/// The block in which a word of the heap lies.
+fn block_with(heap: &Heap, index: u32) -> u32
+    requires { index < length heap.now }
+    ensures begins { Begins heap.now result }
+    ensures behind { result ≤ index }
+    ensures before { index < result + size_at heap.now result }
+    ensures formed { FormedHeap heap.now }
+{
+    block_laws();
+    let _size = heap.size();
+    let mut at = 0;
+    while at + heap.block_size(at) <= index {
+        at += heap.block_size(at);
+    }
+    at
+}
+
+/// The laws of the heap's blocks: facts for the proof.
+pub(crate) fn heap_lawful()
+    ensures { HeapLaws }
+{
+    block_laws();
+    blocks_listed();
 }
 
 /// Puts a word at an address, where one stands among those of an area that begins at `start`.

@@ -1,4 +1,4 @@
-ghost use Rattle.std.specs.Prelude.{◌≡◌, ◌≢◌, ℕ, ◌+◌, ◌<◌, ◌%◌, ◌^◌, ◌==◌, if◌then◌else◌, None, true, slice_index, slice_set};
+ghost use Rattle.std.specs.Prelude.{◌≡◌, ◌≢◌, ℕ, ◌+◌, ◌<◌, ◌%◌, ◌^◌, ◌==◌, Bool, if◌then◌else◌, None, true, slice_index, slice_set};
 ghost use Rattle.ia32_code.specs.Canonical.{Canonical};
 ghost use Rattle.ia32_step.specs.Operands.{state_of};
 ghost use Rattle.ia32_step.specs.Effects.{below_top, pushed};
@@ -7,11 +7,12 @@ ghost use Rattle.tal_image.specs.Image.{ImageParts};
 ghost use Rattle.typed_machine.specs.States.{State};
 ghost use Rattle.typed_machine.specs.Effects.{Effect};
 ghost use Rattle.word_machine.specs.Memory.{is_mapped, word_at};
+ghost use Rattle.word_machine.specs.Laws.{Written};
 ghost use Rattle.word_machine.specs.Following.{StandsAt, Runs, Came};
 ghost use Rattle.word_machine.specs.Stepping.{StepLaws, is_push, is_at_limit, overflows, Left, returned, went_back};
 
 use crate::laws;
-use crate::memory::{Memory, STACK_WORDS};
+use crate::memory::{Memory, STACK_WORDS, heap_lawful};
 use ia32_code::Inst;
 use ia32_step::{Bus, Cpu, Effect as StepEffect, exec};
 use object_layout::areas::STACKS_START;
@@ -41,8 +42,8 @@ pub enum Step {
 pub fn advance(cpu: &mut Cpu, memory: &mut Memory, current: u32, inst: &Inst, len: u8) -> Step
     requires spelled { Canonical inst.now ≢ None }
     requires runs { Runs current inst.now len cpu.old memory.old }
-    ensures { (image : ImageParts) (s : State) → StandsAt image s cpu.old memory.old inst.now len → s.current ≡ current
-        → Came result cpu.new memory.new image s (Effect image s inst.now len) }
+    ensures { (image : ImageParts) (live : ℕ → Bool) (s : State) → StandsAt image live s cpu.old memory.old inst.now len → s.current ≡ current
+        → Came result cpu.new memory.new image live s (Effect image s inst.now len) }
 {
     lawful();
     let next = cpu.pc.wrapping_add(len as u32);
@@ -67,14 +68,16 @@ pub fn advance(cpu: &mut Cpu, memory: &mut Memory, current: u32, inst: &Inst, le
 fn execute(cpu: &mut Cpu, memory: &mut Memory, current: u32, inst: &Inst, len: u8) -> StepEffect
     requires spelled { Canonical inst.now ≢ None }
     requires runs { Runs current inst.now len cpu.old memory.old }
-    ensures { (image : ImageParts) (s : State) → StandsAt image s cpu.old memory.old inst.now len → s.current ≡ current
-        → Left image s (next_address s.thread.place len) result (Effect image s inst.now len) cpu.new memory.new }
+    ensures { (image : ImageParts) (live : ℕ → Bool) (s : State) → StandsAt image live s cpu.old memory.old inst.now len → s.current ≡ current
+        → Left image live s (next_address s.thread.place len) result (Effect image s inst.now len) cpu.new memory.new }
 {
     lawful();
     if overflows(inst, cpu, current) {
         return StepEffect::Fault(STACK_FAULT);
     }
-    exec(cpu, memory, inst, len)
+    let effect = exec(cpu, memory, inst, len);
+    memory.formed();
+    effect
 }
 
 // The laws that a step rests on: facts for the proof.
@@ -88,6 +91,8 @@ fn lawful()
     typed_safety::laws::formed_images_tell();
     typed_safety::laws::well_typed_images_keep_typing();
     typed_safety::laws::displays_are_there();
+    typed_safety::laws::instructions_use_living();
+    heap_lawful();
 }
 
 fn is_push(inst: &Inst) -> bool
@@ -118,11 +123,10 @@ fn enter(cpu: &mut Cpu, memory: &mut Memory, target: u32, next: u32)
     ensures regs { cpu.new.regs ≡ (pushed next (state_of cpu.old (word_at memory.old))).regs }
     ensures flags { cpu.new.flags ≡ cpu.old.flags }
     ensures place { cpu.new.pc ≡ target }
-    ensures words { (a : ℕ) → word_at memory.new a ≡ (pushed next (state_of cpu.old (word_at memory.old))).memory a }
-    ensures mapped { (a : ℕ) → is_mapped memory.new a ≡ is_mapped memory.old a }
+    ensures written { Written memory.old memory.new (below_top (state_of cpu.old (word_at memory.old))) next }
 {
     let top = cpu.regs[ESP].wrapping_sub(4);
-    memory.store(top, next);
+    memory.put(top, next);
     cpu.regs[ESP] = top;
     cpu.pc = target;
 }
