@@ -7,10 +7,10 @@ use Rattle.std.proofs.lemmas.Option.{slice_get_cases}
 use Rattle.object_layout.specs.Areas.{word_index}
 use Rattle.std.specs.List.{between, list_any}
 use Rattle.std.specs.Option.{option_map_or}
-use Rattle.heap_words.specs.Blocks.{Block, Blocks}
+use Rattle.heap_words.specs.Blocks.{Block, Blocks, FormedHeap}
 use Rattle.object_layout.specs.Areas.{tables_start, descriptors_start, statics_start, stacks_start, heap_start}
 use Rattle.word_machine.specs.Memory.{MemoryView, word_in, word_of, has_word, is_object_word, is_open, is_mapped, word_at}
-use Rattle.word_machine.specs.Laws.{Written}
+use Rattle.word_machine.specs.Laws.{Written, IsPut}
 use Rattle.word_machine.proofs.Lists.{drop-read}
 use Rattle.word_machine.proofs.Heaps.{same-list}
 
@@ -173,6 +173,15 @@ mapped_after m n a w there h opened b = go (nat_eq b a) refl (h b)
 -- the same where the blocks of the heap stay
 pub mapped-through : (m n : MemoryView) (a w : ℕ) → is_mapped m a ≡ true → Written m n a w → Blocks n.heap ≡ Blocks m.heap → (b : ℕ) → is_mapped n b ≡ is_mapped m b
 mapped-through m n a w there h blocks = mapped_after m n a w there h (same-open m.heap n.heap blocks)
+
+-- what a write leaves that is not in the heap
+pub put-below : (m n : MemoryView) (a w : ℕ) → is_mapped m a ≡ true → Written m n a w → n.heap ≡ m.heap → FormedHeap n.heap → IsPut m n a w
+put-below m n a w there h same formed = record {
+  written = h;
+  mapped = mapped-through m n a w there h (ap Blocks same);
+  formed = formed;
+  heap = inl same;
+}
 
 -- what is mapped below the heap, and in it
 pub low-mapped : (m : MemoryView) (a : ℕ) → a < heap_start → is_mapped m a ≡ is_some (word_of m a)

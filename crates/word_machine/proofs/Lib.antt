@@ -16,6 +16,7 @@ pub mod FirstState
 pub mod Spelled
 pub mod Operating
 pub mod Telling
+pub mod OneWrite
 pub mod Grounding
 pub mod OperandWords
 pub mod Putting

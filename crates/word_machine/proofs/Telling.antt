@@ -6,12 +6,12 @@ use Rattle.std.proofs.lemmas.Bool.{cases_lt}
 use Rattle.std.proofs.lemmas.Bool.Decides.{nat_tests}
 use Rattle.std.proofs.lemmas.List.{get_or-set_same, get_or-set_other}
 use Rattle.std.proofs.lemmas.Option.{unwrap_or-slice_get}
-use Rattle.heap_words.specs.Blocks.{FormedHeap, IsObjectWord}
+use Rattle.heap_words.specs.Blocks.{Blocks, FormedHeap, IsObjectWord}
 use Rattle.object_layout.specs.Areas.{heap_start}
 use Rattle.word_machine.specs.Memory.{MemoryView, word_in, word_of, is_object_word, is_open, is_mapped, word_at}
-use Rattle.word_machine.specs.Laws.{Written}
+use Rattle.word_machine.specs.Laws.{Written, IsPut}
 use Rattle.word_machine.specs.Stepping.{HeapLaws}
-use Rattle.word_machine.proofs.Areas.{is_within, word_put, mapped-word, there_in_heap, low-mapped, heap-object, heap_there}
+use Rattle.word_machine.proofs.Areas.{is_within, word_put, in_heap, mapped-word, mapped-through, there_in_heap, low-mapped, heap-object, heap_there}
 use Rattle.word_machine.proofs.Heaps.{object-inside, object-is-word, set-formed, same-heap}
 
 -- ---- one address
@@ -57,15 +57,16 @@ heap-word m k = rw (heap_there m k) (unwrapped (slice_get m.heap k) ∙ unwrap_o
 -- ---- all addresses
 
 module _ (laws : HeapLaws) (m after : MemoryView) (formed : FormedHeap m.heap) (formed_after : FormedHeap after.heap) where
-  -- where nothing changes, each word stays
+  -- where nothing changes, the heap stays
+  pub same-heap-told : ((a : ℕ) → word_at after a ≡ word_at m a) → after.heap ≡ m.heap
+  same-heap-told words = same-heap laws after.heap m.heap formed_after formed (λ k. sym (heap-word after k) ∙ words (heap_start + 4 * k) ∙ heap-word m k)
+
+  -- and each word
   pub same-told : ((a : ℕ) → word_at after a ≡ word_at m a) → ((a : ℕ) → is_mapped after a ≡ is_mapped m a) → (a : ℕ) → word_of after a ≡ word_of m a
   same-told words mapped a = elim (cases_lt a heap_start) [
     | inl low ↦ low-told m after a low (mapped a) (words a)
-    | inr high ↦ high-word after a high ∙ ap (λ (ws : List ℕ). word_in heap_start ws a) heap ∙ sym (high-word m a high)
+    | inr high ↦ high-word after a high ∙ ap (λ (ws : List ℕ). word_in heap_start ws a) (same-heap-told words) ∙ sym (high-word m a high)
   ]
-    where
-      heap : after.heap ≡ m.heap
-      heap = same-heap laws after.heap m.heap formed_after formed (λ k. sym (heap-word after k) ∙ words (heap_start + 4 * k) ∙ heap-word m k)
 
   module _ (a w : ℕ) (here : is_mapped m a ≡ true) (words : (b : ℕ) → word_at after b ≡ (if b == a then w else word_at m b))
       (mapped : (b : ℕ) → is_mapped after b ≡ is_mapped m b) where
@@ -135,3 +136,25 @@ module _ (laws : HeapLaws) (m after : MemoryView) (formed : FormedHeap m.heap) (
     -- a memory that differs in one word, which is mapped
     pub written-told : Written m after a w
     written-told = elim (cases_lt a heap_start) [ inl low ↦ low-written low | inr high ↦ high-written high ]
+
+-- ---- a write in the heap
+
+-- what it leaves
+pub put-in-heap : HeapLaws → (m : MemoryView) (words : List ℕ) (a w : ℕ) → is_mapped m a ≡ true → heap_start ≤ a
+    → is_some (word_in heap_start m.heap a) ≡ true → is_object_word m.heap ((a - heap_start) / 4) ≡ true → FormedHeap m.heap
+    → words ≡ slice_set m.heap ((a - heap_start) / 4) w → Blocks words ≡ Blocks m.heap → FormedHeap words → IsPut m (record m { heap = words }) a w
+put-in-heap laws m words a w here high there object formed is blocks after = record {
+  written = written;
+  mapped = mapped-through m (record m { heap = words }) a w here written blocks;
+  formed = after;
+  heap = inr (record {
+    index = (a - heap_start) / 4;
+    word = w;
+    object = object-is-word laws m.heap formed ((a - heap_start) / 4) object;
+    inside = object-inside laws m.heap formed ((a - heap_start) / 4) object;
+    is = is;
+  });
+}
+  where
+    written : Written m (record m { heap = words }) a w
+    written = in_heap m words a w high (rw is (word_put heap_start m.heap a w there))

@@ -1,5 +1,6 @@
 -- Laws of words that stand for a state: of the words at spots, and of the running stack.
-use Rattle.std.specs.Prelude.{◌≡◌, ◌≢◌, ℕ, ◌-◌, ◌<◌, ◌≤◌, ◌==◌, Bool, true, List, ◌∷◌, length, drop, Some, slice_get, if◌then◌else◌}
+use Rattle.std.specs.Prelude.{◌≡◌, ◌≢◌, ◌⊎◌, ℕ, ◌-◌, ◌<◌, ◌≤◌, ◌==◌, Bool, true, List, ◌∷◌, length, drop, Some, slice_get, slice_set, if◌then◌else◌}
+use Rattle.heap_words.specs.Blocks.{FormedHeap, IsObjectWord}
 use Rattle.ia32_code.specs.declared.instruction.Reg.TheVariants.{Esp}
 use Rattle.ia32_code.specs.declared.instruction.Mem.{Mem}
 use Rattle.ia32_step.specs.declared.cpu.Cpu.{Cpu}
@@ -20,6 +21,25 @@ use Rattle.word_machine.specs.Following.{Grounds}
 -- the word at an address changes, and no other
 abbrev pub Written : MemoryView → MemoryView → ℕ → ℕ → Type 0
 Written before after a w = (b : ℕ) → word_of after b ≡ (if b == a then Some w else word_of before b)
+
+-- one word of an object of the heap became another
+pub record ObjectWritten (before after : List ℕ) : Type 0 where
+  pub index : ℕ
+  pub word : ℕ
+  pub object : IsObjectWord before index
+  pub inside : index < length before
+  pub is : after ≡ slice_set before index word
+
+-- so it is, or the heap is as it was
+abbrev pub HeapWritten : List ℕ → List ℕ → Type 0
+HeapWritten before after = (after ≡ before) ⊎ ObjectWritten before after
+
+-- what a write at an address that is mapped leaves
+pub record IsPut (before after : MemoryView) (a w : ℕ) : Type 0 where
+  pub written : Written before after a w
+  pub mapped : (b : ℕ) → is_mapped after b ≡ is_mapped before b
+  pub formed : FormedHeap after.heap
+  pub heap : HeapWritten before.heap after.heap
 
 -- the word at a spot stands at the operand's address, which is mapped; ESP is no index, as in each operand that is spelled
 abbrev pub SpotsAreRead : Type 0

@@ -63,3 +63,10 @@ returned word = if word == 0 then step.Ends else step.Moves
 
 abbrev pub went_back : ℕ → Cpu → Cpu
 went_back word cpu = if word == 0 then cpu else record { regs = slice_set cpu.regs 4 ((slice_index cpu.regs 4 + 4) % 2 ^ 32); flags = cpu.flags; pc = word }
+
+-- the effect leaves something to the turn
+abbrev pub IsLeft : StepEffect → Type 0
+IsLeft left.Next = ⊥
+IsLeft (left.Fault n) = Unit {0}
+IsLeft (left.Call a) = Unit {0}
+IsLeft left.Return = Unit {0}

@@ -7,7 +7,7 @@ ghost use Rattle.object_layout.specs.Classes.{table_word, descriptor_word};
 ghost use Rattle.tal_image.specs.Shown.{shapes_of, data_words};
 ghost use Rattle.typed_machine.specs.States.{first_state, stack_bytes};
 ghost use Rattle.typed_machine.specs.Words.{upper_end};
-ghost use Rattle.word_machine.specs.Laws.{Written};
+ghost use Rattle.word_machine.specs.Laws.{IsPut};
 ghost use Rattle.word_machine.specs.Memory.{word_in, word_of, is_object_word, is_mapped};
 ghost use Rattle.word_machine.specs.Standing.{MemoryStands};
 ghost use Rattle.word_machine.specs.Stepping.{HeapLaws};
@@ -126,9 +126,7 @@ impl Memory {
     /// Puts a word at an address that is mapped. No other word changes, and what is mapped stays so.
     pub fn put(&mut self, address: u32, word: u32)
         requires { is_mapped self.old address ≡ true }
-        ensures written { Written self.old self.new address word }
-        ensures mapped { (a : ℕ) → is_mapped self.new a ≡ is_mapped self.old a }
-        ensures formed { FormedHeap self.new.heap }
+        ensures { IsPut self.old self.new address word }
     {
         heap_lawful();
         let _size = self.heap.size();

@@ -7,9 +7,9 @@ ghost use Rattle.tal_image.specs.Image.{ImageParts};
 ghost use Rattle.typed_machine.specs.States.{State};
 ghost use Rattle.typed_machine.specs.Effects.{Effect};
 ghost use Rattle.word_machine.specs.Memory.{is_mapped, word_at};
-ghost use Rattle.word_machine.specs.Laws.{Written};
+ghost use Rattle.word_machine.specs.Laws.{IsPut, HeapWritten};
 ghost use Rattle.word_machine.specs.Following.{StandsAt, Runs, Came};
-ghost use Rattle.word_machine.specs.Stepping.{StepLaws, is_push, is_at_limit, overflows, Left, returned, went_back};
+ghost use Rattle.word_machine.specs.Stepping.{StepLaws, is_push, is_at_limit, overflows, Left, IsLeft, returned, went_back};
 
 use crate::laws;
 use crate::memory::{Memory, STACK_WORDS, heap_lawful};
@@ -38,12 +38,14 @@ pub enum Step {
 
 /// Runs the instruction at the processor's place, which is spelled with `len` bytes, on the stack `current`.
 ///
-/// From every typed state that the words stand for they come to where the instruction's effect leads.
+/// From every typed state that the words stand for they come to where the instruction's effect leads. In the heap one word of an
+/// object changes at most.
 pub fn advance(cpu: &mut Cpu, memory: &mut Memory, current: u32, inst: &Inst, len: u8) -> Step
     requires spelled { Canonical inst.now ≢ None }
     requires runs { Runs current inst.now len cpu.old memory.old }
-    ensures { (image : ImageParts) (live : ℕ → Bool) (s : State) → StandsAt image live s cpu.old memory.old inst.now len → s.current ≡ current
+    ensures step { (image : ImageParts) (live : ℕ → Bool) (s : State) → StandsAt image live s cpu.old memory.old inst.now len → s.current ≡ current
         → Came result cpu.new memory.new image live s (Effect image s inst.now len) }
+    ensures heap { HeapWritten memory.old.heap memory.new.heap }
 {
     lawful();
     let next = cpu.pc.wrapping_add(len as u32);
@@ -68,13 +70,17 @@ pub fn advance(cpu: &mut Cpu, memory: &mut Memory, current: u32, inst: &Inst, le
 fn execute(cpu: &mut Cpu, memory: &mut Memory, current: u32, inst: &Inst, len: u8) -> StepEffect
     requires spelled { Canonical inst.now ≢ None }
     requires runs { Runs current inst.now len cpu.old memory.old }
-    ensures { (image : ImageParts) (live : ℕ → Bool) (s : State) → StandsAt image live s cpu.old memory.old inst.now len → s.current ≡ current
+    ensures left { (image : ImageParts) (live : ℕ → Bool) (s : State) → StandsAt image live s cpu.old memory.old inst.now len → s.current ≡ current
         → Left image live s (next_address s.thread.place len) result (Effect image s inst.now len) cpu.new memory.new }
+    ensures heap { HeapWritten memory.old.heap memory.new.heap }
+    ensures stays { IsLeft result → memory.new.heap ≡ memory.old.heap }
 {
     lawful();
     if overflows(inst, cpu, current) {
         return StepEffect::Fault(STACK_FAULT);
     }
+    // The heap is blocks before and after.
+    memory.formed();
     let effect = exec(cpu, memory, inst, len);
     memory.formed();
     effect
@@ -123,7 +129,7 @@ fn enter(cpu: &mut Cpu, memory: &mut Memory, target: u32, next: u32)
     ensures regs { cpu.new.regs ≡ (pushed next (state_of cpu.old (word_at memory.old))).regs }
     ensures flags { cpu.new.flags ≡ cpu.old.flags }
     ensures place { cpu.new.pc ≡ target }
-    ensures written { Written memory.old memory.new (below_top (state_of cpu.old (word_at memory.old))) next }
+    ensures put { IsPut memory.old memory.new (below_top (state_of cpu.old (word_at memory.old))) next }
 {
     let top = cpu.regs[ESP].wrapping_sub(4);
     memory.put(top, next);
