@@ -1,5 +1,5 @@
 -- What every Nucleus keeps stays where a stack goes on.
-use Rattle.std.proofs.Common.{◌≡◌, ◌<◌, ◌≤◌, ◌==◌, ◌+◌, ◌*◌, ℕ, Bool, true, false, if◌then◌else◌, List, length, Some, is_some, slice_set, length-set, refl, ◌∙◌, sym, arith}
+use Rattle.std.proofs.Common.{◌≡◌, ◌<◌, ◌≤◌, ◌+◌, ◌*◌, ℕ, true, List, length, slice_set, length-set, ◌∙◌, sym, arith}
 use Rattle.ia32_step.specs.declared.cpu.Cpu.{Cpu}
 use Rattle.stack_states.specs.declared.stack_state.StackState.{StackState}
 use Rattle.stack_states.specs.declared.stack_state.StackState.TheVariants.{Empty, Running, Yielded, Interrupted}
@@ -7,7 +7,7 @@ use Rattle.stack_states.specs.StackTable.{current_of}
 use Rattle.stack_states.specs.StackTable as table
 use Rattle.device_model.specs.Devices.{DevicesView}
 use Rattle.typed_machine.specs.Words.{stack_pointer}
-use Rattle.word_machine.specs.Memory.{MemoryView, word_of, is_mapped}
+use Rattle.word_machine.specs.Memory.{MemoryView, is_mapped}
 use Rattle.nucleus_calls.specs.Nucleus.{NucleusView, IsKept}
 use Rattle.nucleus_calls.specs.Calling.{GoesOn}
 use Rattle.nucleus_calls.proofs.Led.{with_parts}
@@ -15,12 +15,7 @@ use Rattle.nucleus_calls.proofs.Led.{with_parts}
 -- what is mapped stays so
 mapped-kept : (start n reply : ℕ) (was : StackState) (m : MemoryView) (cpu : Cpu) (after : MemoryView) → GoesOn start n reply was m cpu after
     → (b : ℕ) → is_mapped m b ≡ true → is_mapped after b ≡ true
-unfolding is_mapped
-mapped-kept start n reply Empty m cpu after (is, written) b there = rw (written b) (go (b == stack_pointer n 1))
-  where
-    go : (t : Bool) → is_some (if t then Some 0 else word_of m b) ≡ true
-    go true = refl
-    go false = there
+mapped-kept start n reply Empty m cpu after (is, put) b there = put.mapped b ∙ there
 mapped-kept start n reply Running m cpu after went b there = absurd went
 mapped-kept start n reply (Yielded sp pc) m cpu after (is, unchanged) b there = rw unchanged there
 mapped-kept start n reply (Interrupted regs flags pc) m cpu after (is, unchanged) b there = rw unchanged there

@@ -17,4 +17,5 @@ restacked image live s t m h statics store stacks = record {
   stacks = rw store stacks;
   room = h.room;
   lie = record { short = rw statics h.lie.short; aligned = rw store h.lie.aligned; inside = rw (store, statics) h.lie.inside; apart = rw store h.lie.apart };
+  blocks = rw store h.blocks;
 }

@@ -1,10 +1,9 @@
 -- An instruction that runs on the Nucleus's memory leads processor and Nucleus as it leads the state.
-use Rattle.std.proofs.Common.{◌≡◌, ◌<◌, ◌≤◌, ◌+◌, ◌*◌, ℕ, Option, Some, None, length, refl, sym, ◌∙◌}
+use Rattle.std.proofs.Common.{◌≡◌, ◌<◌, ◌≤◌, ◌+◌, ◌*◌, ℕ, Bool, Option, Some, None, length, refl, sym, ◌∙◌}
 use Rattle.ia32_code.specs.declared.instruction.Inst.{Inst}
 use Rattle.ia32_step.specs.declared.cpu.Cpu.{Cpu}
 use Rattle.stack_states.specs.StackTable.{OneRuns, current_of}
 use Rattle.tal_image.specs.Image.{ImageParts}
-use Rattle.typed_machine.specs.Values.{all_objects}
 use Rattle.typed_machine.specs.States.{State}
 use Rattle.typed_machine.specs.Effects.{EffectView, Moves, Faults, Calls, Ends, Effect}
 use Rattle.word_machine.specs.declared.step.Step.{Step}
@@ -18,8 +17,8 @@ use Rattle.nucleus_calls.proofs.Switched.{count-is, current-is}
 use Rattle.nucleus_calls.proofs.Led.{with_parts}
 
 -- the words stand for the state at whose place the instruction is
-words-stand : (image : ImageParts) (s : State) (i : Inst) (len : ℕ) (cpu : Cpu) (v : NucleusView) → AtInstruction image s i len cpu v → StandsAt image s cpu v.memory i len
-words-stand image s i len cpu v h = record {
+words-stand : (image : ImageParts) (live : ℕ → Bool) (s : State) (i : Inst) (len : ℕ) (cpu : Cpu) (v : NucleusView) → AtInstruction image live s i len cpu v → StandsAt image live s cpu v.memory i len
+words-stand image live s i len cpu v h = record {
   grounds = record {
     well_typed = h.before.well_typed;
     typed = h.before.typed;
@@ -33,26 +32,26 @@ words-stand image s i len cpu v h = record {
 
 -- the instruction may run on the running stack
 pub may-run : (i : Inst) (len : ℕ) (cpu : Cpu) (v : NucleusView) → MayStep i len cpu v → OneRuns v.stacks → Runs (current_of v.stacks) i len cpu v.memory
-may-run i len cpu v (image, s, h) one =
-    (image, s, words-stand image s i len cpu v h, sym (current-is h.before.typed h.before.nucleus one))
+may-run i len cpu v (image, live, s, h) one =
+    (image, live, s, words-stand image live s i len cpu v h, sym (current-is h.before.typed h.before.nucleus one))
 
 -- what `advance` ensures
 abbrev pub Advances : Inst → ℕ → ℕ → Cpu → MemoryView → Step → Cpu → MemoryView → Type 0
 Advances i len current cpu m r ran after =
-    (image : ImageParts) (s : State) → StandsAt image s cpu m i len → s.current ≡ current → Came r ran after image s (Effect image s i len)
+    (image : ImageParts) (live : ℕ → Bool) (s : State) → StandsAt image live s cpu m i len → s.current ≡ current → Came r ran after image live s (Effect image s i len)
 
 -- the same stacks, starts and devices with the words that came of it
-same-stands : (image : ImageParts) (s : State) (v : NucleusView) (ran : Cpu) (after : MemoryView) → NucleusStands image all_objects s v
-    → WordsStand image all_objects s ran after → BothStand image s ran (with_parts v after v.stacks v.devices)
-same-stands image s v ran after h words = record {
+same-stands : (image : ImageParts) (live : ℕ → Bool) (s : State) (v : NucleusView) (ran : Cpu) (after : MemoryView) → NucleusStands image live s v
+    → WordsStand image live s ran after → BothStand image live s ran (with_parts v after v.stacks v.devices)
+same-stands image live s v ran after h words = record {
   processor = words.processor;
   nucleus = record { memory = words.memory; stacks = h.stacks; starts = h.starts; devices = h.devices };
 }
 
 -- so it is with a state that kept the rest
-rest-stands : (image : ImageParts) (s t : State) (v : NucleusView) (ran : Cpu) (after : MemoryView) → NucleusStands image all_objects s v → KeepsRest s t
-    → WordsStand image all_objects t ran after → BothStand image t ran (with_parts v after v.stacks v.devices)
-rest-stands image s t v ran after h keeps words = record {
+rest-stands : (image : ImageParts) (live : ℕ → Bool) (s t : State) (v : NucleusView) (ran : Cpu) (after : MemoryView) → NucleusStands image live s v → KeepsRest s t
+    → WordsStand image live t ran after → BothStand image live t ran (with_parts v after v.stacks v.devices)
+rest-stands image live s t v ran after h keeps words = record {
   processor = words.processor;
   nucleus = record {
     memory = words.memory;
@@ -62,37 +61,37 @@ rest-stands image s t v ran after h keeps words = record {
   };
 }
 
-came-stands : (image : ImageParts) (s : State) (v : NucleusView) (r : Step) (ran : Cpu) (after : MemoryView) → NucleusStands image all_objects s v
-    → (called : Option ℕ) (o : Option EffectView) → EffectLeaves called s o → Came r ran after image s o → Stepped r ran (with_parts v after v.stacks v.devices) image s o
-came-stands image s v r ran after h called None keeps came = came
-came-stands image s v r ran after h called (Some (Moves t)) keeps (is, words) =
-    (is, rest-stands image s t v ran after h keeps words, record { turns = keeps.turns; ending = keeps.ending })
-came-stands image s v r ran after h called (Some (Faults vector)) keeps (is, words) = (is, same-stands image s v ran after h words)
-came-stands image s v r ran after h called (Some (Calls k)) keeps (is, words) = (is, same-stands image s v ran after h words)
-came-stands image s v r ran after h called (Some Ends) keeps (is, words) = (is, same-stands image s v ran after h words)
+came-stands : (image : ImageParts) (live : ℕ → Bool) (s : State) (v : NucleusView) (r : Step) (ran : Cpu) (after : MemoryView) → NucleusStands image live s v
+    → (called : Option ℕ) (o : Option EffectView) → EffectLeaves called s o → Came r ran after image live s o → Stepped r ran (with_parts v after v.stacks v.devices) image live s o
+came-stands image live s v r ran after h called None keeps came = came
+came-stands image live s v r ran after h called (Some (Moves t)) keeps (is, words) =
+    (is, rest-stands image live s t v ran after h keeps words, record { turns = keeps.turns; ending = keeps.ending })
+came-stands image live s v r ran after h called (Some (Faults vector)) keeps (is, words) = (is, same-stands image live s v ran after h words)
+came-stands image live s v r ran after h called (Some (Calls k)) keeps (is, words) = (is, same-stands image live s v ran after h words)
+came-stands image live s v r ran after h called (Some Ends) keeps (is, words) = (is, same-stands image live s v ran after h words)
 
 -- the instruction leads them as it leads the state
 pub step-leads : (i : Inst) (len : ℕ) (cpu : Cpu) (v : NucleusView) (r : Step) (ran : Cpu) (after : MemoryView) → OneRuns v.stacks
     → Advances i len (current_of v.stacks) cpu v.memory r ran after
-    → (image : ImageParts) (s : State) → AtInstruction image s i len cpu v
-    → Stepped r ran (with_parts v after v.stacks v.devices) image s (Effect image s i len)
-step-leads i len cpu v r ran after one advances image s h =
-    came-stands image s v r ran after h.before.nucleus _ (Effect image s i len) (effect-leaves image s i len)
-    (advances image s (words-stand image s i len cpu v h) (sym (current-is h.before.typed h.before.nucleus one)))
+    → (image : ImageParts) (live : ℕ → Bool) (s : State) → AtInstruction image live s i len cpu v
+    → Stepped r ran (with_parts v after v.stacks v.devices) image live s (Effect image s i len)
+step-leads i len cpu v r ran after one advances image live s h =
+    came-stands image live s v r ran after h.before.nucleus _ (Effect image s i len) (effect-leaves image s i len)
+    (advances image live s (words-stand image live s i len cpu v h) (sym (current-is h.before.typed h.before.nucleus one)))
 
 -- the words still stand for some state
-came-memory : (image : ImageParts) (s : State) (r : Step) (ran : Cpu) (after : MemoryView) (o : Option EffectView) → Came r ran after image s o
-    → (t : State) × MemoryStands image all_objects t after
-came-memory image s r ran after None came = absurd came
-came-memory image s r ran after (Some (Moves t)) (is, words) = (t, words.memory)
-came-memory image s r ran after (Some (Faults vector)) (is, words) = (s, words.memory)
-came-memory image s r ran after (Some (Calls k)) (is, words) = (s, words.memory)
-came-memory image s r ran after (Some Ends) (is, words) = (s, words.memory)
+came-memory : (image : ImageParts) (live : ℕ → Bool) (s : State) (r : Step) (ran : Cpu) (after : MemoryView) (o : Option EffectView) → Came r ran after image live s o
+    → (t : State) × MemoryStands image live t after
+came-memory image live s r ran after None came = absurd came
+came-memory image live s r ran after (Some (Moves t)) (is, words) = (t, words.memory)
+came-memory image live s r ran after (Some (Faults vector)) (is, words) = (s, words.memory)
+came-memory image live s r ran after (Some (Calls k)) (is, words) = (s, words.memory)
+came-memory image live s r ran after (Some Ends) (is, words) = (s, words.memory)
 
 -- so each stack has all of its words
 pub step-kept : (i : Inst) (len : ℕ) (cpu : Cpu) (v : NucleusView) (r : Step) (ran : Cpu) (after : MemoryView) → IsKept v → OneRuns v.stacks
     → MayStep i len cpu v → Advances i len (current_of v.stacks) cpu v.memory r ran after → IsKept (with_parts v after v.stacks v.devices)
-step-kept i len cpu v r ran after kept one (image, s, h) advances =
-    let t = came-memory image s r ran after _ (advances image s (words-stand image s i len cpu v h) (sym (current-is h.before.typed h.before.nucleus one))) in
+step-kept i len cpu v r ran after kept one (image, live, s, h) advances =
+    let t = came-memory image live s r ran after _ (advances image live s (words-stand image live s i len cpu v h) (sym (current-is h.before.typed h.before.nucleus one))) in
     let count = count-is h.before.typed h.before.nucleus in
     record { room = λ a low high aligned. t.1.room a low (rw count at high) aligned; starts = kept.starts }

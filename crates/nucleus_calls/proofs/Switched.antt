@@ -152,13 +152,13 @@ switch-stands law image live s v well_typed typed stands one to differs was wait
     go : (stack : Stack) → slice_get s.stacks to ≡ Some stack → GoesOn start to reply (state_by (places_of s) to stack) v.memory cpu after
         → SwitchStands image live s (switched image to (Number reply) left s) cpu
         (record { memory = after; stacks = table.handed_over v.stacks (state_by (places_of s) s.current left) to; starts = v.starts; devices = v.devices })
-    go EmptyStack here (is, written) = record {
+    go EmptyStack here (is, put) = record {
       state = handed_over left to (runs (fresh_thread (Number 0) (entry_place image to)) (Ret 0 ∷ []) s);
       is = rw here refl;
       same_turn = record { turns = refl; ending = refl };
       processor = rw (is, start-is) (fresh-stands _ 0 _ _ refl refl);
       nucleus = moved typed stands to other inside left keeps current after _ (Ret 0 ∷ [])
-          (law image live s v.memory well_typed typed stands.memory to here 0 after written) (end-word written);
+          (law image live s v.memory well_typed typed stands.memory to here 0 after put.written) (end-word put.written);
     }
       where
         end-word : Written v.memory after (stack_pointer to 1) 0 → HoldsValues after (places_of s) (stack_pointer to 1) (Ret 0 ∷ [])

@@ -6,7 +6,6 @@ use Rattle.ia32_step.specs.declared.cpu.Cpu.{Cpu}
 use Rattle.stack_states.specs.declared.journal_entry.Entry.{Entry}
 use Rattle.tal_image.specs.Image.{ImageParts}
 use Rattle.tal_checker.specs.WellTyped.{WellTyped}
-use Rattle.typed_machine.specs.Values.{all_objects}
 use Rattle.typed_machine.specs.States.{State, at_place}
 use Rattle.typed_machine.specs.Code.{inst_at}
 use Rattle.typed_machine.specs.Effects.{EffectView, Moves, Faults, Calls, Ends}
@@ -35,28 +34,28 @@ pub record SameTurn (s t : State) : Type 0 where
 
 -- ---- an instruction
 
--- so it is with all objects, and this instruction stands at the state's place
-pub record AtInstruction (image : ImageParts) (s : State) (i : Inst) (len : ℕ) (cpu : Cpu) (v : NucleusView) : Type 0 where
-  pub before : StandsBefore image all_objects s s.thread.place cpu v
+-- so it is, and this instruction stands at the state's place
+pub record AtInstruction (image : ImageParts) (live : ℕ → Bool) (s : State) (i : Inst) (len : ℕ) (cpu : Cpu) (v : NucleusView) : Type 0 where
+  pub before : StandsBefore image live s s.thread.place cpu v
   pub here : inst_at image s.thread.place ≡ Some (i, len)
 
 -- there is such a state
 abbrev pub MayStep : Inst → ℕ → Cpu → NucleusView → Type 0
-MayStep i len cpu v = (image : ImageParts) × (s : State) × AtInstruction image s i len cpu v
+MayStep i len cpu v = (image : ImageParts) × (live : ℕ → Bool) × (s : State) × AtInstruction image live s i len cpu v
 
 -- processor and Nucleus stand for a state
-pub record BothStand (image : ImageParts) (s : State) (cpu : Cpu) (v : NucleusView) : Type 0 where
+pub record BothStand (image : ImageParts) (live : ℕ → Bool) (s : State) (cpu : Cpu) (v : NucleusView) : Type 0 where
   pub processor : CpuStands s cpu
-  pub nucleus : NucleusStands image all_objects s v
+  pub nucleus : NucleusStands image live s v
 
 -- They came to where an instruction's effect leads from a state: to the state after it, in the same turn; at a fault, a call of
 -- the Nucleus and the end word they stand where they stood.
-abbrev pub Stepped : Step → Cpu → NucleusView → ImageParts → State → Option EffectView → Type 0
-Stepped r cpu v image s None = ⊥
-Stepped r cpu v image s (Some (Moves t)) = (r ≡ step.Moves) × BothStand image t cpu v × SameTurn s t
-Stepped r cpu v image s (Some (Faults vector)) = (r ≡ step.Faults vector) × BothStand image s cpu v
-Stepped r cpu v image s (Some (Calls k)) = (r ≡ step.Calls k) × BothStand image s cpu v
-Stepped r cpu v image s (Some Ends) = (r ≡ step.Ends) × BothStand image s cpu v
+abbrev pub Stepped : Step → Cpu → NucleusView → ImageParts → (ℕ → Bool) → State → Option EffectView → Type 0
+Stepped r cpu v image live s None = ⊥
+Stepped r cpu v image live s (Some (Moves t)) = (r ≡ step.Moves) × BothStand image live t cpu v × SameTurn s t
+Stepped r cpu v image live s (Some (Faults vector)) = (r ≡ step.Faults vector) × BothStand image live s cpu v
+Stepped r cpu v image live s (Some (Calls k)) = (r ≡ step.Calls k) × BothStand image live s cpu v
+Stepped r cpu v image live s (Some Ends) = (r ≡ step.Ends) × BothStand image live s cpu v
 
 -- ---- calls, interrupts and leaving
 

@@ -4,7 +4,7 @@ ghost use Rattle.typed_machine.specs.Words.{stack_pointer};
 ghost use Rattle.word_machine.specs.Memory.{is_mapped};
 ghost use Rattle.nucleus_calls.specs.Calling.{fresh_cpu, GoesOn};
 
-use ia32_step::{Bus, Cpu};
+use ia32_step::Cpu;
 use object_layout::areas::STACKS_START;
 use stack_states::{FlagBits, StackState};
 use word_machine::{Memory, STACK_WORDS};
@@ -52,7 +52,7 @@ pub(crate) fn go_on(
     match was {
         StackState::Empty => {
             let esp = first_esp(stack);
-            memory.store(esp, 0);
+            memory.put(esp, 0);
             *cpu = fresh_cpu(0, esp, start);
         }
         StackState::Running => unreachable!(),

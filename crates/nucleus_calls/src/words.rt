@@ -1,5 +1,5 @@
 // The words that a Nucleus owns: instructions run on them, and they are shown.
-ghost use Rattle.std.specs.Prelude.{◌≡◌, ◌≢◌, ℕ, ◌≤◌, ◌<◌, ◌+◌, ◌*◌, ◌%◌, None, true, length, slice_get};
+ghost use Rattle.std.specs.Prelude.{◌≡◌, ◌≢◌, ℕ, ◌≤◌, ◌<◌, ◌+◌, ◌*◌, ◌%◌, Bool, None, true, length, slice_get};
 ghost use Rattle.ia32_code.specs.Canonical.{Canonical};
 ghost use Rattle.object_layout.specs.Areas.{statics_start, stacks_start};
 ghost use Rattle.stack_states.specs.StackTable.{current_of};
@@ -22,8 +22,8 @@ impl Nucleus {
     pub fn step(&mut self, cpu: &mut Cpu, inst: &Inst, len: u8) -> Step
         requires spelled { Canonical inst.now ≢ None }
         requires runs { MayStep inst.now len cpu.old self.old }
-        ensures step { (image : ImageParts) (s : State) → AtInstruction image s inst.now len cpu.old self.old
-            → Stepped result cpu.new self.new image s (Effect image s inst.now len) }
+        ensures step { (image : ImageParts) (live : ℕ → Bool) (s : State) → AtInstruction image live s inst.now len cpu.old self.old
+            → Stepped result cpu.new self.new image live s (Effect image s inst.now len) }
         ensures stacks { self.new.stacks ≡ self.old.stacks }
     {
         let stack = self.running();
@@ -71,6 +71,6 @@ impl Bus for Nucleus {
     }
 
     fn store(&mut self, address: u32, word: u32) {
-        self.memory.store(address, word);
+        self.memory.put(address, word);
     }
 }

@@ -12,11 +12,11 @@ invariant_of-self c =
     let runs = rw (← c.self.view_is) at c.requires.runs in
     let one = rw (← c.self.view_is) at c.running-stack.ensures.one in
     let current = rw (← c.self.view_is) at c.running-stack.ensures.current in
-    step-kept c.args.inst.now c.args.len c.args.cpu.now _ _ _ _ c.self.invariant one runs (rw current at c.advance.ensures)
+    step-kept c.args.inst.now c.args.len c.args.cpu.now _ _ _ _ c.self.invariant one runs (rw current at c.advance.ensures.step)
 
 pub returns-clause-step : goal.returns-clause-step
-returns-clause-step c = λ image s h.
+returns-clause-step c = λ image live s h.
     let before = rw (← c.self.view_is) at h in
     let one = rw (← c.self.view_is) at c.running-stack.ensures.one in
     let current = rw (← c.self.view_is) at c.running-stack.ensures.current in
-    step-leads c.args.inst.now c.args.len c.args.cpu.now _ _ _ _ one (rw current at c.advance.ensures) image s before
+    step-leads c.args.inst.now c.args.len c.args.cpu.now _ _ _ _ one (rw current at c.advance.ensures.step) image live s before
