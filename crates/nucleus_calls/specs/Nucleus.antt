@@ -7,7 +7,7 @@ use Rattle.device_model.specs.Devices.{DevicesView, StandsFor}
 use Rattle.tal_image.specs.Image.{ImageParts}
 use Rattle.typed_machine.specs.States.{State, Stack, stack_bytes, EmptyStack, RunningStack, YieldedStack, InterruptedStack, places_of, entry_place}
 use Rattle.typed_machine.specs.Words.{stack_pointer, register_words}
-use Rattle.word_machine.specs.Memory.{MemoryView, is_mapped, word_at}
+use Rattle.word_machine.specs.Memory.{MemoryView, is_mapped}
 use Rattle.word_machine.specs.Standing.{MemoryStands}
 
 -- the memory, what each stack does, the address at which each starts, and the devices
@@ -16,13 +16,6 @@ pub record NucleusView : Type 0 where
   pub stacks : List StackState
   pub starts : List ℕ
   pub devices : DevicesView
-
--- a word of the memory stands at the address, and which: 0 where none does
-abbrev pub nucleus_mapped : NucleusView → ℕ → Bool
-nucleus_mapped v a = is_mapped v.memory a
-
-abbrev pub nucleus_word : NucleusView → ℕ → ℕ
-nucleus_word v a = word_at v.memory a
 
 -- what stack n does, with what is kept of it: its ESP and its place, or its registers, flags and place
 abbrev pub state_by : List ℕ → ℕ → Stack → StackState

@@ -12,7 +12,7 @@ ghost use Rattle.nucleus_calls.specs.Turning.{AtInstruction, MayStep, Stepped};
 
 use crate::nucleus::Nucleus;
 use ia32_code::Inst;
-use ia32_step::{Bus, Cpu};
+use ia32_step::Cpu;
 use word_machine::{Step, advance};
 
 impl Nucleus {
@@ -52,25 +52,5 @@ impl Nucleus {
         ensures each { (k : ℕ) → k < count → slice_get result.now k ≡ word_of self.now.memory (statics_start + 4 * k) }
     {
         self.memory.statics(count)
-    }
-}
-
-impl Bus for Nucleus {
-    ghost use Rattle.nucleus_calls.specs.Nucleus.{nucleus_mapped, nucleus_word};
-
-    ghost is_mapped = { nucleus_mapped };
-
-    ghost word_at = { nucleus_word };
-
-    fn mapped(&self, address: u32) -> bool {
-        self.memory.mapped(address)
-    }
-
-    fn load(&self, address: u32) -> u32 {
-        self.memory.load(address)
-    }
-
-    fn store(&mut self, address: u32, word: u32) {
-        self.memory.put(address, word);
     }
 }
