@@ -14,7 +14,7 @@ use Rattle.tal_image.specs.Conditions.{statics_fit}
 use Rattle.tal_image.specs.Shown.{shown}
 use Rattle.typed_machine.specs.Values.{Value, Word, all_objects}
 use Rattle.typed_machine.specs.States.{State, Stack, EmptyStack, RunningStack, YieldedStack, InterruptedStack, places_of, most_values}
-use Rattle.typed_machine.specs.Typing.{Typed}
+use Rattle.typed_machine.specs.Typing.{TypedAmong}
 use Rattle.typed_machine.specs.Words.{upper_end, stack_pointer, esp_of}
 use Rattle.typed_safety.specs.Laws.{RunsAreTyped}
 use Rattle.word_machine.specs.Memory.{MemoryView, word_of, word_at, is_mapped}
@@ -59,7 +59,7 @@ words-of-values m places a (v ∷ vs) h =
 -- ---- a stack
 
 -- the values of the running stack
-running-values : (image : ImageParts) (s : State) (n : ℕ) → Typed image s → slice_get s.stacks n ≡ Some RunningStack → values_at s n ≡ s.values
+running-values : (image : ImageParts) (s : State) (n : ℕ) → TypedAmong image all_objects s → slice_get s.stacks n ≡ Some RunningStack → values_at s n ≡ s.values
 unfolding values_at
 running-values image s n typed here = go (n == s.current) refl
   where
@@ -68,7 +68,7 @@ running-values image s n typed here = go (n == s.current) refl
     go false e = absurd (let same = typed.only n here in grind (arith, nat_tests))
 
 -- the values of another
-other-values : (image : ImageParts) (s : State) (n : ℕ) (stack : Stack) → Typed image s → slice_get s.stacks n ≡ Some stack → (stack ≡ RunningStack → ⊥)
+other-values : (image : ImageParts) (s : State) (n : ℕ) (stack : Stack) → TypedAmong image all_objects s → slice_get s.stacks n ≡ Some stack → (stack ≡ RunningStack → ⊥)
     → values_at s n ≡ kept_values stack
 unfolding values_at
 other-values image s n stack typed here other = go (n == s.current) refl
@@ -82,7 +82,7 @@ record EspIs (s : State) (cpu : Cpu) (n : ℕ) (stack : Stack) : Type 0 where
   esp : esp_by cpu n (state_by (places_of s) n stack) ≡ stack_pointer n (length (values_at s n))
   few : length (values_at s n) ≤ most_values
 
-esp-is : (image : ImageParts) (s : State) (cpu : Cpu) → Typed image s → CpuStands s cpu → (n : ℕ) (stack : Stack) → slice_get s.stacks n ≡ Some stack → EspIs s cpu n stack
+esp-is : (image : ImageParts) (s : State) (cpu : Cpu) → TypedAmong image all_objects s → CpuStands s cpu → (n : ℕ) (stack : Stack) → slice_get s.stacks n ≡ Some stack → EspIs s cpu n stack
 unfolding kept_values
 esp-is image s cpu typed h n RunningStack here =
     let values = running-values image s n typed here in
@@ -110,7 +110,7 @@ place-inside (y ∷ ys) zero x e = omega arith
 place-inside (y ∷ ys) (suc n) x e = let later = place-inside ys n x e in omega (arith, later)
 
 -- a stack's words are those of its values
-stack-shows : (image : ImageParts) (s : State) (cpu : Cpu) (m : MemoryView) → Typed image s → CpuStands s cpu → MemoryStands image all_objects s m → (n : ℕ) (stack : Stack)
+stack-shows : (image : ImageParts) (s : State) (cpu : Cpu) (m : MemoryView) → TypedAmong image all_objects s → CpuStands s cpu → MemoryStands image all_objects s m → (n : ℕ) (stack : Stack)
     → slice_get s.stacks n ≡ Some stack
     → stack_by cpu m n (state_by (places_of s) n stack) ≡ record { state = state_by (places_of s) n stack; words = map (Word (places_of s)) (values_at s n) }
 stack-shows image s cpu m typed h memory n stack here =
@@ -122,7 +122,7 @@ stack-shows image s cpu m typed h memory n stack here =
     (ap₂ (λ a k. words_from m a ((upper_end n - k) / 4)) at.esp at.esp ∙ (ap (words_from m (stack_pointer n (length (values_at s n)))) depth ∙ words))
 
 -- and so it is with all stacks from one on
-stacks-show : (image : ImageParts) (s : State) (cpu : Cpu) (m : MemoryView) → Typed image s → CpuStands s cpu → MemoryStands image all_objects s m → (n : ℕ) (stacks : List Stack)
+stacks-show : (image : ImageParts) (s : State) (cpu : Cpu) (m : MemoryView) → TypedAmong image all_objects s → CpuStands s cpu → MemoryStands image all_objects s m → (n : ℕ) (stacks : List Stack)
     → ((k : ℕ) (stack : Stack) → slice_get stacks k ≡ Some stack → slice_get s.stacks (n + k) ≡ Some stack)
     → stacks_by cpu m n (states_by (places_of s) n stacks) ≡ shown_stacks s n stacks
 unfolding stacks_by states_by shown_stacks
@@ -141,7 +141,7 @@ shown-same : (a b : ShownWords) → a.regs ≡ b.regs → a.flags ≡ b.flags �
 shown-same a b regs flags place stacks statics cells = λ i. record { regs = regs i; flags = flags i; place = place i; stacks = stacks i; statics = statics i; cells = cells i }
 
 -- a machine shows the words of each typed state that it stands for
-stands-shows : (machine : MachineView) (s : State) → Typed machine.image s → Stands machine s → shown_by machine ≡ shown_of s
+stands-shows : (machine : MachineView) (s : State) → TypedAmong machine.image all_objects s → Stands machine s → shown_by machine ≡ shown_of s
 unfolding shown_of
 stands-shows machine s typed h =
     let all : (k : ℕ) (stack : Stack) → slice_get s.stacks k ≡ Some stack → slice_get s.stacks (0 + k) ≡ Some stack =
@@ -157,7 +157,7 @@ stands-shows machine s typed h =
 -- the law: the state that a run comes to is typed
 pub follows-shows : RunsAreTyped → MachinesShowTheirRuns
 follows-shows law machine entries w f =
-    stands-shows machine f.run.state (law machine.image w machine.events machine.turns _ f.run f.legal.reached f.legal.legal).typed f.stands
+    stands-shows machine f.run.state (law machine.image w machine.events machine.turns _ f.run f.legal.reached f.legal.legal).typed.among f.stands
 
 -- ---- what is looked up of a machine
 
@@ -221,7 +221,7 @@ pub tells-depth : (machine : MachineView) (index : ℕ) → Lawful machine index
     → TellsDepth machine.cpu k state
 tells-depth machine index h k state here =
     let r = states-read (places_of h.state) 0 k h.state.stacks state (rw h.stands.nucleus.stacks at here) in
-    let at = esp-is machine.image h.state machine.cpu h.typed h.stands.processor k r.stack r.here in
+    let at = esp-is machine.image h.state machine.cpu h.typed.among h.stands.processor k r.stack r.here in
     let none : 0 + k ≡ k = omega arith in
     let is : state ≡ state_by (places_of h.state) k r.stack = rw none at r.is in
     record { depth = length (values_at h.state k); esp = ap (esp_by machine.cpu k) is ∙ at.esp; few = at.few }
@@ -249,7 +249,7 @@ there-mapped m a w e = rw e refl
 pub statics-there : (machine : MachineView) (index : ℕ) → Lawful machine index → (k : ℕ) → k < length machine.image.statics
     → is_mapped machine.nucleus.memory (statics_start + 4 * k) ≡ true
 statics-there machine index h k low =
-    let v = value-there h.state.statics k (rw (← h.typed.statics.count) at low) in
+    let v = value-there h.state.statics k (rw (← h.typed.among.statics.count) at low) in
     there-mapped machine.nucleus.memory _ _ (h.stands.nucleus.memory.statics k v.0 v.1)
 
 -- the devices of a lawful machine stand for a history

@@ -40,7 +40,7 @@ pub record InstHere (image : ImageParts) (place : ℕ) : Type 0 where
 
 pub inst-here : WellTypedImagesKeepTyping → AcceptedRuns → (m : MachineView) (index : ℕ) → Lawful m index → InstHere m.image m.cpu.pc
 inst-here law accepted m index h =
-    let keeps = law m.image h.well_typed all_objects h.state h.typed in
+    let keeps = law m.image h.well_typed all_objects h.state h.typed.among in
     let at = (accepted m.image h.well_typed).spelled h.state.thread.place keeps.placed keeps.here in
     let there : InstHere m.image h.state.thread.place =
     record { low = at.after_start; inside = omega (arith, at.before_end); whole = rw keeps.spelled refl } in
@@ -84,7 +84,7 @@ module _ {image : ImageParts} {events : List Event} {cpu : Cpu} {v come : Nucleu
   pub begun-before : (s : State) → Typed image s → Stands (viewed image events cpu v turns ending) s → StandsBefore image all_objects (begun events s) s.thread.place cpu come
   begun-before s typed stands = record {
     well_typed = h.lawful.well_typed;
-    typed = typed-retold image all_objects s _ _ s.ending typed;
+    typed = typed-retold image all_objects s _ _ s.ending typed.among;
     processor = record { regs = stands.processor.regs; flags = stands.processor.flags; place = stands.processor.place };
     nucleus = come-stands image events v come turns s h.has_come stands.turns stands.nucleus;
   }

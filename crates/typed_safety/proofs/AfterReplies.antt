@@ -1,10 +1,10 @@
 -- What a state after a call of the heap holds and reaches.
-use Rattle.std.proofs.Common.{◌≡◌, ◌≢◌, ◌⊎◌, inl, inr, ◌↔◌, ◌∙◌, sym, ap, ◌<◌, ◌≤◌, ◌||◌, ◌==◌, ℕ, zero, suc, nat_lt, Bool, true, false, if◌then◌else◌, Option, Some, None, is_some, arith, refl, List, [], ◌∷◌, ◌++◌, length, map, replicate, take, slice_get, ⊎_elim, length-append}
+use Rattle.std.proofs.Common.{◌≡◌, ◌≢◌, ◌⊎◌, inl, inr, sym, ap, ◌<◌, ◌≤◌, ◌||◌, ◌==◌, ℕ, zero, suc, nat_lt, Bool, true, false, if◌then◌else◌, Option, Some, None, is_some, arith, refl, List, [], ◌∷◌, ◌++◌, length, map, take, slice_get, ⊎_elim, length-append}
 use Rattle.std.specs.List.{flat_map}
 use Rattle.std.specs.Option.{option_map_or}
 use Rattle.std.proofs.lemmas.Bool.{or_cases}
 use Rattle.std.proofs.lemmas.Bool.Decides.{nat_tests}
-use Rattle.std.proofs.lemmas.Option.{slice_get_within, slice_get-map}
+use Rattle.std.proofs.lemmas.Option.{slice_get_within}
 use Rattle.ia32_code.specs.declared.instruction.Reg.{Reg}
 use Rattle.ia32_code.specs.declared.instruction.Reg.TheVariants.{Eax}
 use Rattle.object_layout.specs.declared.rows.FieldTy.{FieldTy}

@@ -1,7 +1,6 @@
 -- What typing says of a state over some objects, it says over others, too, that have the objects which the state holds.
-use Rattle.std.proofs.Common.{◌≡◌, ◌≤◌, ◌&&◌, ℕ, zero, suc, Bool, true, false, if◌then◌else◌, Option, Some, None, is_some, arith, refl, ap, List, [], ◌∷◌, ◌++◌, map, slice_get}
+use Rattle.std.proofs.Common.{◌≡◌, ◌&&◌, ℕ, zero, suc, Bool, true, false, if◌then◌else◌, Option, Some, None, is_some, arith, refl, List, [], ◌∷◌, slice_get}
 use Rattle.std.proofs.lemmas.Bool.{and_parts}
-use Rattle.ia32_code.specs.declared.instruction.Reg.{Reg}
 use Rattle.ia32_code.specs.declared.instruction.Reg.TheVariants.{Esp}
 use Rattle.object_layout.specs.declared.rows.FieldTy.{FieldTy}
 use Rattle.tal_types.specs.declared.types.Ty.{Ty}
@@ -9,20 +8,19 @@ use Rattle.tal_types.specs.declared.types.Ty.TheVariants as ty
 use Rattle.tal_types.specs.declared.types.FlagKind.{FlagKind}
 use Rattle.tal_types.specs.declared.types.FlagKind.TheVariants as kind
 use Rattle.tal_types.specs.Types.{of_field}
-use Rattle.tal_types.specs.Contexts.{LiveContext, ContextView, Dead, Live}
-use Rattle.tal_types.specs.Shown.{ShownImage}
+use Rattle.tal_types.specs.Contexts.{LiveContext, Live}
 use Rattle.tal_image.specs.declared.parts.DataRow.{DataRow}
 use Rattle.tal_image.specs.Image.{ImageParts}
 use Rattle.tal_image.specs.Shown.{shown, data_row_in}
 use Rattle.tal_checker.specs.Frames.{may_refer}
 use Rattle.tal_checker.specs.WellTyped.{strongest_at}
 use Rattle.typed_machine.specs.Values.{Value, Number, Null, Ref, Code, Ret, Tab, Desc, ObjectShape, is_instance, is_array, fits_among}
-use Rattle.typed_machine.specs.Stores.{Object, Store, shapes_in, value_type}
+use Rattle.typed_machine.specs.Stores.{Object, shapes_in, value_type}
 use Rattle.typed_machine.specs.States.{State, Thread, Stack, EmptyStack, RunningStack, YieldedStack, InterruptedStack}
 use Rattle.typed_machine.specs.Frames.{Scope, fits_in, FramesFit, Awaits}
-use Rattle.typed_machine.specs.Typing.{BoundTold, ClassTold, KindTold, IsPair, IsHead, ThreadFits, StackFits, StaticsFit, StoreFits, TypedAmong, scope_of}
-use Rattle.typed_machine.specs.Reaching.{names, references_of, slots_of, slots_at, frame_references, value_registers, register_references, thread_references, stack_references, static_references}
-use Rattle.typed_safety.proofs.Naming.{names-first, names-rest, names-left, names-right, names-flat, object-has, statics-have, registers-have, field-refers}
+use Rattle.typed_machine.specs.Typing.{BoundTold, KindTold, ThreadFits, StackFits, StaticsFit, TypedAmong}
+use Rattle.typed_machine.specs.Reaching.{names, references_of, slots_at, frame_references, register_references, thread_references, stack_references, static_references}
+use Rattle.typed_safety.proofs.Naming.{names-first, names-rest, names-left, names-right, object-has, statics-have, registers-have, field-refers}
 
 -- the set has what the values name
 abbrev pub HeldBy : (ℕ → Bool) → List Value → Type 0
@@ -137,15 +135,15 @@ module _ (image : ImageParts) (live more : ℕ → Bool) (os ps : List ObjectSha
     here = h.here;
     function = h.function;
     regs = λ r. value-carried (t.regs r) (h.context.regs r) (h.regs r) (λ i is f.
-    g i (names-left (register_references (strongest_at image t.place) t) _ i
-    (rw h.here (registers-have h.context.regs t.regs i r (esp t.place h.context h.here) f is))));
+        g i (names-left (register_references (strongest_at image t.place) t) _ i
+        (rw h.here (registers-have h.context.regs t.regs i r (esp t.place h.context h.here) f is))));
     pairs = λ i a known. record { told = bound-carried _ _ _ (h.pairs i a known).told };
     heads = λ d r known. let e = h.heads d r known in
         record { class = e.class; object = e.object; is_table = e.is_table; is_object = e.is_object; is_of = c.there e.object _ e.is_of };
     conditions = h.conditions;
     told = told-carried t h.context.kind h.told;
     frames = frames-carried h.sig.result h.context.slots ws h.frames (λ i e.
-    g i (names-right (register_references (strongest_at image t.place) t) (frame_references image (slots_at image t.place) ws) i (rw h.here e)));
+        g i (names-right (register_references (strongest_at image t.place) t) (frame_references image (slots_at image t.place) ws) i (rw h.here e)));
     room = h.room;
   }
 
@@ -173,7 +171,7 @@ module _ (image : ImageParts) (live more : ℕ → Bool) (os ps : List ObjectSha
   statics-carried ws h g = record {
     count = h.count;
     fit = λ j t w e f. value-carried w (of_field t) (h.fit j t w e f) (λ i is refers.
-    g i (statics-have image.statics ws j i t e (rw (field-refers t) at refers) (rw is at f)));
+        g i (statics-have image.statics ws j i t e (rw (field-refers t) at refers) (rw is at f)));
   }
 
   -- a value of an object whose references are held

@@ -1,21 +1,18 @@
 -- A state with a fresh object more is as typed.
-use Rattle.std.proofs.Common.{◌≡◌, ◌⊎◌, inl, inr, ◌∙◌, sym, ap, subst, ◌<◌, ◌^◌, ℕ, zero, suc, nat_lt, Bool, true, false, if◌then◌else◌, Option, Some, None, arith, refl, List, [], ◌∷◌, ◌++◌, length, map, replicate, slice_get, ⊎_elim}
-use Rattle.std.specs.Option.{option_map, option_map_or}
-use Rattle.std.proofs.lemmas.Bool.Decides.{nat_tests}
+use Rattle.std.proofs.Common.{◌≡◌, ◌⊎◌, inl, inr, sym, ap, subst, ◌<◌, ◌^◌, ℕ, zero, suc, nat_lt, Bool, true, false, if◌then◌else◌, Some, None, refl, List, [], ◌∷◌, ◌++◌, length, slice_get, ⊎_elim}
+use Rattle.std.specs.Option.{option_map_or}
 use Rattle.std.proofs.lemmas.List.{length-map, length-replicate}
 use Rattle.std.proofs.lemmas.Option.{slice_get-map}
 use Rattle.object_layout.specs.declared.rows.FieldTy.{FieldTy}
 use Rattle.object_layout.specs.Classes.{ShapesView, Fields, Element, IsShape}
 use Rattle.tal_types.specs.declared.types.Ty.{Ty}
-use Rattle.tal_types.specs.Types.{of_field}
-use Rattle.tal_image.specs.declared.parts.DataRow.{DataRow}
 use Rattle.tal_image.specs.Image.{ImageParts}
 use Rattle.tal_image.specs.Shown.{shown}
 use Rattle.typed_machine.specs.Values.{Value, Null, ObjectShape, InstanceOf, ArrayOf}
 use Rattle.typed_machine.specs.Stores.{Object, Store, shapes_in, shape_in, value_type, value_count, zero_of}
 use Rattle.typed_machine.specs.States.{State}
-use Rattle.typed_machine.specs.Frames.{Scope, fits_in, Awaits}
-use Rattle.typed_machine.specs.Typing.{StoreFits, IsArray, TypedAmong, scope_of}
+use Rattle.typed_machine.specs.Frames.{Awaits}
+use Rattle.typed_machine.specs.Typing.{StoreFits, TypedAmong, scope_of}
 use Rattle.typed_machine.specs.Placing.{fresh_values, fresh_object}
 use Rattle.typed_safety.proofs.Carrying.{EspRefersNot, Carries, thread-carried, stack-carried, statics-carried, awaits-carried, field-carried}
 use Rattle.typed_safety.proofs.FirstStates.{zero-fits, copy-read}

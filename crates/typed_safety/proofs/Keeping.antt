@@ -1,17 +1,17 @@
 -- Turns keep typed states, the layout of the heap with them.
-use Rattle.std.proofs.Common.{◌≡◌, ◌≢◌, ◌⊎◌, inl, inr, ◌∙◌, sym, ap, subst, ℕ, Bool, true, Option, Some, None, refl, List, [], ◌∷◌, ◌++◌, length, ⊎_elim}
+use Rattle.std.proofs.Common.{◌≡◌, ◌≢◌, ◌⊎◌, inl, inr, ◌∙◌, sym, ap, subst, ℕ, Bool, true, Option, Some, None, refl, List, ◌∷◌, length, ⊎_elim}
 use Rattle.device_model.specs.declared.events.Event.{Event}
 use Rattle.ia32_code.specs.declared.instruction.Inst.{Inst}
 use Rattle.tal_flow.specs.Rules.{next_address}
 use Rattle.tal_image.specs.Image.{ImageParts}
 use Rattle.tal_image.specs.Shown.{shown}
 use Rattle.tal_checker.specs.Running.{RunsOn}
-use Rattle.typed_machine.specs.Values.{Value, Null, Ref, ObjectShape, all_objects}
+use Rattle.typed_machine.specs.Values.{Null, all_objects}
 use Rattle.typed_machine.specs.Stores.{need}
 use Rattle.typed_machine.specs.States.{State}
 use Rattle.typed_machine.specs.Code.{inst_at}
-use Rattle.typed_machine.specs.Effects.{EffectView, Calls, Effect}
-use Rattle.typed_machine.specs.Replies.{ReplyView, Replies, YieldsTo, Allocates, Collects, Reply}
+use Rattle.typed_machine.specs.Effects.{Effect}
+use Rattle.typed_machine.specs.Replies.{ReplyView, Replies, YieldsTo, Allocates, Collects}
 use Rattle.typed_machine.specs.Placing.{Answer, Placed, Refused, Gaps, Legal, reply_to, allocated}
 use Rattle.typed_machine.specs.Turns.{Turned, begun, comes_back, answered, TurnOf}
 use Rattle.typed_machine.specs.Reaching.{Roots, rooted, live_in}
@@ -20,9 +20,9 @@ use Rattle.typed_safety.specs.Laws.{ImageLaws, CallTyped, EffectTyped, CallComes
 use Rattle.typed_safety.proofs.Instructions.{state-keeps}
 use Rattle.typed_safety.proofs.Carrying.{EspRefersNot}
 use Rattle.typed_safety.proofs.Living.{ReachIsLeast, live-least, typed-among}
-use Rattle.typed_safety.proofs.Replying.{aside-typed, SomeReplyTyped, ReplyTyped, call-replies}
+use Rattle.typed_safety.proofs.Replying.{aside-typed, ReplyTyped, call-replies}
 use Rattle.typed_safety.proofs.Turning.{TurnAmong, longer, turn-typed}
-use Rattle.typed_safety.proofs.Staying.{Quiet, Allocation, TurnCases, turn-cases}
+use Rattle.typed_safety.proofs.Staying.{Quiet, Allocation, turn-cases}
 use Rattle.typed_safety.proofs.AfterReplies.{rooted-live, reached-after, placed-after}
 use Rattle.typed_safety.proofs.Lying.{blocks-fewer, blocks-grown}
 

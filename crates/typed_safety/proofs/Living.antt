@@ -1,13 +1,12 @@
 -- The objects that a run can come to are the least set over which a state is typed.
-use Rattle.std.proofs.Common.{◌≡◌, ◌⊎◌, inl, inr, ◌↔◌, ◌<◌, ◌≤◌, ◌+◌, ◌*◌, ◌&&◌, ◌||◌, ◌==◌, ◌∙◌, sym, ap, ℕ, zero, suc, nat_lt, Bool, true, false, if◌then◌else◌, Option, Some, None, is_some, arith, refl, List, [], ◌∷◌, ◌++◌, length, map, take, slice_get, ⊎_elim}
+use Rattle.std.proofs.Common.{◌≡◌, ◌⊎◌, inl, inr, ◌↔◌, ◌<◌, ◌+◌, ◌*◌, ◌||◌, ap, ℕ, zero, suc, nat_lt, Bool, true, false, if◌then◌else◌, Option, Some, None, is_some, arith, refl, List, [], ◌∷◌, ◌++◌, length, take, slice_get, ⊎_elim}
 use Rattle.std.specs.List.{flat_map}
 use Rattle.std.specs.Option.{option_map, option_and_then}
 use Rattle.std.proofs.lemmas.Bool.{and_parts, or_cases}
 use Rattle.std.proofs.lemmas.Bool.Decides.{nat_tests}
-use Rattle.std.proofs.lemmas.Option.{slice_get_within, slice_get-get_or, slice_get-map}
+use Rattle.std.proofs.lemmas.Option.{slice_get_within}
 use Rattle.ia32_code.specs.declared.instruction.Reg.TheVariants.{Esp}
-use Rattle.object_layout.specs.declared.rows.FieldTy.{FieldTy}
-use Rattle.object_layout.specs.Classes.{ShapesView, is_reference}
+use Rattle.object_layout.specs.Classes.{ShapesView}
 use Rattle.tal_types.specs.declared.types.Ty.{Ty}
 use Rattle.tal_types.specs.declared.types.Ty.TheVariants as ty
 use Rattle.tal_types.specs.Types.{of_field}
@@ -20,15 +19,15 @@ use Rattle.tal_image.specs.Shown.{shown, data_row_in}
 use Rattle.object_layout.specs.Areas.{statics_start}
 use Rattle.tal_checker.specs.Frames.{may_refer}
 use Rattle.tal_checker.specs.WellTyped.{strongest_at}
-use Rattle.typed_machine.specs.Values.{Value, Number, Null, Ref, Code, Ret, Tab, Desc, ObjectShape, is_instance, is_array, fits_among}
-use Rattle.typed_machine.specs.Stores.{Object, Store, shapes_in, value_type}
+use Rattle.typed_machine.specs.Values.{Value, Ref, Ret, ObjectShape, is_instance, is_array, fits_among}
+use Rattle.typed_machine.specs.Stores.{Object, Store, shapes_in}
 use Rattle.typed_machine.specs.States.{State, Thread, Stack, EmptyStack, RunningStack, YieldedStack, InterruptedStack}
-use Rattle.typed_machine.specs.Frames.{Scope, fits_in, FramesFit, Awaits}
-use Rattle.typed_machine.specs.Typing.{ThreadFits, StackFits, StaticsFit, StoreFits, TypedAmong, scope_of}
+use Rattle.typed_machine.specs.Frames.{Scope, fits_in, FramesFit}
+use Rattle.typed_machine.specs.Typing.{ThreadFits, StackFits, TypedAmong, scope_of}
 use Rattle.typed_machine.specs.Reaching.{names, references_of, slots_at, frame_references, value_registers, register_references, thread_references, stack_references, static_references, data_references, waiting_references, Held, Reach, live_in}
 use Rattle.reached_objects.specs.ReachedFrom.{ReachedFrom, named, followed}
 use Rattle.typed_safety.proofs.Naming.{names-cons, names-left, names-right, names-either, names-flat, names-flat_some, object-refers, statics-are, registers-are, field-refers}
-use Rattle.typed_safety.proofs.Carrying.{HeldBy, EspRefersNot, Carries, slot-references, typed-carried}
+use Rattle.typed_safety.proofs.Carrying.{EspRefersNot, slot-references, typed-carried}
 
 -- the rounds of marks give the least set
 abbrev pub ReachIsLeast : Type 0

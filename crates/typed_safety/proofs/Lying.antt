@@ -1,23 +1,21 @@
 -- Blocks of the heap lie apart, before a turn and after it.
-use Rattle.std.proofs.Common.{◌≡◌, ◌≢◌, ◌⊎◌, inl, inr, ◌∙◌, sym, ap, subst, ◌≤◌, ◌<◌, ◌+◌, ◌-◌, ◌*◌, ◌/◌, ◌%◌, ◌&&◌, ◌==◌, ℕ, zero, suc, nat_lt, nat_le, Bool, true, false, if◌then◌else◌, Option, Some, None, is_some, arith, refl, List, [], ◌∷◌, ◌++◌, length, map, drop, slice_get, ⊎_elim}
+use Rattle.std.proofs.Common.{◌≡◌, ◌≢◌, ◌⊎◌, inl, inr, ◌∙◌, sym, ap, subst, ◌≤◌, ◌<◌, ◌+◌, ◌-◌, ◌*◌, ◌&&◌, ℕ, zero, suc, nat_lt, nat_le, Bool, true, false, if◌then◌else◌, Option, Some, None, arith, refl, List, [], ◌∷◌, ◌++◌, length, drop, slice_get, ⊎_elim}
 use Rattle.std.specs.Option.{option_map, option_and_then}
 use Rattle.std.proofs.lemmas.Bool.Decides.{nat_tests}
 use Rattle.std.proofs.lemmas.Option.{slice_get_within}
 use Rattle.object_layout.specs.Areas.{heap_start, statics_start}
-use Rattle.object_layout.specs.Classes.{ShapesView, Need, Fields, rounded_up}
+use Rattle.object_layout.specs.Classes.{ShapesView, Need, rounded_up}
 use Rattle.tal_image.specs.declared.parts.ArrayPart.{ArrayPart}
 use Rattle.tal_image.specs.declared.parts.DataRow.{DataRow}
 use Rattle.tal_image.specs.Conditions.{array_places, array_room}
 use Rattle.tal_image.specs.Formed.{Formed, tables}
 use Rattle.tal_image.specs.Image.{ImageParts}
 use Rattle.tal_image.specs.Shown.{shown, data_row_in}
-use Rattle.typed_machine.specs.Values.{Value, Ref, ObjectShape, InstanceOf, ArrayOf, all_objects}
-use Rattle.typed_machine.specs.Stores.{Object, Store, shapes_in, places_in, need}
+use Rattle.typed_machine.specs.Values.{ObjectShape, InstanceOf, ArrayOf}
+use Rattle.typed_machine.specs.Stores.{Object, Store, need}
 use Rattle.typed_machine.specs.States.{State}
-use Rattle.typed_machine.specs.Frames.{Awaits}
-use Rattle.typed_machine.specs.Typing.{TypedAmong, Typed, scope_of, LiesInHeap, BlocksApart, LiveInHeap, BlocksLie}
-use Rattle.typed_machine.specs.Placing.{Answer, Placed, Refused, block_of, lies_in_block, is_taken, Gaps, Legal, fresh_object, allocated}
-use Rattle.typed_machine.specs.Turns.{comes_back}
+use Rattle.typed_machine.specs.Typing.{Typed, LiesInHeap, BlocksApart, LiveInHeap, BlocksLie}
+use Rattle.typed_machine.specs.Placing.{Placed, block_of, lies_in_block, is_taken, Gaps, Legal, fresh_object}
 use Rattle.typed_machine.specs.Reaching.{Reach, Roots, rooted, live_in}
 use Rattle.typed_safety.proofs.Staying.{BlocksStay}
 use Rattle.typed_safety.proofs.Living.{array-row}

@@ -11,7 +11,7 @@ use Rattle.object_layout.specs.Classes.{ShapesView, is_reference}
 use Rattle.tal_types.specs.declared.types.Ty.{Ty}
 use Rattle.tal_types.specs.Types.{of_field}
 use Rattle.tal_checker.specs.Frames.{may_refer}
-use Rattle.typed_machine.specs.Values.{Value, Number, Null, Ref, Code, Ret, Tab, Desc, ObjectShape}
+use Rattle.typed_machine.specs.Values.{Value, Ref, ObjectShape}
 use Rattle.typed_machine.specs.Stores.{Object, value_type}
 use Rattle.typed_machine.specs.Reaching.{names, references_from, references_of, referring, static_references, value_registers}
 

@@ -18,9 +18,8 @@ use Rattle.tal_image.specs.Shown.{shown}
 use Rattle.tal_checker.specs.Running.{RunsOn}
 use Rattle.typed_machine.specs.declared.ending.Ending.{Ending}
 use Rattle.object_layout.specs.declared.rows.KindRow.{KindRow}
-use Rattle.object_layout.specs.Classes.{ShapesView, Below, Element, IsShape}
+use Rattle.object_layout.specs.Classes.{ShapesView, Below, Element}
 use Rattle.typed_machine.specs.Values.{Value, Number, Null, Ref, Tab, Desc, ObjectShape, InstanceOf, ArrayOf, fits_among}
-use Rattle.typed_machine.specs.Stores.{shape_in}
 use Rattle.typed_machine.specs.States.{State, Stack, EmptyStack, RunningStack, YieldedStack, InterruptedStack, fresh_thread}
 use Rattle.typed_machine.specs.Operands.{number_in}
 use Rattle.typed_machine.specs.Switches.{runs, switched}

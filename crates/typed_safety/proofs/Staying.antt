@@ -1,5 +1,5 @@
 -- What a turn does to the store: it keeps each object's shape and place, or an allocation takes an answer.
-use Rattle.std.proofs.Common.{◌≡◌, ◌≢◌, ◌⊎◌, inl, inr, ◌∙◌, sym, ap, ◌==◌, ◌&&◌, ◌||◌, ◌%◌, ◌^◌, nat_lt, nat_le, not, ℕ, zero, suc, Bool, true, false, if◌then◌else◌, Option, Some, None, is_some, arith, refl, List, [], ◌∷◌, slice_get}
+use Rattle.std.proofs.Common.{◌≡◌, ◌⊎◌, inl, inr, ap, ◌==◌, ◌&&◌, ◌||◌, ◌%◌, ◌^◌, nat_lt, nat_le, not, ℕ, zero, suc, Bool, true, false, if◌then◌else◌, Option, Some, None, refl, List, [], ◌∷◌, slice_get}
 use Rattle.std.specs.Option.{option_map, option_and_then, option_map_or}
 use Rattle.ia32_code.specs.declared.instruction.Reg.{Reg}
 use Rattle.ia32_code.specs.declared.instruction.Reg.TheVariants.{Eax, Ecx, Esp}
@@ -34,16 +34,15 @@ use Rattle.tal_image.specs.Shown.{shown}
 use Rattle.typed_machine.specs.declared.ending.Ending.{Ending}
 use Rattle.typed_machine.specs.Values.{Value, Number, Code, Ret, ObjectShape}
 use Rattle.typed_machine.specs.Stores.{Store, shapes_in, places_in, set_value}
-use Rattle.typed_machine.specs.States.{State, Thread, Stack, EmptyStack, RunningStack, YieldedStack, InterruptedStack, Known, with_register, with_values}
+use Rattle.typed_machine.specs.States.{State, Stack, EmptyStack, RunningStack, YieldedStack, InterruptedStack, Known, with_register, with_values}
 use Rattle.typed_machine.specs.Code.{inst_at, may_go}
 use Rattle.typed_machine.specs.Words.{words_of}
-use Rattle.typed_machine.specs.Operands.{Spot, AtStatic, AtSlot, AtValue, AtLength, AtHead, AtMethod, AtDisplay, spot_of, write_spot, write_operand, operand_value, number_in, provided}
-use Rattle.typed_machine.specs.Effects.{EffectView, Moves, Faults, Calls, Ends, has_above, is_known, is_number_in, goes_on, with_high, settled, fault_or, computed, computes, compares, tests, moves, addresses, pushes, is_full, pops, drops, calls_function, arguments_fit, entered, calls_entry, calls_to, calls_value, entry_or, returns_from, jumps, branches, form_effect, Effect}
+use Rattle.typed_machine.specs.Operands.{Spot, AtStatic, AtSlot, AtValue, spot_of, write_spot, write_operand, operand_value, number_in, provided}
+use Rattle.typed_machine.specs.Effects.{EffectView, Moves, Faults, Calls, Ends, has_above, is_known, is_number_in, goes_on, settled, fault_or, computed, computes, compares, tests, moves, addresses, pushes, is_full, pops, drops, calls_function, arguments_fit, entered, calls_entry, calls_to, calls_value, entry_or, returns_from, form_effect, Effect}
 use Rattle.typed_machine.specs.Switches.{resumed, handed_over, switched}
 use Rattle.typed_machine.specs.Replies.{ReplyView, Replies, YieldsTo, Allocates, Collects, class_asked, array_asked, is_stack, is_application, happened, count_items, yield_to, get_stack_state, reset_stack, emptied, vga_text_write, code_taken, start_timer, by_number, by_numbers, Reply}
 use Rattle.typed_machine.specs.Placing.{Answer}
-use Rattle.typed_machine.specs.Turns.{Turned, turned, begun, line_granted, kernel_goes_on, interrupted, ended_by, answered, replied, after_effect, instruction, interrupt_or, TurnOf}
-use Rattle.typed_safety.specs.Laws.{AsksFor}
+use Rattle.typed_machine.specs.Turns.{Turned, turned, begun, line_granted, kernel_goes_on, ended_by, answered, replied, after_effect, instruction, interrupt_or, TurnOf}
 
 -- the objects are as many as before, with their shapes and places
 abbrev pub BlocksStay : Store → Store → Type 0
