@@ -1,18 +1,19 @@
 -- Turns keep typed states, the layout of the heap with them.
-use Rattle.std.proofs.Common.{◌≡◌, ◌≢◌, ◌⊎◌, inl, inr, ◌∙◌, sym, ap, subst, ℕ, Bool, true, Option, Some, None, refl, List, ◌∷◌, length, ⊎_elim}
+use Rattle.std.proofs.Common.{◌≡◌, ◌≢◌, ◌⊎◌, inl, inr, ◌∙◌, sym, ap, subst, ℕ, Bool, true, Option, Some, None, refl, List, [], ◌∷◌, ◌++◌, length, slice_get, ⊎_elim}
 use Rattle.device_model.specs.declared.events.Event.{Event}
 use Rattle.ia32_code.specs.declared.instruction.Inst.{Inst}
+use Rattle.object_layout.specs.Classes.{ShapesView}
 use Rattle.tal_flow.specs.Rules.{next_address}
 use Rattle.tal_image.specs.Image.{ImageParts}
 use Rattle.tal_image.specs.Shown.{shown}
 use Rattle.tal_checker.specs.Running.{RunsOn}
-use Rattle.typed_machine.specs.Values.{Null, all_objects}
-use Rattle.typed_machine.specs.Stores.{need}
+use Rattle.typed_machine.specs.Values.{Null, ObjectShape, all_objects}
+use Rattle.typed_machine.specs.Stores.{Object, need}
 use Rattle.typed_machine.specs.States.{State}
 use Rattle.typed_machine.specs.Code.{inst_at}
 use Rattle.typed_machine.specs.Effects.{Effect}
 use Rattle.typed_machine.specs.Replies.{ReplyView, Replies, YieldsTo, Allocates, Collects}
-use Rattle.typed_machine.specs.Placing.{Answer, Placed, Refused, Gaps, Legal, reply_to, allocated}
+use Rattle.typed_machine.specs.Placing.{Answer, Placed, Refused, Gaps, Legal, fresh_object, reply_to, allocated}
 use Rattle.typed_machine.specs.Turns.{Turned, begun, comes_back, answered, TurnOf}
 use Rattle.typed_machine.specs.Reaching.{Roots, rooted, live_in}
 use Rattle.typed_machine.specs.Typing.{TypedAmong, Typed, BlocksLie, scope_of}
@@ -24,7 +25,8 @@ use Rattle.typed_safety.proofs.Replying.{aside-typed, ReplyTyped, call-replies}
 use Rattle.typed_safety.proofs.Turning.{TurnAmong, longer, turn-typed}
 use Rattle.typed_safety.proofs.Staying.{Quiet, Allocation, turn-cases}
 use Rattle.typed_safety.proofs.AfterReplies.{rooted-live, reached-after, placed-after}
-use Rattle.typed_safety.proofs.Lying.{blocks-fewer, blocks-grown}
+use Rattle.typed_safety.proofs.Growing.{stood-stands}
+use Rattle.typed_safety.proofs.Lying.{object-stays, blocks-fewer, blocks-grown}
 
 -- two things that are there and are the same
 same-thing : {A : Type 0} (x y : A) → Some x ≡ Some y → x ≡ y
@@ -55,6 +57,35 @@ module _ (image : ImageParts) (rests : RunsOn image) (laws : ImageLaws image) wh
       finds (YieldsTo to) h = tt
       finds (Allocates shape) h = h
       finds Collects h = h
+
+-- what an allocation comes to
+allocation-comes : (image : ImageParts) (answers : List Answer) (s : State) (r : Turned) (a : Allocation image answers s r)
+    → (r.state ≡ comes_back (reply_to a.answer s) (next_address s.thread.place a.len) (allocated (shown image).shapes a.shape a.answer s))
+    × (r.legal ≡ Legal (Gaps image (Roots image (next_address s.thread.place a.len) s) s) (need (shown image).shapes a.shape) a.answer)
+allocation-comes image answers s r a =
+    let is : answered image (next_address s.thread.place a.len) a.entry s a.shape (a.answer ∷ r.left) ≡ Some r = rw a.given at a.is in
+    let same = sym (same-thing _ r is) in
+    (ap (λ (x : Turned). x.state) same, ap (λ (x : Turned). x.legal) same)
+
+-- ---- objects stay
+
+-- an answer leaves each object as it is
+allocated-stays : (v : ShapesView) (shape : ObjectShape) (answer : Answer) (s : State) (i : ℕ) (o : Object) → slice_get s.store i ≡ Some o
+    → slice_get (allocated v shape answer s).store i ≡ Some o
+allocated-stays v shape (Placed p) s i o e = stood-stands s.store (fresh_object v shape p ∷ []) i o e
+allocated-stays v shape Refused s i o e = e
+
+-- so does a turn, but for its values
+pub turn-object-stays : (image : ImageParts) (events : List Event) (answers : List Answer) (s : State) (r : Turned) → TurnOf image events answers s ≡ Some r
+    → (i : ℕ) (o : Object) → slice_get s.store i ≡ Some o → (p : Object) × (slice_get r.state.store i ≡ Some p) × (p.shape ≡ o.shape) × (p.place ≡ o.place)
+turn-object-stays image events answers s r turn i o e = ⊎_elim
+    (λ (q : Quiet answers (begun events s) r). object-stays s.store r.state.store q.stays i o e)
+    (λ (a : Allocation image answers (begun events s) r).
+    let comes = (allocation-comes image answers (begun events s) r a).0 in
+    (o, ap (λ (x : State). slice_get x.store i) comes ∙ allocated-stays (shown image).shapes a.shape a.answer (begun events s) i o e, refl, refl))
+    (rw turn at (turn-cases image events answers s))
+
+-- ---- typed states
 
 module _ (image : ImageParts) (rests : RunsOn image) (laws : ImageLaws image) (esp : EspRefersNot image) (reaches : ReachIsLeast) (events : List Event) (answers : List Answer)
     (s : State) (t : Typed image s) where
@@ -98,10 +129,7 @@ module _ (image : ImageParts) (rests : RunsOn image) (laws : ImageLaws image) (e
 
     -- what the turn comes to
     comes : (r.state ≡ after a.answer) × (r.legal ≡ legal_for a.answer)
-    comes =
-        let is : answered image next a.entry u a.shape (a.answer ∷ r.left) ≡ Some r = rw a.given at a.is in
-        let same = sym (same-thing _ r is) in
-        (ap (λ (x : Turned). x.state) same, ap (λ (x : Turned). x.legal) same)
+    comes = allocation-comes image answers u r a
 
     -- what a run can come to then
     after-lives : (answer : Answer) (i : ℕ) → live_in image (after answer) i ≡ true → (rooted image next u i ≡ true) ⊎ (i ≡ length s.store)

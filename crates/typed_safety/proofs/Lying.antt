@@ -40,6 +40,11 @@ same-object (o ∷ store) (q ∷ after) same (suc i) p e =
     let shapes = same.0 in let places = same.1 in
     same-object store after (cc, cc) i p e
 
+-- an object keeps them
+pub object-stays : (store after : Store) → BlocksStay store after → (i : ℕ) (o : Object) → slice_get store i ≡ Some o
+    → (p : Object) × (slice_get after i ≡ Some p) × (p.shape ≡ o.shape) × (p.place ≡ o.place)
+object-stays store after same i o e = same-object after store (sym same.0, sym same.1) i o e
+
 -- where they lie
 lies-same : (image : ImageParts) (o p : Object) → o.shape ≡ p.shape → o.place ≡ p.place → LiesInHeap image o → LiesInHeap image p
 lies-same image o p shape place h =

@@ -204,6 +204,12 @@ ReachShrinks =
     → (r : Turned) → TurnOf image events answers s ≡ Some r → r.legal ≡ true
     → (i : ℕ) → live_in image r.state i ≡ true → (live_in image s i ≡ true) ⊎ ((r.left ≢ answers) × (i ≡ length s.store))
 
+-- a turn leaves each object its shape and place, whether a run can come to it or not
+abbrev pub ObjectsStay : Type 0
+ObjectsStay =
+    (image : ImageParts) (events : List Event) (answers : List Answer) (s : State) (r : Turned) → TurnOf image events answers s ≡ Some r
+    → (i : ℕ) (o : Object) → slice_get s.store i ≡ Some o → (p : Object) × (slice_get r.state.store i ≡ Some p) × (p.shape ≡ o.shape) × (p.place ≡ o.place)
+
 -- two objects that a run can come to stand at different places, be they data arrays or in the heap
 abbrev pub PlacesDiffer : Type 0
 PlacesDiffer =

@@ -1,5 +1,5 @@
 // What holds of the definitions alone: each law is a function with nothing to do, whose clause is the law.
-ghost use Rattle.typed_safety.specs.Laws.{FormedImagesTell, InstructionsKeepTyping, WellTypedImagesKeepTyping, DisplaysAreThere, InstructionsUseLiving, TurnsKeepTyping, RunsAreTyped, LiveObjectsAreLeast, ReachShrinks, PlacesDiffer, HeapCallsAreTyped, RootedObjectsLive, RepliesHold};
+ghost use Rattle.typed_safety.specs.Laws.{FormedImagesTell, InstructionsKeepTyping, WellTypedImagesKeepTyping, DisplaysAreThere, InstructionsUseLiving, TurnsKeepTyping, RunsAreTyped, LiveObjectsAreLeast, ReachShrinks, ObjectsStay, PlacesDiffer, HeapCallsAreTyped, RootedObjectsLive, RepliesHold};
 
 /// A formed image tells what typed instructions rest on: its heap has its limit, its classes keep the laws of classes, its methods are its functions,
 /// at its blocks instructions begin, and what its marks stand for has the marks' types and words.
@@ -82,6 +82,11 @@ pub fn reach_shrinks()
     tal_checker::laws::esp_is_junk();
     reached_objects::laws::reach_is_least();
 }
+
+/// A turn leaves each object its shape and place.
+pub fn objects_stay()
+    ensures { ObjectsStay }
+{}
 
 /// Two objects that a run can come to stand at different places.
 pub fn places_differ()
