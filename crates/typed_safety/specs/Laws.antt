@@ -211,8 +211,8 @@ ObjectsStay =
     → (i : ℕ) (o : Object) → slice_get s.store i ≡ Some o → (p : Object) × (slice_get r.state.store i ≡ Some p) × (p.shape ≡ o.shape) × (p.place ≡ o.place)
 
 -- two objects that a run can come to stand at different places, be they data arrays or in the heap
-abbrev pub PlacesDiffer : Type 0
-PlacesDiffer =
+abbrev pub LivePlacesDiffer : Type 0
+LivePlacesDiffer =
     (image : ImageParts) → WellTyped image → (s : State) → Typed image s
     → (i j : ℕ) (o p : Object) → i ≢ j → live_in image s i ≡ true → live_in image s j ≡ true → slice_get s.store i ≡ Some o → slice_get s.store j ≡ Some p
     → o.place ≢ p.place
