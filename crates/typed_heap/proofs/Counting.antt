@@ -147,6 +147,7 @@ module _ (image : ImageParts) (s : State) (roots : List Value) (words list : Lis
   sizes-reached = sizes-needs (shown image).shapes words reached (length image.arrays) heap_objects size-there
 
 pub free-words_counted : Told → FreeWordsAreCounted
+unfolding free_words
 free-words_counted told image s roots words list n r differ h =
     let agrees = words-agree told image s roots words list r in
     let a = h (blocks_reached (reached_by image s.store roots) (length image.arrays) (drop (length image.arrays) s.store)) (lists-reached image s roots words list r agrees differ) in

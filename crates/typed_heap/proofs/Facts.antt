@@ -28,7 +28,7 @@ use Rattle.tal_checker.specs.Frames.{may_refer}
 use Rattle.typed_machine.specs.Values.{Value, Number, Null, Ref, Word, ObjectShape, InstanceOf, ArrayOf, is_instance, is_array, fits_among, all_objects}
 use Rattle.typed_machine.specs.Stores.{Object, Store, shape_in, shapes_in, places_in, value_type, value_count}
 use Rattle.typed_machine.specs.States.{State}
-use Rattle.typed_machine.specs.Typing.{IsArray, StoreFits, Typed, scope_of}
+use Rattle.typed_machine.specs.Typing.{IsArray, StoreFits, TypedAmong, scope_of}
 use Rattle.typed_machine.specs.Reaching.{Reach, names, references_of}
 use Rattle.reached_objects.specs.ReachedFrom.{ReachedFrom}
 use Rattle.typed_heap.specs.Standing.{ObjectStands, refers_within, RootsRefer, RootsStand}
@@ -131,7 +131,7 @@ places-long a (p ∷ arrays) = ap suc (places-long (a + 4 * (2 + p.size)) arrays
 
 -- ---- a typed state
 
-module _ (told : Told) (image : ImageParts) (s : State) (formed : Formed image) (typed : Typed image s) where
+module _ (told : Told) (image : ImageParts) (s : State) (formed : Formed image) (typed : TypedAmong image all_objects s) where
   abbrev fits : StoreFits (scope_of image all_objects s) s.store
   fits = typed.store
 

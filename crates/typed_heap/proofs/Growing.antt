@@ -15,8 +15,7 @@ use Rattle.typed_machine.specs.Values.{Value, Null, Ref, Word, ObjectShape}
 use Rattle.typed_machine.specs.Stores.{Object, Store, shape_in, elements_in, need, places_in}
 use Rattle.typed_machine.specs.States.{State, places_of}
 use Rattle.typed_machine.specs.Reaching.{names, references_of}
-use Rattle.typed_machine.specs.Placing.{Placed}
-use Rattle.typed_machine.specs.Placing.{fresh_values, Gaps, Legal}
+use Rattle.typed_machine.specs.Placing.{Placed, fresh_values, Gaps, Legal}
 use Rattle.reached_objects.specs.ReachedFrom.{ReachedFrom}
 use Rattle.reached_objects.specs.ReachedFrom.ReachedFrom.{named, followed}
 use Rattle.typed_heap.specs.Standing.{ObjectStands, HeapStands, refers_within, reached_by, RootsStand, answer_of, after_allocation, replied_roots}

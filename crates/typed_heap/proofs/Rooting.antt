@@ -23,7 +23,7 @@ use Rattle.typed_machine.specs.Values.{Value, Number, Null, Ref, Code, Ret, Tab,
 use Rattle.typed_machine.specs.Stores.{Object, Store, shapes_in, value_type}
 use Rattle.typed_machine.specs.States.{State, Thread, Stack, EmptyStack, RunningStack, YieldedStack, InterruptedStack}
 use Rattle.typed_machine.specs.Frames.{Scope, fits_in, FramesFit, Awaits}
-use Rattle.typed_machine.specs.Typing.{ThreadFits, StackFits, Typed, scope_of}
+use Rattle.typed_machine.specs.Typing.{ThreadFits, StackFits, TypedAmong, scope_of}
 use Rattle.typed_machine.specs.Reaching.{names, references_from, references_of, referring, slots_of, slots_at, frame_references, value_registers, register_references, thread_references, stack_references, static_references, data_references, waiting_references, Roots}
 use Rattle.typed_heap.specs.Standing.{refers_within, RootsRefer}
 use Rattle.typed_heap.specs.Laws.{TypedRootsRefer}
@@ -183,7 +183,7 @@ module _ (image : ImageParts) (s : State) where
       go None e more = more
       go (Some t) e more = test t (is_reference t) e refl more
 
-  data-refer : Typed image s → AllRefer n (data_references image s)
+  data-refer : TypedAmong image all_objects s → AllRefer n (data_references image s)
   data-refer typed =
       all-append n (static_references image.statics s.statics) (flat_map (references_of (shown image).shapes) (take (length image.arrays) s.store)) (statics-refer image.statics s.statics typed.statics.fit)
       (all-each n (references_of (shown image).shapes) (take (length image.arrays) s.store) (λ i o e. let g = take-get (length image.arrays) i s.store o e in

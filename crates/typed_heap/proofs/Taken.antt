@@ -17,8 +17,7 @@ use Rattle.tal_image.specs.Shown.{shown}
 use Rattle.typed_machine.specs.Values.{Value, ObjectShape}
 use Rattle.typed_machine.specs.Stores.{Object, Store, need}
 use Rattle.typed_machine.specs.States.{State}
-use Rattle.typed_machine.specs.Placing.{Placed, Refused}
-use Rattle.typed_machine.specs.Placing.{WordRun, block_of, lies_in_block, is_taken, runs_from, Gaps, lies_in, Legal}
+use Rattle.typed_machine.specs.Placing.{Placed, Refused, WordRun, block_of, lies_in_block, is_taken, runs_from, Gaps, lies_in, Legal}
 use Rattle.typed_heap.specs.Standing.{ObjectStands, reached_by, RootsStand, ReachedObject}
 use Rattle.typed_heap.specs.Laws.{Agrees}
 use Rattle.typed_heap.proofs.ShapeWords.{address-block}

@@ -14,7 +14,7 @@ use Rattle.typed_machine.specs.Values.{Value, Ref, Word, ObjectShape, all_object
 use Rattle.typed_machine.specs.Stores.{Object, shape_in, elements_in, need}
 use Rattle.typed_machine.specs.States.{State, places_of}
 use Rattle.typed_machine.specs.Frames.{Awaits}
-use Rattle.typed_machine.specs.Typing.{Typed, scope_of}
+use Rattle.typed_machine.specs.Typing.{TypedAmong, scope_of}
 use Rattle.typed_machine.specs.Reaching.{Roots}
 use Rattle.typed_machine.specs.Placing.{Gaps, Legal, reply_to, free_words}
 use Rattle.typed_heap.specs.Standing.{HeapStands, reached_by, RootsRefer, RootsStand, ReachedObject, answer_of, after_allocation, replied_roots}
@@ -82,4 +82,4 @@ FreeWordsAreCounted =
 -- data arrays refer to is among them.
 abbrev pub TypedRootsRefer : Type 0
 TypedRootsRefer =
-    (image : ImageParts) (s : State) (next : ℕ) (t : Ty) → Typed image s → Awaits (scope_of image all_objects s) t next s.values → RootsRefer image s (Roots image next s)
+    (image : ImageParts) (s : State) (next : ℕ) (t : Ty) → TypedAmong image all_objects s → Awaits (scope_of image all_objects s) t next s.values → RootsRefer image s (Roots image next s)

@@ -7,13 +7,12 @@ use Rattle.mark_sweep.specs.Objects.{address}
 use Rattle.tal_image.specs.Image.{ImageParts}
 use Rattle.tal_image.specs.Shown.{shown}
 use Rattle.tal_image.specs.Formed.{Formed}
-use Rattle.typed_machine.specs.Values.{Value, Null, Ref, ObjectShape, Word}
+use Rattle.typed_machine.specs.Values.{Value, Null, Ref, ObjectShape, Word, all_objects}
 use Rattle.typed_machine.specs.Stores.{Object, Store, need, places_in}
 use Rattle.typed_machine.specs.States.{State, places_of}
-use Rattle.typed_machine.specs.Typing.{Typed}
+use Rattle.typed_machine.specs.Typing.{TypedAmong}
 use Rattle.typed_machine.specs.Words.{object_values}
-use Rattle.typed_machine.specs.Placing.{Answer, Placed, Refused}
-use Rattle.typed_machine.specs.Placing.{reply_to, allocated}
+use Rattle.typed_machine.specs.Placing.{Answer, Placed, Refused, reply_to, allocated}
 use Rattle.typed_machine.specs.Reaching.{names, references_of, Reach}
 
 -- the object stands in a used block of its need, and its words are those of its values
@@ -49,7 +48,7 @@ pub record RootsRefer (image : ImageParts) (s : State) (roots : List Value) : Ty
 -- the words of the heap stand for what the roots of a typed state reach, and the list has the words of the roots
 pub record RootsStand (image : ImageParts) (s : State) (roots : List Value) (words list : List ℕ) : Type 0 where
   pub formed : Formed image
-  pub typed : Typed image s
+  pub typed : TypedAmong image all_objects s
   pub refer : RootsRefer image s roots
   pub stands : HeapStands image (reached_by image s.store roots) s.store words
   pub lists : list ≡ map (Word (places_of s)) roots
