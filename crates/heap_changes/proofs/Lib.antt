@@ -1,3 +1,4 @@
 pub mod Within
 pub mod Bounds
 pub mod Replacing
+pub mod Beginning

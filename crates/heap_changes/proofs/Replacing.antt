@@ -34,12 +34,12 @@ use Rattle.heap_changes.proofs.Within.{Within, word-kept, fits-within, values-wi
 -- ---- words
 
 -- below the heap a word is as before
-low-kept : (m : MemoryView) (words : List ℕ) (a : ℕ) → a < heap_start → word_of (with_heap words m) a ≡ word_of m a
+pub low-kept : (m : MemoryView) (words : List ℕ) (a : ℕ) → a < heap_start → word_of (with_heap words m) a ≡ word_of m a
 unfolding word_of
 low-kept m words a l = let t : nat_le heap_start a ≡ false = grind (arith, nat_tests) in rw t refl
 
 -- and what is mapped there is so
-low-mapped : (m : MemoryView) (words : List ℕ) (a : ℕ) → a < heap_start → is_mapped m a ≡ true → is_mapped (with_heap words m) a ≡ true
+pub low-mapped : (m : MemoryView) (words : List ℕ) (a : ℕ) → a < heap_start → is_mapped m a ≡ true → is_mapped (with_heap words m) a ≡ true
 unfolding is_mapped is_open
 low-mapped m words a l h =
     let t : nat_lt a heap_start ≡ true = grind (arith, nat_tests) in

@@ -6,7 +6,7 @@ use Rattle.tal_image.specs.Shown.{shown}
 use Rattle.tal_image.specs.Formed.{Formed}
 use Rattle.typed_machine.specs.Values.{all_objects}
 use Rattle.typed_machine.specs.Stores.{Object, Store, value_count}
-use Rattle.typed_machine.specs.States.{State, places_of}
+use Rattle.typed_machine.specs.States.{State, first_state, places_of}
 use Rattle.typed_machine.specs.Typing.{TypedAmong}
 use Rattle.typed_heap.specs.Standing.{HeapStands}
 use Rattle.root_words.specs.Standing.{states_by}
@@ -43,3 +43,9 @@ abbrev pub StatesKeepWords : Type 0
 StatesKeepWords =
     (image : ImageParts) (s : State) (more : List Object) → TypedAmong image all_objects s
     → states_by (places_of (with_objects more s)) 0 s.stacks ≡ states_by (places_of s) 0 s.stacks
+
+-- Before the first turn no object stands in the heap: whatever words it has, the memory stands.
+abbrev pub FirstHeapIsFree : Type 0
+FirstHeapIsFree =
+    (image : ImageParts) (live : ℕ → Bool) (m : MemoryView) (words : List ℕ) → Formed image → MemoryStands image live (first_state image) m → FormedHeap words → length words ≡ length m.heap
+    → MemoryStands image live (first_state image) (with_heap words m)

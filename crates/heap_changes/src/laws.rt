@@ -1,5 +1,5 @@
 // What holds of the definitions alone: each law is a function with nothing to do, whose clause is the law.
-ghost use Rattle.heap_changes.specs.Laws.{HeapIsReplaced, StatesKeepWords};
+ghost use Rattle.heap_changes.specs.Laws.{HeapIsReplaced, StatesKeepWords, FirstHeapIsFree};
 
 /// A memory whose heap is replaced stands for the state with more objects, where those of the heap stand in the new words.
 pub fn heap_is_replaced()
@@ -13,3 +13,10 @@ pub fn heap_is_replaced()
 pub fn states_keep_words()
     ensures { StatesKeepWords }
 {}
+
+/// Before the first turn the memory stands with a heap of any blocks.
+pub fn first_heap_is_free()
+    ensures { FirstHeapIsFree }
+{
+    tal_image::laws::formed_shapes();
+}
