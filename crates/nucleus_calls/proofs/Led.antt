@@ -38,7 +38,7 @@ use Rattle.nucleus_calls.proofs.Switched.{current-is, fresh-stands, SwitchStands
 
 -- the Nucleus with other memory, stacks and devices
 abbrev pub with_parts : NucleusView → MemoryView → List StackState → DevicesView → NucleusView
-with_parts v memory stacks devices = record { memory = memory; stacks = stacks; starts = v.starts; devices = devices }
+with_parts v memory stacks devices = record { memory = memory; stacks = stacks; starts = v.starts; devices = devices; index = v.index; marks = v.marks }
 
 -- an entry with the words that the code puts in it
 abbrev pub entry_at : ℕ → ℕ → EntryKind → ℕ → Entry
@@ -107,6 +107,7 @@ caller-goes-on image live t v reply next h = record {
   stacks = h.stacks;
   starts = h.starts;
   devices = h.devices;
+  marks = h.marks;
 }
 
 pub reply-leads : (image : ImageParts) (live : ℕ → Bool) (s : State) (next : ℕ) (cpu : Cpu) (v : NucleusView) → StandsBefore image live s next cpu v → OneRuns v.stacks
@@ -140,6 +141,7 @@ devices-stand image live s v history devices h stand = record {
   stacks = h.stacks;
   starts = h.starts;
   devices = stand;
+  marks = h.marks;
 }
 
 devices-typed : (image : ImageParts) (live : ℕ → Bool) (s : State) (history : History) → TypedAmong image live s → TypedAmong image live (record s { devices = history })

@@ -152,6 +152,7 @@ emptied-stands image live s v h n inside = record {
   stacks = rw h.stacks (states-set (places_of s) 0 s.stacks n n EmptyStack (omega arith));
   starts = h.starts;
   devices = h.devices;
+  marks = h.marks;
 }
 
 -- a reset by an application is refused, and so is that of a stack which is not there or runs

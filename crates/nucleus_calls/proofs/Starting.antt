@@ -5,6 +5,7 @@ use Rattle.std.specs.Option.{option_map_or}
 use Rattle.std.proofs.lemmas.Bool.{cases_lt}
 use Rattle.std.proofs.lemmas.Option.{get_or_from_slice_get}
 use Rattle.tal_types.specs.declared.views.Span.{Span}
+use Rattle.free_index.specs.Lists.{FreeLists}
 use Rattle.object_layout.specs.Areas.{stacks_start}
 use Rattle.stack_states.specs.declared.stack_state.StackState.{StackState}
 use Rattle.stack_states.specs.declared.stack_state.StackState.TheVariants.{Empty, Running}
@@ -13,6 +14,7 @@ use Rattle.tal_image.specs.Image.{ImageParts}
 use Rattle.tal_image.specs.Shown.{function_in}
 use Rattle.typed_machine.specs.Values.{all_objects}
 use Rattle.typed_machine.specs.States.{EmptyStack, places_of, first_state, entry_place}
+use Rattle.root_words.specs.DataArea.{data_marks}
 use Rattle.word_machine.specs.Memory.{MemoryView, is_mapped}
 use Rattle.word_machine.specs.Standing.{MemoryStands}
 use Rattle.nucleus_calls.specs.Nucleus.{NucleusView, states_by, NucleusStands, IsKept}
@@ -23,31 +25,33 @@ unfolding states_by
 none-started places n zero = refl
 none-started places n (suc count) = ap (λ (xs : List StackState). Empty ∷ xs) (none-started places (n + 1) count)
 
-pub first-stands : (image : ImageParts) (m : MemoryView) (starts : List ℕ) (devices : DevicesView) → ((live : ℕ → Bool) → MemoryStands image live (first_state image) m)
-    → ((n : ℕ) → n < image.stacks → slice_get starts n ≡ Some (entry_place image n)) → StandsFor devices [] → (live : ℕ → Bool)
+pub first-stands : (image : ImageParts) (m : MemoryView) (starts : List ℕ) (devices : DevicesView) (index : List ℕ) (marks : List Bool) → ((live : ℕ → Bool) → MemoryStands image live (first_state image) m)
+    → ((n : ℕ) → n < image.stacks → slice_get starts n ≡ Some (entry_place image n)) → StandsFor devices [] → marks ≡ data_marks image → (live : ℕ → Bool)
     → NucleusStands image live (first_state image)
-    (record { memory = m; stacks = Running ∷ replicate (image.stacks - 1) Empty; starts = starts; devices = devices })
+    (record { memory = m; stacks = Running ∷ replicate (image.stacks - 1) Empty; starts = starts; devices = devices; index = index; marks = marks })
 unfolding first_state states_by
-first-stands image m starts devices memory each stand live = record {
+first-stands image m starts devices index marks memory each stand marked live = record {
   memory = memory live;
   stacks = ap (λ (xs : List StackState). Running ∷ xs) (none-started _ 1 (image.stacks - 1));
   starts = each;
   devices = stand;
+  marks = marked;
 }
 
 replicate-count : (count : ℕ) (x : StackState) → length (replicate count x) ≡ count
 replicate-count zero x = refl
 replicate-count (suc count) x = ap suc (replicate-count count x)
 
-pub first-kept : (image : ImageParts) (m : MemoryView) (starts : List ℕ) (devices : DevicesView) → ((live : ℕ → Bool) → MemoryStands image live (first_state image) m)
-    → length starts ≡ image.stacks → 1 ≤ image.stacks
-    → IsKept (record { memory = m; stacks = Running ∷ replicate (image.stacks - 1) Empty; starts = starts; devices = devices })
-first-kept image m starts devices memory count some =
+pub first-kept : (image : ImageParts) (m : MemoryView) (starts : List ℕ) (devices : DevicesView) (index : List ℕ) (marks : List Bool) → ((live : ℕ → Bool) → MemoryStands image live (first_state image) m)
+    → length starts ≡ image.stacks → 1 ≤ image.stacks → FreeLists index m.heap
+    → IsKept (record { memory = m; stacks = Running ∷ replicate (image.stacks - 1) Empty; starts = starts; devices = devices; index = index; marks = marks })
+first-kept image m starts devices index marks memory count some lists =
     let rest = replicate-count (image.stacks - 1) Empty in
     let same : length (Running ∷ replicate (image.stacks - 1) Empty) ≡ image.stacks = omega arith in
     record {
       room = λ a low high aligned. (memory all_objects).room a low (rw same at high) aligned;
       starts = count ∙ sym same;
+      lists = lists;
     }
 
 -- ---- where stacks start

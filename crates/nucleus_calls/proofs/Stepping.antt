@@ -8,6 +8,7 @@ use Rattle.typed_machine.specs.States.{State}
 use Rattle.typed_machine.specs.Effects.{EffectView, Moves, Faults, Calls, Ends, Effect}
 use Rattle.word_machine.specs.declared.step.Step.{Step}
 use Rattle.word_machine.specs.Memory.{MemoryView}
+use Rattle.word_machine.specs.Laws.{HeapWritten}
 use Rattle.word_machine.specs.Standing.{MemoryStands, WordsStand}
 use Rattle.word_machine.specs.Following.{StandsAt, Runs, Came}
 use Rattle.nucleus_calls.specs.Nucleus.{NucleusView, NucleusStands, IsKept}
@@ -15,6 +16,7 @@ use Rattle.nucleus_calls.specs.Turning.{AtInstruction, MayStep, BothStand, Stepp
 use Rattle.nucleus_calls.proofs.KeptParts.{KeepsRest, EffectLeaves, effect-leaves}
 use Rattle.nucleus_calls.proofs.Switched.{count-is, current-is}
 use Rattle.nucleus_calls.proofs.Led.{with_parts}
+use Rattle.nucleus_calls.proofs.Keeping.{WritesKeepLists, lists-kept}
 
 -- the words stand for the state at whose place the instruction is
 words-stand : (image : ImageParts) (live : ℕ → Bool) (s : State) (i : Inst) (len : ℕ) (cpu : Cpu) (v : NucleusView) → AtInstruction image live s i len cpu v → StandsAt image live s cpu v.memory i len
@@ -45,7 +47,7 @@ same-stands : (image : ImageParts) (live : ℕ → Bool) (s : State) (v : Nucleu
     → WordsStand image live s ran after → BothStand image live s ran (with_parts v after v.stacks v.devices)
 same-stands image live s v ran after h words = record {
   processor = words.processor;
-  nucleus = record { memory = words.memory; stacks = h.stacks; starts = h.starts; devices = h.devices };
+  nucleus = record { memory = words.memory; stacks = h.stacks; starts = h.starts; devices = h.devices; marks = h.marks };
 }
 
 -- so it is with a state that kept the rest
@@ -58,6 +60,7 @@ rest-stands image live s t v ran after h keeps words = record {
     stacks = rw (keeps.places, keeps.stacks) h.stacks;
     starts = h.starts;
     devices = rw keeps.devices h.devices;
+    marks = h.marks;
   };
 }
 
@@ -89,9 +92,9 @@ came-memory image live s r ran after (Some (Calls k)) (is, words) = (s, words.me
 came-memory image live s r ran after (Some Ends) (is, words) = (s, words.memory)
 
 -- so each stack has all of its words
-pub step-kept : (i : Inst) (len : ℕ) (cpu : Cpu) (v : NucleusView) (r : Step) (ran : Cpu) (after : MemoryView) → IsKept v → OneRuns v.stacks
-    → MayStep i len cpu v → Advances i len (current_of v.stacks) cpu v.memory r ran after → IsKept (with_parts v after v.stacks v.devices)
-step-kept i len cpu v r ran after kept one (image, live, s, h) advances =
+pub step-kept : WritesKeepLists → (i : Inst) (len : ℕ) (cpu : Cpu) (v : NucleusView) (r : Step) (ran : Cpu) (after : MemoryView) → IsKept v → OneRuns v.stacks
+    → MayStep i len cpu v → Advances i len (current_of v.stacks) cpu v.memory r ran after → HeapWritten v.memory.heap after.heap → IsKept (with_parts v after v.stacks v.devices)
+step-kept law i len cpu v r ran after kept one (image, live, s, h) advances written =
     let t = came-memory image live s r ran after _ (advances image live s (words-stand image live s i len cpu v h) (sym (current-is h.before.typed h.before.nucleus one))) in
     let count = count-is h.before.typed h.before.nucleus in
-    record { room = λ a low high aligned. t.1.room a low (rw count at high) aligned; starts = kept.starts }
+    record { room = λ a low high aligned. t.1.room a low (rw count at high) aligned; starts = kept.starts; lists = lists-kept law v.index v.memory.heap after.heap written kept.lists }

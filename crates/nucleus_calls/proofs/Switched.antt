@@ -93,7 +93,7 @@ module _ {image : ImageParts} {live : ℕ → Bool} {s : State} {v : NucleusView
     moved : current_of v.stacks ≡ s.current → (after : MemoryView) (thread : Thread) (values : List Value) → MemoryStands image live s after
         → HoldsValues after (places_of s) (stack_pointer to (length values)) values
         → NucleusStands image live (next_state s left to thread values)
-        (record { memory = after; stacks = table.handed_over v.stacks (state_by (places_of s) s.current left) to; starts = v.starts; devices = v.devices })
+        (record { memory = after; stacks = table.handed_over v.stacks (state_by (places_of s) s.current left) to; starts = v.starts; devices = v.devices; index = v.index; marks = v.marks })
     moved current after thread values memory holds = record {
       memory = restacked image live s (next_state s left to thread values) after memory refl refl
           (λ n there.
@@ -102,6 +102,7 @@ module _ {image : ImageParts} {live : ℕ → Bool} {s : State} {v : NucleusView
       stacks = states-switched current;
       starts = stands.starts;
       devices = stands.devices;
+      marks = stands.marks;
     }
 
 -- what a switch leads to in the same turn, which the processor and the Nucleus stand for
@@ -118,7 +119,7 @@ pub switch-stands : EmptyStacksAreFree → (image : ImageParts) (live : ℕ → 
     → (to : ℕ) → to ≢ current_of v.stacks → (was : StackState) → slice_get v.stacks to ≡ Some was → (start : ℕ) → slice_get v.starts to ≡ Some start
     → (left : Stack) → KeepsValues s left → (reply : ℕ) (cpu : Cpu) (after : MemoryView) → GoesOn start to reply was v.memory cpu after
     → SwitchStands image live s (switched image to (Number reply) left s) cpu
-    (record { memory = after; stacks = table.handed_over v.stacks (state_by (places_of s) s.current left) to; starts = v.starts; devices = v.devices })
+    (record { memory = after; stacks = table.handed_over v.stacks (state_by (places_of s) s.current left) to; starts = v.starts; devices = v.devices; index = v.index; marks = v.marks })
 unfolding switched values_at kept_values Word
 switch-stands law image live s v well_typed typed stands one to differs was waits start starts left keeps reply cpu after went =
     go found.stack found.here (rw found.is at went)
@@ -151,7 +152,7 @@ switch-stands law image live s v well_typed typed stands one to differs was wait
 
     go : (stack : Stack) → slice_get s.stacks to ≡ Some stack → GoesOn start to reply (state_by (places_of s) to stack) v.memory cpu after
         → SwitchStands image live s (switched image to (Number reply) left s) cpu
-        (record { memory = after; stacks = table.handed_over v.stacks (state_by (places_of s) s.current left) to; starts = v.starts; devices = v.devices })
+        (record { memory = after; stacks = table.handed_over v.stacks (state_by (places_of s) s.current left) to; starts = v.starts; devices = v.devices; index = v.index; marks = v.marks })
     go EmptyStack here (is, put) = record {
       state = handed_over left to (runs (fresh_thread (Number 0) (entry_place image to)) (Ret 0 ∷ []) s);
       is = rw here refl;

@@ -17,6 +17,7 @@ use crate::journal::Journal;
 use crate::nucleus::Nucleus;
 use crate::outcome::Done;
 use crate::switching::{fresh_cpu, go_on};
+use free_index::laws::object_write_keeps_lists;
 use ia32_step::Cpu;
 use stack_states::{Entry, EntryKind, StackState};
 use word_machine::laws::empty_stacks_are_free;
@@ -90,6 +91,7 @@ impl Nucleus {
         ensures spare { journal.new.spare + 1 ≡ journal.old.spare }
     {
         empty_stacks_are_free();
+        object_write_keeps_lists();
         let stack = self.running();
         let eax = cpu.regs[EAX];
         if self.yields(number, eax) {

@@ -15,8 +15,12 @@ use crate::outcome::Leaving;
 use crate::switching::go_on;
 use device_model::laws::{granted_line, one_grant};
 use device_model::{Devices, Event};
+use free_index::FreeIndex;
+use free_index::laws::object_write_keeps_lists;
+use heap_changes::laws::first_heap_is_free;
 use ia32_step::Cpu;
 use no_memory::NoMemory;
+use root_words::DataMarks;
 use stack_states::{Entry, EntryKind, Stacks};
 use std::alloc::Global;
 use std::marker::Model;
@@ -38,6 +42,10 @@ pub struct Nucleus {
     /// Where each stack starts.
     pub(crate) starts: Vec<u32>,
     pub(crate) devices: Devices,
+    /// The lists of the heap's free blocks.
+    pub(crate) index: FreeIndex,
+    /// Which words of the data area are references.
+    pub(crate) marks: DataMarks,
 }
 
 impl Model for Nucleus {
@@ -45,9 +53,9 @@ impl Model for Nucleus {
 
     ghost Value = { NucleusView };
 
-    ghost view = { λ n. record { memory = n.memory; stacks = n.stacks; starts = n.starts.items; devices = n.devices } };
+    ghost view = { λ n. record { memory = n.memory; stacks = n.stacks; starts = n.starts.items; devices = n.devices; index = n.index; marks = n.marks } };
 
-    ghost invariant = { λ n. IsKept (record { memory = n.memory; stacks = n.stacks; starts = n.starts.items; devices = n.devices }) };
+    ghost invariant = { λ n. IsKept (record { memory = n.memory; stacks = n.stacks; starts = n.starts.items; devices = n.devices; index = n.index; marks = n.marks }) };
 }
 
 // Where each stack of the image starts.
@@ -114,12 +122,17 @@ impl Nucleus {
     pub fn new(alloc: Global, image: &Image) -> Result<Nucleus, NoMemory>
         ensures { IfOk result (λ n. (live : ℕ → Bool) → NucleusStands image.now live (first_state image.now) n) }
     {
+        first_heap_is_free();
         image.formed();
+        let mut memory = Memory::new(alloc, image)?;
+        let index = FreeIndex::rebuild(&mut memory.heap);
         Ok(Nucleus {
-            memory: Memory::new(alloc, image)?,
+            memory,
             stacks: Stacks::new(alloc, image.stacks())?,
             starts: starts_of(alloc, image)?,
             devices: Devices::new(alloc)?,
+            index,
+            marks: DataMarks::new(alloc, image)?,
         })
     }
 
@@ -158,6 +171,7 @@ impl Nucleus {
         ensures none { IsFalse result → (self.new ≡ self.old) × (cpu.new ≡ cpu.old) × (journal.new ≡ journal.old) }
     {
         empty_stacks_are_free();
+        object_write_keeps_lists();
         granted_line();
         one_grant();
         let stack = self.running();
@@ -196,6 +210,7 @@ impl Nucleus {
         ensures spare { journal.new.spare + 1 ≡ journal.old.spare }
     {
         empty_stacks_are_free();
+        object_write_keeps_lists();
         let stack = self.running();
         let start = self.start_of(KERNEL);
         let was = self.stacks.drop_running();

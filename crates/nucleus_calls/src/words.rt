@@ -11,6 +11,7 @@ ghost use Rattle.word_machine.specs.Memory.{word_of, is_mapped};
 ghost use Rattle.nucleus_calls.specs.Turning.{AtInstruction, MayStep, Stepped};
 
 use crate::nucleus::Nucleus;
+use free_index::laws::object_write_keeps_lists;
 use ia32_code::Inst;
 use ia32_step::Cpu;
 use word_machine::{Step, advance};
@@ -26,6 +27,7 @@ impl Nucleus {
             → Stepped result cpu.new self.new image live s (Effect image s inst.now len) }
         ensures stacks { self.new.stacks ≡ self.old.stacks }
     {
+        object_write_keeps_lists();
         let stack = self.running();
         advance(cpu, &mut self.memory, stack, inst, len)
     }

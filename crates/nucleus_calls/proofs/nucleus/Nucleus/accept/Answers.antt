@@ -17,7 +17,7 @@ returns-then-stack-eq-KERNEL-clause-turn c = λ image live s h turns line grante
 pub invariant_of-self-2 : goal.invariant_of-self-2
 invariant_of-self-2 c =
     rw c.interrupt-was.ensures.table
-    (kept-after _ _ 0 _ _ _ c.go_on.new.memory _ c.grant.new.self c.self.invariant c.go_on.ensures
+    (kept-after c.object_write_keeps_lists.ensures _ _ 0 _ _ _ c.go_on.new.memory _ c.grant.new.self c.self.invariant c.go_on.ensures
     (handed-count c.self.inside.stacks (Interrupted c.args.cpu.now.regs c.args.cpu.now.flags c.args.cpu.now.pc) 0))
 
 pub returns-then-stack-eq-KERNEL-clause-grants : goal.returns-then-stack-eq-KERNEL-clause-grants

@@ -13,7 +13,7 @@ go_on-requires-clause-few c = c.yields.ensures.few c.if-yields.true
 pub invariant_of-self : goal.invariant_of-self
 invariant_of-self c =
     rw c.switch-was.ensures.table
-    (kept-after _ _ _ _ _ _ c.go_on.new.memory _ c.self.inside.devices c.self.invariant c.go_on.ensures (handed-count c.self.inside.stacks _ _))
+    (kept-after c.object_write_keeps_lists.ensures _ _ _ _ _ _ c.go_on.new.memory _ c.self.inside.devices c.self.invariant c.go_on.ensures (handed-count c.self.inside.stacks _ _))
 
 pub returns-then-yields-clause-turn : goal.returns-then-yields-clause-turn
 returns-then-yields-clause-turn c = λ image live s next h call turns answers.

@@ -6,7 +6,7 @@ use Rattle.nucleus_calls.proofs.nucleus.Nucleus.leave.Goals as goal
 pub invariant_of-self : goal.invariant_of-self
 invariant_of-self c =
     rw c.drop_running-was.ensures.table
-    (kept-after _ _ 0 _ _ _ c.go_on.new.memory _ c.self.inside.devices c.self.invariant c.go_on.ensures (handed-count c.self.inside.stacks Empty 0))
+    (kept-after c.object_write_keeps_lists.ensures _ _ 0 _ _ _ c.go_on.new.memory _ c.self.inside.devices c.self.invariant c.go_on.ensures (handed-count c.self.inside.stacks Empty 0))
 
 pub returns-clause-turn : goal.returns-clause-turn
 returns-clause-turn c = λ image live s next h turns answers.

@@ -12,7 +12,7 @@ invariant_of-self c =
     let runs = rw (← c.self.view_is) at c.requires.runs in
     let one = rw (← c.self.view_is) at c.running-stack.ensures.one in
     let current = rw (← c.self.view_is) at c.running-stack.ensures.current in
-    step-kept c.args.inst.now c.args.len c.args.cpu.now _ _ _ _ c.self.invariant one runs (rw current at c.advance.ensures.step)
+    step-kept c.object_write_keeps_lists.ensures c.args.inst.now c.args.len c.args.cpu.now _ _ _ _ c.self.invariant one runs (rw current at c.advance.ensures.step) c.advance.ensures.heap
 
 pub returns-clause-step : goal.returns-clause-step
 returns-clause-step c = λ image live s h.
