@@ -1,0 +1,4 @@
+pub mod AtCalls
+pub mod Keeping
+pub mod Collecting
+pub mod Allocating
