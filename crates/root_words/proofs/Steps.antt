@@ -9,7 +9,7 @@ use Rattle.stack_states.specs.declared.stack_state.StackState.{StackState}
 use Rattle.frame_tables.specs.FrameRows.{RowAt}
 use Rattle.root_words.specs.DataArea.{marked_words}
 use Rattle.root_words.specs.Listing.{saved_references, state_words, states_words, IsWalkable, AreWalkable}
-use Rattle.root_words.specs.Rest.{words_from, WalkableFrom}
+use Rattle.root_words.specs.Rest.{rest_words, WalkableFrom}
 
 -- no words, no marked ones
 pub marked-short : (marks : List Bool) (words : List ℕ) → length words ≡ 0 → marked_words marks words ≡ []
@@ -68,7 +68,7 @@ next-at xs n x e = let s : suc n ≡ n + 1 = omega arith in cons-at xs n x e ∙
 
 -- the words of the stacks from one on are its own and then the others'
 pub words-cut : (table : List RowAt) (words : List ℕ) (n : ℕ) (xs : List StackState) (x : StackState) → Some x ≡ slice_get xs n
-    → words_from table words n xs ≡ state_words table words n x ++ words_from table words (n + 1) xs
+    → rest_words table words n xs ≡ state_words table words n x ++ rest_words table words (n + 1) xs
 words-cut table words n xs x e = ap (states_words table words n) (next-at xs n x (sym e))
 
 pub walkable-cut : (table : List RowAt) (words : List ℕ) (n : ℕ) (xs : List StackState) (x : StackState) → Some x ≡ slice_get xs n → WalkableFrom table words n xs

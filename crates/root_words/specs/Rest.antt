@@ -5,8 +5,8 @@ use Rattle.frame_tables.specs.FrameRows.{RowAt}
 use Rattle.root_words.specs.Listing.{states_words, AreWalkable}
 
 -- the root words of the stacks from stack n on
-abbrev pub words_from : List RowAt → List ℕ → ℕ → List StackState → List ℕ
-words_from table words n states = states_words table words n (drop n states)
+abbrev pub rest_words : List RowAt → List ℕ → ℕ → List StackState → List ℕ
+rest_words table words n states = states_words table words n (drop n states)
 
 -- they can be walked
 abbrev pub WalkableFrom : List RowAt → List ℕ → ℕ → List StackState → Type 0

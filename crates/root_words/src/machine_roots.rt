@@ -23,11 +23,11 @@ pub struct MachineRoots<'a> {
 
 impl<'a> Model for MachineRoots<'a> {
     ghost use Rattle.std.specs.Prelude.{ℕ, List, ◌++◌, ◌≤◌, length};
-    ghost use Rattle.root_words.specs.Rest.{words_from, WalkableFrom};
+    ghost use Rattle.root_words.specs.Rest.{rest_words, WalkableFrom};
 
     ghost Value = { List ℕ };
 
-    ghost view = { λ r. r.marked ++ r.stack ++ words_from r.frames.now r.words.now r.next r.stacks.now };
+    ghost view = { λ r. r.marked ++ r.stack ++ rest_words r.frames.now r.words.now r.next r.stacks.now };
 
     ghost invariant = { λ r. WalkableFrom r.frames.now r.words.now r.next r.stacks.now × (r.next ≤ length r.stacks.now) };
 }
