@@ -1,6 +1,7 @@
 ghost use Rattle.std.specs.Prelude.{◌≡◌, ◌≢◌, ◌≤◌, ◌<◌, ◌+◌, ◌++◌, [], Some, None, IsSome, IfOk, is_some, length, slice_get, Option};
 ghost use Rattle.std.specs.Option.{option_to_list};
 ghost use Rattle.ia32_code.specs.Canonical.{Canonical};
+ghost use Rattle.stack_states.specs.declared.table.TheConstants.{MOST_STACKS};
 ghost use Rattle.device_model.specs.EventFile.{InOrder};
 ghost use Rattle.object_layout.specs.Areas.{code_start};
 ghost use Rattle.stack_states.specs.declared.journal_entry.Entry.{Entry};
@@ -229,7 +230,7 @@ impl Machine {
 
 // ESP of a stack that does this.
 fn esp_of(cpu: &Cpu, stack: u32, state: StackState) -> u32
-    requires { stack < 64 }
+    requires { stack < MOST_STACKS }
     ensures { result ≡ esp_by cpu.now stack state }
 {
     match state {
@@ -266,7 +267,7 @@ impl Shown for Machine {
     }
 
     fn stack_words(&self, stack: u32) -> &[u32] {
-        // There are no more than 64.
+        // There are no more than MOST_STACKS.
         let _count = self.nucleus.stacks().count();
         let state = self.nucleus.stacks().state(stack).unwrap();
         self.nucleus

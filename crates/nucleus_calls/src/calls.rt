@@ -1,5 +1,6 @@
 // The entries of the Nucleus that touch no heap: what each replies, and what it changes.
 ghost use Rattle.std.specs.Prelude.{◌≡◌, ◌≢◌, ◌≤◌, ◌<◌, ◌+◌, ◌==◌, ◌&&◌, not, ℕ, Bool, List, Option, Some, IsSome, IfNone, IsTrue, is_some, length, if◌then◌else◌};
+ghost use Rattle.stack_states.specs.declared.table.TheConstants.{MOST_STACKS};
 ghost use Rattle.stack_states.specs.StackTable.{OneRuns, current_of};
 ghost use Rattle.tal_image.specs.Image.{ImageParts};
 ghost use Rattle.typed_machine.specs.States.{State};
@@ -143,7 +144,7 @@ impl Nucleus {
         ensures yields { result ≡ (number == 3 && not (is_some (yield_refusal self.now.stacks to))) }
         ensures there { IsTrue result → to < length self.now.starts }
         ensures other { IsTrue result → to ≢ current_of self.now.stacks }
-        ensures few { IsTrue result → to < 64 }
+        ensures few { IsTrue result → to < MOST_STACKS }
     {
         number == YIELD_TO && self.yield_refusal(to).is_none()
     }
@@ -154,9 +155,9 @@ impl Nucleus {
         ensures one { OneRuns self.now.stacks }
         ensures there { IfNone result (to < length self.now.starts) }
         ensures other { IfNone result (to ≢ current_of self.now.stacks) }
-        ensures few { IfNone result (to < 64) }
+        ensures few { IfNone result (to < MOST_STACKS) }
     {
-        // There are no more than 64.
+        // There are no more than MOST_STACKS.
         let _count = self.stacks.count();
         let current = self.running();
         if self.stacks.state(to).is_none() || to == current {

@@ -1,4 +1,5 @@
 ghost use Rattle.std.specs.Prelude.{◌≡◌, ◌≢◌, ℕ, ◌+◌, ◌≤◌, ◌<◌, ◌∷◌, Bool, List, Option, IfOk, IsTrue, IsFalse, is_some, length, slice_get, Some};
+ghost use Rattle.stack_states.specs.declared.table.TheConstants.{MOST_STACKS};
 ghost use Rattle.stack_states.specs.StackTable.{OneRuns, current_of};
 ghost use Rattle.device_model.specs.Devices.{item_of};
 ghost use Rattle.tal_image.specs.Image.{ImageParts};
@@ -107,7 +108,7 @@ fn value_of(why: Leaving) -> u32
 
 // What stack 0 is told of this application.
 fn reply_of(why: Leaving, stack: u32) -> u32
-    requires { stack < 64 }
+    requires { stack < MOST_STACKS }
     ensures { result ≡ reply_of why stack }
 {
     match why {
@@ -236,10 +237,10 @@ impl Nucleus {
             → result ≡ s.current }
         ensures current { result ≡ current_of self.now.stacks }
         ensures one { OneRuns self.now.stacks }
-        ensures few { result < 64 }
+        ensures few { result < MOST_STACKS }
         ensures there { result < length self.now.starts }
     {
-        // There are no more than 64.
+        // There are no more than MOST_STACKS.
         let _count = self.stacks.count();
         self.stacks.current()
     }

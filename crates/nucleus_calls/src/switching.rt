@@ -1,5 +1,6 @@
 // How a stack goes on.
 ghost use Rattle.std.specs.Prelude.{◌≡◌, ◌≢◌, ◌<◌, true};
+ghost use Rattle.stack_states.specs.declared.table.TheConstants.{MOST_STACKS};
 ghost use Rattle.typed_machine.specs.Words.{stack_pointer};
 ghost use Rattle.word_machine.specs.Memory.{is_mapped};
 ghost use Rattle.nucleus_calls.specs.Calling.{fresh_cpu, GoesOn};
@@ -28,7 +29,7 @@ pub(crate) fn fresh_cpu(eax: u32, esp: u32, place: u32) -> Cpu
 
 // ESP of a stack that has one word.
 fn first_esp(stack: u32) -> u32
-    requires { stack < 64 }
+    requires { stack < MOST_STACKS }
     ensures { result ≡ stack_pointer stack 1 }
 {
     STACKS_START + 4 * (STACK_WORDS as u32 * (stack + 1) - 1)
@@ -44,7 +45,7 @@ pub(crate) fn go_on(
     was: StackState,
     reply: u32,
 )
-    requires few { stack < 64 }
+    requires few { stack < MOST_STACKS }
     requires room { is_mapped memory.old (stack_pointer stack 1) ≡ true }
     requires waits { was ≢ StackState.Running }
     ensures { GoesOn start stack reply was memory.old cpu.new memory.new }

@@ -41,7 +41,7 @@ impl Nucleus {
         ensures count { 4 * length result.now + esp ≡ upper_end stack }
         ensures each { (k : ℕ) → k < length result.now → slice_get result.now k ≡ word_of self.now.memory (esp + 4 * k) }
     {
-        // There are no more than 64.
+        // There are no more than MOST_STACKS.
         let _count = self.stacks.count();
         self.memory.stack_words(stack, esp)
     }

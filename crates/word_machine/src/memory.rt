@@ -1,5 +1,6 @@
 ghost use Rattle.std.specs.Prelude.{◌≡◌, ℕ, ◌≤◌, ◌<◌, ◌+◌, ◌*◌, ◌%◌, ◌==◌, ◌&&◌, Bool, true, false, ◌++◌, length, replicate, slice_get, is_some, Some, IfOk, if◌then◌else◌};
 ghost use Rattle.std.specs.Option.{option_map_or};
+ghost use Rattle.stack_states.specs.declared.table.TheConstants.{MOST_STACKS};
 ghost use Rattle.heap_words.specs.Blocks.{Begins, FormedHeap};
 ghost use Rattle.heap_words.specs.Headers.{size_at};
 ghost use Rattle.object_layout.specs.Areas.{statics_start, stacks_start, heap_start, word_index};
@@ -82,7 +83,7 @@ impl Memory {
 
     /// The words of a stack from its top, which ESP tells, to its bottom.
     pub fn stack_words(&self, stack: u32, esp: u32) -> &[u32]
-        requires few { stack < 64 }
+        requires few { stack < MOST_STACKS }
         requires low { stacks_start + stack_bytes * stack ≤ esp }
         requires high { esp ≤ upper_end stack }
         requires aligned { esp % 4 ≡ 0 }

@@ -2,6 +2,7 @@ ghost use Rattle.std.specs.Prelude.{◌≡◌, ◌≢◌, ℕ, ◌+◌, ◌<◌,
 ghost use Rattle.ia32_code.specs.Canonical.{Canonical};
 ghost use Rattle.ia32_step.specs.Operands.{state_of};
 ghost use Rattle.ia32_step.specs.Effects.{below_top, pushed};
+ghost use Rattle.stack_states.specs.declared.table.TheConstants.{MOST_STACKS};
 ghost use Rattle.tal_flow.specs.Rules.{next_address};
 ghost use Rattle.tal_image.specs.Image.{ImageParts};
 ghost use Rattle.typed_machine.specs.States.{State};
@@ -109,7 +110,7 @@ fn is_push(inst: &Inst) -> bool
 
 // Whether ESP is at the lower end of the stack, which then is full.
 fn is_at_limit(cpu: &Cpu, stack: u32) -> bool
-    requires { stack < 64 }
+    requires { stack < MOST_STACKS }
     ensures { result ≡ is_at_limit cpu.now stack }
 {
     cpu.regs[ESP] == STACKS_START + 4 * STACK_WORDS as u32 * stack
@@ -117,7 +118,7 @@ fn is_at_limit(cpu: &Cpu, stack: u32) -> bool
 
 // Whether the instruction pushes a word for which there is no room.
 fn overflows(inst: &Inst, cpu: &Cpu, stack: u32) -> bool
-    requires { stack < 64 }
+    requires { stack < MOST_STACKS }
     ensures { result ≡ overflows inst.now cpu.now stack }
 {
     is_push(inst) && is_at_limit(cpu, stack)
