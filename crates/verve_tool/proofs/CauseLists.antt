@@ -4,9 +4,9 @@ use Rattle.std.proofs.Common.{◌≡◌, List, ℕ, [], ◌∷◌, ◌++◌, inl
 use Rattle.outside.specs.FileMaps.{FileMap}
 use Rattle.verve_tool.specs.Causes.{Cause, Missing, Holds, ComesTo, NoneHolds, OneCause}
 use Rattle.verve_tool.specs.Seen.{FilesSeen}
-use Rattle.verve_tool.specs.Stops.{TellsFirst, StopsBy, StopsAt}
+use Rattle.verve_tool.specs.Stops.{StopsBy, StopsAt}
 use Rattle.verve_tool.specs.declared.stop.Stop.{Stop}
-use Rattle.verve_tool.specs.declared.stop.Stop.TheVariants.{Usage, Read, Write, NoMemory}
+use Rattle.verve_tool.specs.declared.stop.Stop.TheVariants.{Read}
 
 -- more causes behind change nothing
 comes_more : (told : Option FileMap) (cs ds : List Cause) (c : Cause) → ComesTo told cs c → ComesTo told (cs ++ ds) c
@@ -19,44 +19,23 @@ comes_later : (told : Option FileMap) (cs ds : List Cause) (c : Cause) → NoneH
 comes_later told [] ds c none h = h
 comes_later told (x ∷ cs) ds c none h = inr (none.0, comes_later told cs ds c none.1 h)
 
--- none of two lists holds, so none of both
-pub none_of_both : (told : Option FileMap) (cs ds : List Cause) → NoneHolds told cs → NoneHolds told ds → NoneHolds told (cs ++ ds)
-none_of_both told [] ds none more = more
-none_of_both told (x ∷ cs) ds none more = (none.0, none_of_both told cs ds none.1 more)
+-- so what stops a command by some causes stops it by these between others
+comes_between : (told : Option FileMap) (cs ds es : List Cause) (c : Cause) → NoneHolds told cs → ComesTo told ds c → ComesTo told (cs ++ (ds ++ es)) c
+comes_between told cs ds es c none h = comes_later told cs (ds ++ es) c none (comes_more told ds es c h)
 
--- the first of a list is the first with more behind
-tells_more : (told : Option FileMap) (cs ds : List Cause) (s : Stop) → TellsFirst told cs s → TellsFirst told (cs ++ ds) s
-tells_more told cs ds s h =
-    record { cause = h.cause; first = record { comes = comes_more told cs ds h.cause h.first.comes; holds = h.first.holds }; status = h.status }
-
--- and with such before as do not hold
-tells_later : (told : Option FileMap) (cs ds : List Cause) (s : Stop) → NoneHolds told cs → TellsFirst told ds s → TellsFirst told (cs ++ ds) s
-tells_later told cs ds s none h =
-    record { cause = h.cause; first = record { comes = comes_later told cs ds h.cause none h.first.comes; holds = h.first.holds }; status = h.status }
-
--- what stops a command stops it with more causes behind
-pub stops_more : (before after : FilesSeen) (cs ds : List Cause) (s : Stop) → StopsAt before after cs s → StopsAt before after (cs ++ ds) s
-stops_more before after cs ds (Read n) h = (comes_more before.told cs ds (Missing n.now) h.0, h.1, h.2)
-stops_more before after cs ds NoMemory h = tt
-stops_more before after cs ds Usage h = absurd h
-stops_more before after cs ds Write h = absurd h
-stops_more before after cs ds s h = tells_more before.told cs ds s h
-
--- and with such before as do not hold
-pub stops_later : (before after : FilesSeen) (cs ds : List Cause) (s : Stop) → NoneHolds before.told cs → StopsAt before after ds s
-    → StopsAt before after (cs ++ ds) s
-stops_later before after cs ds (Read n) none h = (comes_later before.told cs ds (Missing n.now) none h.0, h.1, h.2)
-stops_later before after cs ds NoMemory none h = tt
-stops_later before after cs ds Usage none h = absurd h
-stops_later before after cs ds Write none h = absurd h
-stops_later before after cs ds s none h = tells_later before.told cs ds s none h
+pub stops_between : (before after : FilesSeen) (cs ds es : List Cause) (s : Stop) → NoneHolds before.told cs → StopsAt before after ds s
+    → StopsAt before after (cs ++ (ds ++ es)) s
+stops_between before after cs ds es (Read n) none h = (comes_between before.told cs ds es (Missing n.now) none h.0, h.1, h.2)
+stops_between before after cs ds es s none (inl want) = inl want
+stops_between before after cs ds es s none (inr first) = inr (record {
+  cause = first.cause;
+  first = record { comes = comes_between before.told cs ds es first.cause none first.first.comes; holds = first.first.holds };
+  status = first.status;
+})
 
 -- bytes that were read stop a command whose files they are
 pub stops_by_bytes : (before after : FilesSeen) (cs : List Cause) (s : Stop) → StopsBy before.told cs s → StopsAt before after cs s
 stops_by_bytes before after cs (Read n) h = absurd h
-stops_by_bytes before after cs NoMemory h = tt
-stops_by_bytes before after cs Usage h = absurd h
-stops_by_bytes before after cs Write h = absurd h
 stops_by_bytes before after cs s h = h
 
 -- two causes to which a command comes and which hold are one

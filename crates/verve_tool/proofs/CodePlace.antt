@@ -1,7 +1,7 @@
 -- How many bytes the parts of an image's file take.
 use Rattle.std.specs.Prelude.{take}
 use Rattle.std.specs.List.{All, flat_map}
-use Rattle.std.proofs.Common.{◌≡◌, ◌≤◌, ◌<◌, ℕ, zero, suc, ◌+◌, ◌*◌, List, [], ◌∷◌, ◌++◌, length, get_or, refl, sym, ◌∙◌, ap, append_assoc, append-nil, length-append, arith}
+use Rattle.std.proofs.Common.{◌≡◌, ◌≤◌, ◌<◌, ℕ, zero, suc, ◌+◌, ◌*◌, List, [], ◌∷◌, ◌++◌, length, get_or, refl, sym, ◌∙◌, ap, append-nil, length-append, arith}
 use Rattle.std.proofs.lemmas.List.{take_more}
 use Rattle.std.proofs.lemmas.List.Concat.{flat_map-cons}
 use Rattle.std.proofs.lemmas.List.Folds.{length-flat_map-take}
@@ -14,8 +14,8 @@ use Rattle.tal_image.specs.declared.parts.Tables.{Tables}
 use Rattle.tal_image.specs.Conditions.{Spelled}
 use Rattle.tal_image.specs.Fields.{after_block}
 use Rattle.tal_image.specs.Formed.{EachAfter, IsBlockPart}
-use Rattle.tal_image.specs.Image.{ImageParts, number_bytes, types_bytes, type_bytes, type_tag, type_index, block_bytes, mark_bytes, FileOf}
-use Rattle.verve_tool.specs.Causes.{bytes_before_code, code_byte}
+use Rattle.tal_image.specs.Image.{ImageParts, number_bytes, types_bytes, type_bytes, type_tag, type_index, block_bytes, mark_bytes, FileOf, numbers, header, sig_bytes, function_bytes, class_bytes, kind_bytes, field_bytes, array_bytes}
+use Rattle.verve_tool.specs.Causes.{code_byte}
 
 -- a number
 number-length : (n : ℕ) → length (number_bytes n) ≡ 4
@@ -77,15 +77,29 @@ marks-length (m ∷ ms) =
     let split = ap length (flat_map-cons mark_bytes m ms) ∙ length-append (mark_bytes m) (flat_map mark_bytes ms) in
     omega (arith, split, mark-length m, marks-length ms)
 
--- the file is what stands before the code, the code, the blocks and the marks
-file-parts : (i : ImageParts) → FileOf i ≡ bytes_before_code i ++ (i.code ++ (flat_map block_bytes i.blocks ++ flat_map mark_bytes i.marks))
+-- what stands last of nine lists is no longer than all
+last-part : (a b c d e f g h last : List ℕ) → length last ≤ length (a ++ (b ++ (c ++ (d ++ (e ++ (f ++ (g ++ (h ++ last))))))))
+last-part a b c d e f g h last =
+    let l = length-append h last in
+    let m = length-append g (h ++ last) in
+    let n = length-append f (g ++ (h ++ last)) in
+    let o = length-append e (f ++ (g ++ (h ++ last))) in
+    let p = length-append d (e ++ (f ++ (g ++ (h ++ last)))) in
+    let q = length-append c (d ++ (e ++ (f ++ (g ++ (h ++ last))))) in
+    let r = length-append b (c ++ (d ++ (e ++ (f ++ (g ++ (h ++ last)))))) in
+    let s = length-append a (b ++ (c ++ (d ++ (e ++ (f ++ (g ++ (h ++ last))))))) in
+    omega (arith, l, m, n, o, p, q, r, s)
+
+-- the code, the blocks and the marks are the last parts of the file
+code-within : (i : ImageParts) → length (i.code ++ (flat_map block_bytes i.blocks ++ flat_map mark_bytes i.marks)) ≤ length (FileOf i)
 unfolding FileOf
-file-parts i = simp append_assoc refl
+code-within i = last-part (numbers (header i)) (flat_map sig_bytes i.sigs) (flat_map function_bytes i.functions) (numbers i.entries)
+    (flat_map class_bytes i.classes) (flat_map kind_bytes i.kinds) (flat_map field_bytes i.statics) (flat_map array_bytes i.arrays)
+    (i.code ++ (flat_map block_bytes i.blocks ++ flat_map mark_bytes i.marks))
 
 pub file-length : (i : ImageParts) → length (FileOf i) ≡ code_byte i + (length i.code + (length (flat_map block_bytes i.blocks) + 12 * length i.marks))
 unfolding code_byte
 file-length i =
     let behind = length-append (flat_map block_bytes i.blocks) (flat_map mark_bytes i.marks) in
     let code = length-append i.code (flat_map block_bytes i.blocks ++ flat_map mark_bytes i.marks) in
-    let all = ap length (file-parts i) ∙ length-append (bytes_before_code i) (i.code ++ (flat_map block_bytes i.blocks ++ flat_map mark_bytes i.marks)) in
-    omega (arith, behind, code, all, marks-length i.marks)
+    omega (arith, behind, code, code-within i, marks-length i.marks)

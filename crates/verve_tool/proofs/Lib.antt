@@ -1,7 +1,7 @@
-pub mod CodePlace
 pub mod CauseLists
 pub mod FilesRead
 pub mod Endings
 pub mod Exact
-pub mod Complaints
 pub mod WordLemmas
+pub mod Complaints
+pub mod CodePlace

@@ -18,22 +18,20 @@ no_err r x e ok err = ok_or_err x e (sym ok ∙ err)
 pub same_ok : {E : Type 0} (r : Result ℕ E) (x y : ℕ) → r ≡ Ok x → r ≡ Ok y → x ≡ y
 same_ok r x y a b = cc
 
--- four words are the list of them
-pub four_words : (words : List (String Global)) (a b c d : String Global) → length words ≡ 4
-    → a ≡ get_or words 0 a → b ≡ get_or words 1 b → c ≡ get_or words 2 c → d ≡ get_or words 3 d → words ≡ a ∷ b ∷ c ∷ d ∷ []
-four_words [] a b c d len h0 h1 h2 h3 = let bad : ⊥ = omega arith in absurd bad
-four_words (w ∷ []) a b c d len h0 h1 h2 h3 = let bad : ⊥ = omega arith in absurd bad
-four_words (w ∷ x ∷ []) a b c d len h0 h1 h2 h3 = let bad : ⊥ = omega arith in absurd bad
-four_words (w ∷ x ∷ y ∷ []) a b c d len h0 h1 h2 h3 = let bad : ⊥ = omega arith in absurd bad
-four_words (w ∷ x ∷ y ∷ z ∷ []) a b c d len h0 h1 h2 h3 = cc
-four_words (w ∷ x ∷ y ∷ z ∷ v ∷ rest) a b c d len h0 h1 h2 h3 = let bad : ⊥ = omega arith in absurd bad
+-- one word is the list of it
+pub one_word : (words : List (String Global)) (a : String Global) → length words ≡ 1 → a ≡ get_or words 0 a → words ≡ a ∷ []
+one_word [] a len h0 = let bad : ⊥ = omega arith in absurd bad
+one_word (w ∷ []) a len h0 = cc
+one_word (w ∷ x ∷ rest) a len h0 = let bad : ⊥ = omega arith in absurd bad
 
--- two words are the list of them
-pub two_words : (words : List (String Global)) (a b : String Global) → length words ≡ 2 → a ≡ get_or words 0 a → b ≡ get_or words 1 b → words ≡ a ∷ b ∷ []
-two_words [] a b len h0 h1 = let bad : ⊥ = omega arith in absurd bad
-two_words (w ∷ []) a b len h0 h1 = let bad : ⊥ = omega arith in absurd bad
-two_words (w ∷ x ∷ []) a b len h0 h1 = cc
-two_words (w ∷ x ∷ y ∷ rest) a b len h0 h1 = let bad : ⊥ = omega arith in absurd bad
+-- three words are the list of them
+pub three_words : (words : List (String Global)) (a b c : String Global) → length words ≡ 3
+    → a ≡ get_or words 0 a → b ≡ get_or words 1 b → c ≡ get_or words 2 c → words ≡ a ∷ b ∷ c ∷ []
+three_words [] a b c len h0 h1 h2 = let bad : ⊥ = omega arith in absurd bad
+three_words (w ∷ []) a b c len h0 h1 h2 = let bad : ⊥ = omega arith in absurd bad
+three_words (w ∷ x ∷ []) a b c len h0 h1 h2 = let bad : ⊥ = omega arith in absurd bad
+three_words (w ∷ x ∷ y ∷ []) a b c len h0 h1 h2 = cc
+three_words (w ∷ x ∷ y ∷ z ∷ rest) a b c len h0 h1 h2 = let bad : ⊥ = omega arith in absurd bad
 
 -- a text without length has no bytes
 pub no_bytes : (xs : List ℕ) → length xs ≡ 0 → xs ≡ []

@@ -1,11 +1,11 @@
 -- Why the files of a command stop it: the causes, which come in an order, and of which the first that holds decides.
-use Rattle.std.specs.Prelude.{◌≡◌, ◌≢◌, ◌⊎◌, ◌<◌, ◌≤◌, ℕ, ◌+◌, List, [], ◌∷◌, ◌++◌, length, Option, Some, None}
+use Rattle.std.specs.Prelude.{◌≡◌, ◌≢◌, ◌⊎◌, ◌<◌, ◌≤◌, ℕ, ◌+◌, ◌-◌, List, [], ◌∷◌, ◌++◌, length, Option, Some, None}
 use Rattle.std.specs.List.{flat_map}
 use Rattle.outside.specs.FileMaps.{FileMap, Gives, Lacks}
 use Rattle.device_model.specs.EventFile.{IsFirstFault}
 use Rattle.device_model.specs.declared.events.EventFault.{EventFault}
 use Rattle.device_model.specs.declared.events.EventFault.TheVariants as event_fault
-use Rattle.tal_image.specs.Image.{ImageParts, numbers, header, sig_bytes, function_bytes, class_bytes, kind_bytes, field_bytes, array_bytes}
+use Rattle.tal_image.specs.Image.{ImageParts, FileOf, block_bytes, mark_bytes}
 use Rattle.tal_image.specs.Formed.{ImageOf}
 use Rattle.tal_image.specs.Fields.{FirstFault}
 use Rattle.file_fields.specs.declared.fault.ImageFault.{ImageFault}
@@ -63,21 +63,9 @@ pub record IsIllTyped (told : Option FileMap) (name : List ℕ) (address rule : 
   pub held : HoldsImage told name image
   pub refusal : FirstRefusal image address rule
 
--- the bytes of an image's file that stand before the code: the header, and the tables up to the data arrays
-abbrev pub bytes_before_code : ImageParts → List ℕ
-bytes_before_code i =
-    numbers (header i)
-    ++ (flat_map sig_bytes i.sigs
-    ++ (flat_map function_bytes i.functions
-    ++ (numbers i.entries
-    ++ (flat_map class_bytes i.classes
-    ++ (flat_map kind_bytes i.kinds
-    ++ (flat_map field_bytes i.statics
-    ++ flat_map array_bytes i.arrays))))))
-
--- the byte of the file at which the code begins
+-- the byte of an image's file at which the code begins: the code, the blocks and the marks are the last of its parts
 unfoldable pub code_byte : ImageParts → ℕ
-code_byte i = length (bytes_before_code i)
+code_byte i = length (FileOf i) - length (i.code ++ (flat_map block_bytes i.blocks ++ flat_map mark_bytes i.marks))
 
 -- a well typed image does, and at this byte of the file its first CALL of an entry that is not built begins, so far behind the code's begin
 pub record IsUnbuilt (told : Option FileMap) (name : List ℕ) (at : ℕ) : Type 0 where

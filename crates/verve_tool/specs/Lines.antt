@@ -1,16 +1,14 @@
--- The line on the error stream that tells what went wrong, and what a check prints.
+-- The line on the error stream that tells what went wrong.
 use Rattle.std.specs.Prelude.{◌≤◌, ℕ, List, ◌++◌, Option, codes, decimal}
 use Rattle.outside.specs.Faults.{Quiet}
 use Rattle.outside.specs.Sinks.{Gained, GainedFront}
 use Rattle.device_model.specs.declared.events.EventFault.{EventFault}
 use Rattle.device_model.specs.declared.events.EventFault.TheVariants as event_fault
 use Rattle.hex_text.specs.Words.{word_text}
+use Rattle.tal_checker.specs.declared.answer.CheckAnswer.{CheckAnswer}
+use Rattle.tal_checker.specs.declared.answer.CheckAnswer.TheVariants as answer
 use Rattle.file_fields.specs.declared.fault.ImageFault.{ImageFault}
 use Rattle.file_fields.specs.declared.fault.ImageFault.TheVariants as fault
-
--- the image is accepted
-abbrev pub accepted_text : List ℕ
-accepted_text = codes "accepted\n"
 
 -- the words are no command
 abbrev pub usage_line : List ℕ
@@ -67,6 +65,11 @@ event_fault_line event_fault.NoMemory = no_memory_line
 -- the first address at which a rule fails, and the least rule failing there
 abbrev pub refused_line : ℕ → ℕ → List ℕ
 refused_line address rule = codes "refused at " ++ word_text address ++ codes " rule " ++ decimal rule ++ codes "\n"
+
+-- the line of an image that is not accepted
+abbrev pub answer_line : CheckAnswer → List ℕ
+answer_line (answer.Refused address rule) = refused_line address rule
+answer_line answer.NoMemory = no_memory_line
 
 -- A stream gained a front of this text, and all of it where it did not fail. The counts are those of its failures, before and after.
 pub record Says (faults faults_after : ℕ) (told told_after : Option (List ℕ)) (text : List ℕ) : Type 0 where

@@ -1,39 +1,104 @@
--- What a run of a command did: the machine that is kept, the typed machine's run that it stands for, and its report.
-use Rattle.std.specs.Prelude.{◌≡◌, ◌≤◌, ◌⊎◌, ℕ, List, Some, IsSome}
+-- `run IMAGE EVENTS TURNS` and `journal IMAGE EVENTS TURNS`: the machine that is kept, the typed machine's run that it stands for, and
+-- what is told of it.
+use Rattle.std.specs.Prelude.{◌≡◌, ◌≢◌, ◌≤◌, ◌⊎◌, ℕ, List, [], ◌∷◌, ◌++◌, codes, decimal, Option, Some, None, IsSome}
+use Rattle.outside.specs.FileMaps.{FileMap}
+use Rattle.device_model.specs.EventFile.{EventsOf}
+use Rattle.device_model.specs.declared.events.Event.{Event}
+use Rattle.tal_image.specs.Image.{ImageParts}
 use Rattle.typed_machine.specs.Turns.{Run as RunView}
 use Rattle.run_report.specs.Shown.{shown_of}
-use Rattle.kernel_machine.specs.Machine.{MachineView, Follows, end_of}
 use Rattle.run_report.specs.Report.{ReportText}
+use Rattle.run_report.specs.JournalLines.{JournalText}
 use Rattle.run_report.specs.declared.run_end.RunEnd.{RunEnd}
 use Rattle.run_report.specs.declared.run_end.RunEnd.TheVariants as end
+use Rattle.kernel_machine.specs.Built.{IsBuilt}
+use Rattle.kernel_machine.specs.Machine.{MachineView, Follows, end_of}
+use Rattle.kernel_machine.specs.declared.running.TheConstants.{MOST_TURNS}
+use Rattle.verve_tool.specs.Causes.{Cause, Missing, Long, Malformed, IllTyped, Unbuilt, BadEvents, FileRead, TypedImage}
+use Rattle.stack_states.specs.declared.journal_entry.Entry.{Entry}
+use Rattle.verve_tool.specs.Seen.{Call}
+use Rattle.verve_tool.specs.Forms.{Form, Unrun}
+use Rattle.verve_tool.specs.declared.load.TheConstants.{IMAGE_MOST, EVENTS_MOST}
+use Rattle.verve_tool.specs.declared.journals.TheConstants.{JOURNAL_TURNS}
 use Rattle.verve_tool.specs.declared.status.Status.{Status}
 use Rattle.verve_tool.specs.declared.status.Status.TheVariants.{Done, KernelFault}
-use Rattle.verve_tool.specs.Commands.{RunWords, Loaded}
-use Rattle.verve_tool.specs.Seen.{Call}
+
+-- the names of the two files, and how many turns at most
+pub record RunWords : Type 0 where
+  pub image : List ℕ
+  pub events : List ℕ
+  pub turns : ℕ
+
+-- No name is empty, and the turns are 1 to so many.
+pub record AllowsRun (most : ℕ) (run : RunWords) : Type 0 where
+  pub image_named : run.image ≢ []
+  pub events_named : run.events ≢ []
+  pub some_turns : 1 ≤ run.turns
+  pub not_too_many : run.turns ≤ most
+
+-- what can stop a run by its files, in this order
+abbrev pub run_causes : RunWords → List Cause
+run_causes run =
+    Missing run.image ∷ Long run.image IMAGE_MOST ∷ Missing run.events ∷ Long run.events EVENTS_MOST
+    ∷ Malformed run.image ∷ IllTyped run.image ∷ Unbuilt run.image ∷ BadEvents run.events ∷ []
+
+-- a list of events stands for the file
+pub record HoldsEvents (told : Option FileMap) (name : List ℕ) (events : List Event) : Type 0 where
+  pub bytes : List ℕ
+  pub file : FileRead told name EVENTS_MOST bytes
+  pub list : EventsOf bytes events
+
+-- the files of a run: a well typed image whose calls of the Nucleus are built, and a list of events
+pub record Loaded (told : Option FileMap) (run : RunWords) (image : ImageParts) (events : List Event) : Type 0 where
+  pub typed : TypedImage told run.image image
+  pub built : IsBuilt image
+  pub recorded : HoldsEvents told run.events events
 
 -- The machine that is kept has run the image of the files, which is well typed and whose calls are built, over the events of the
 -- files and for at most the turns that were asked for. The run is legal, the machine stands for its state, and its journal is the
 -- call's.
-pub record RanWithin (c : Call) (run : RunWords) : Type 0 where
+pub record RanWithin (run : RunWords) (told : Option FileMap) (kept : Option MachineView) (entries : List Entry) : Type 0 where
   pub machine : MachineView
-  pub is : c.kept ≡ Some machine
-  pub loaded : Loaded c.files.told run machine.image machine.events
-  pub follows : Follows machine c.entries
+  pub is : kept ≡ Some machine
+  pub loaded : Loaded told run machine.image machine.events
+  pub follows : Follows machine entries
   pub within : machine.turns ≤ run.turns
 
 -- a machine took all of these turns, or its run ended
 abbrev pub IsOver : ℕ → MachineView → Type 0
 IsOver turns machine = (machine.turns ≡ turns) ⊎ IsSome machine.ending
 
--- the run of the typed machine that the kept machine stands for
-abbrev pub typed_run : (c : Call) (run : RunWords) → RanWithin c run → RunView
-typed_run c run ran = ran.follows.run
-
--- the report of the typed machine's run
-abbrev pub text_of : RunView → List ℕ
-text_of run = ReportText (shown_of run.state) (end_of run.state.ending) run.state.turns
-
--- the status of a run that came to this end, where its report is written
+-- the status of a run that came to this end, where its text is written
 abbrev pub status_at : RunEnd → Status
 status_at (end.KernelFault vector) = KernelFault
 status_at e = Done
+
+-- a run was made, and this is told of the typed machine's run, for which the kept machine stands
+abbrev pub Ran : (RunView → List ℕ) → RunWords → Call → Status → List ℕ → Type 0
+Ran tells run c s text = (ran : RanWithin run c.files.told c.kept c.entries) × IsOver run.turns ran.machine
+    × (s ≡ status_at (end_of ran.follows.run.state.ending)) × (text ≡ tells ran.follows.run)
+
+-- a command of this word and so many turns at most that runs an image and tells this of the run
+abbrev pub running : List ℕ → ℕ → (RunView → List ℕ) → RunWords → Form
+running word most tells run = record {
+  words = word ∷ run.image ∷ run.events ∷ decimal run.turns ∷ [];
+  Allowed = AllowsRun most run;
+  causes = run_causes run;
+  writes = None;
+  Did = Ran tells run;
+  MayHaveRun = λ c. Unrun c ⊎ RanWithin run c.files.told c.kept c.entries;
+}
+
+-- the report of the typed machine's run
+abbrev pub report_of : RunView → List ℕ
+report_of run = ReportText (shown_of run.state) (end_of run.state.ending) run.state.turns
+
+-- its report, and the entries of its journal behind the line `journal`
+abbrev pub journal_of : RunView → List ℕ
+journal_of run = report_of run ++ codes "journal\n" ++ JournalText run.entries
+
+abbrev pub a_run : RunWords → Form
+a_run = running (codes "run") MOST_TURNS report_of
+
+abbrev pub a_journal : RunWords → Form
+a_journal = running (codes "journal") JOURNAL_TURNS journal_of

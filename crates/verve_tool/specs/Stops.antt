@@ -1,23 +1,20 @@
 -- What stops a command in the code, with its status and its line, and what the code reads from the words.
-use Rattle.std.specs.Prelude.{◌≡◌, ℕ, List, [], true, Option, None, Result, Ok, Err}
-use Rattle.std.specs.Borrow.{Bor}
+use Rattle.std.specs.Prelude.{◌≡◌, ◌≤◌, ◌<◌, ◌⊎◌, ℕ, List, [], true, Option, Result, Ok, Err}
 use Rattle.outside.specs.FileMaps.{FileMap, Lacks}
 use Rattle.outside.specs.Faults.{Faulted}
 use Rattle.outside.specs.Sinks.{Gained, GainedFront}
-use Rattle.device_model.specs.declared.events.EventFault.{EventFault}
 use Rattle.device_model.specs.declared.events.EventFault.TheVariants as event_fault
-use Rattle.kernel_machine.specs.Machine.{MachineView, shown_by, end_of}
-use Rattle.run_report.specs.Report.{ReportText}
-use Rattle.run_report.specs.declared.run_end.RunEnd.{RunEnd}
-use Rattle.file_fields.specs.declared.fault.ImageFault.{ImageFault}
 use Rattle.file_fields.specs.declared.fault.ImageFault.TheVariants as fault
-use Rattle.tal_checker.specs.declared.answer.CheckAnswer.{CheckAnswer}
 use Rattle.tal_checker.specs.declared.answer.CheckAnswer.TheVariants as answer
-use Rattle.verve_tool.specs.Commands.{RunWords, Request, Run, Check, Listing}
-use Rattle.verve_tool.specs.Lines.{usage_line, read_line, write_line, long_line, no_memory_line, not_built_line, fault_line, event_fault_line, refused_line}
+use Rattle.stack_states.specs.declared.journal_entry.Entry.{Entry}
+use Rattle.run_report.specs.declared.run_end.RunEnd.{RunEnd}
+use Rattle.run_report.specs.declared.run_end.RunEnd.TheVariants as run_end
+use Rattle.kernel_machine.specs.Machine.{MachineView, end_of}
+use Rattle.verve_tool.specs.Runs.{RunWords, RanWithin}
+use Rattle.verve_tool.specs.Commands.{Request, Check, Listing, Run, Journal, form_of}
+use Rattle.verve_tool.specs.Lines.{usage_line, read_line, write_line, long_line, no_memory_line, not_built_line, fault_line, event_fault_line, answer_line}
 use Rattle.verve_tool.specs.Causes.{Cause, Missing, ComesTo, IsFirst, status_of as status_of_cause}
 use Rattle.verve_tool.specs.Seen.{FilesSeen, SinkSeen, Call, Leaves}
-use Rattle.verve_tool.specs.Runs.{status_at}
 use Rattle.verve_tool.specs.Outcome.{Ends}
 use Rattle.verve_tool.specs.declared.words.RunCommand.{RunCommand}
 use Rattle.verve_tool.specs.declared.words.Command.{Command}
@@ -25,7 +22,7 @@ use Rattle.verve_tool.specs.declared.words.Command.TheVariants as command
 use Rattle.verve_tool.specs.declared.status.Status.{Status}
 use Rattle.verve_tool.specs.declared.status.Status.TheVariants as status
 use Rattle.verve_tool.specs.declared.stop.Stop.{Stop}
-use Rattle.verve_tool.specs.declared.stop.Stop.TheVariants.{Usage, Read, Write, Long, Image, Refused, NucleusCall, Events, NoMemory}
+use Rattle.verve_tool.specs.declared.stop.Stop.TheVariants.{Usage, Read, Write, Long, Image, NotAccepted, NucleusCall, Events, NoMemory}
 
 -- the run that a command asks for
 abbrev pub run_of : RunCommand → RunWords
@@ -33,19 +30,10 @@ run_of run = record { image = run.image.now; events = run.events.now; turns = ru
 
 -- what a command asks for
 abbrev pub request_of : Command → Request
-request_of (command.Run run) = Run (run_of run)
 request_of (command.Check image) = Check image.now
 request_of (command.List image) = Listing image.now
-
--- the status of an image file's fault
-abbrev pub fault_status : ImageFault → Status
-fault_status fault.NoMemory = status.NoMemory
-fault_status f = status.Malformed
-
--- the status of an event file's fault
-abbrev pub event_fault_status : EventFault → Status
-event_fault_status event_fault.NoMemory = status.NoMemory
-event_fault_status f = status.Events
+request_of (command.Run run) = Run (run_of run)
+request_of (command.Journal run) = Journal (run_of run)
 
 -- the status of a command that stopped
 abbrev pub status_of : Stop → Status
@@ -53,10 +41,13 @@ status_of Usage = status.Usage
 status_of (Read name) = status.ReadFault
 status_of Write = status.WriteFault
 status_of (Long name) = status.TooLong
-status_of (Image name f) = fault_status f
-status_of (Refused address rule) = status.Refused
+status_of (Image name fault.NoMemory) = status.NoMemory
+status_of (Image name f) = status.Malformed
+status_of (NotAccepted answer.NoMemory) = status.NoMemory
+status_of (NotAccepted a) = status.Refused
 status_of (NucleusCall name at) = status.NotBuilt
-status_of (Events f) = event_fault_status f
+status_of (Events event_fault.NoMemory) = status.NoMemory
+status_of (Events f) = status.Events
 status_of NoMemory = status.NoMemory
 
 -- its line on the error stream
@@ -66,25 +57,15 @@ line_of (Read name) = read_line name.now
 line_of Write = write_line
 line_of (Long name) = long_line name.now
 line_of (Image name f) = fault_line name.now f
-line_of (Refused address rule) = refused_line address rule
+line_of (NotAccepted a) = answer_line a
 line_of (NucleusCall name at) = not_built_line name.now at
 line_of (Events f) = event_fault_line f
 line_of NoMemory = no_memory_line
 
--- what stops a command whose image file has this fault
-abbrev pub stop_of_fault : Bor (List ℕ) → ImageFault → Stop
-stop_of_fault name fault.NoMemory = NoMemory
-stop_of_fault name f = Image name f
-
--- what stops a run whose event file has this fault
-abbrev pub stop_of_event_fault : EventFault → Stop
-stop_of_event_fault event_fault.NoMemory = NoMemory
-stop_of_event_fault f = Events f
-
--- what stops a command whose image is not accepted
-abbrev pub stop_of_answer : CheckAnswer → Stop
-stop_of_answer (answer.Refused address rule) = Refused address rule
-stop_of_answer answer.NoMemory = NoMemory
+-- memory was wanting
+pub record IsWant (s : Stop) : Type 0 where
+  pub status : status_of s ≡ status.NoMemory
+  pub line : line_of s ≡ no_memory_line
 
 -- a file was not read
 abbrev pub IsUnread : Stop → Type 0
@@ -97,13 +78,10 @@ pub record TellsFirst (told : Option FileMap) (causes : List Cause) (s : Stop) :
   pub first : IsFirst told causes cause (line_of s)
   pub status : status_of s ≡ status_of_cause cause
 
--- why bytes that were read stop a command with these causes: the first that holds, or want of memory, which tells nothing of them
+-- why bytes that were read stop a command with these causes: want of memory, which tells nothing of them, or the first that holds
 abbrev pub StopsBy : Option FileMap → List Cause → Stop → Type 0
-StopsBy told causes NoMemory = Unit {0}
-StopsBy told causes Usage = ⊥
 StopsBy told causes (Read name) = ⊥
-StopsBy told causes Write = ⊥
-StopsBy told causes s = TellsFirst told causes s
+StopsBy told causes s = IsWant s ⊎ TellsFirst told causes s
 
 -- why the files of a command with these causes stop it: a read of a file to which it comes failed, or what was read does
 abbrev pub StopsAt : FilesSeen → FilesSeen → List Cause → Stop → Type 0
@@ -111,14 +89,17 @@ StopsAt before after causes (Read name) =
     ComesTo before.told causes (Missing name.now) × Faulted before.read_faults after.read_faults × (before.steady ≡ true → Lacks before.told name.now)
 StopsAt before after causes s = StopsBy before.told causes s
 
--- what was told of a machine after a run that answered this: its report, or why not
-abbrev pub Tells : SinkSeen → SinkSeen → MachineView → RunEnd → Result Status Stop → Type 0
-Tells before after machine end (Ok s) = (end ≡ end_of machine.ending) × (s ≡ status_at end)
-    × Gained before.told after.told (ReportText (shown_by machine) end machine.turns)
-Tells before after machine end (Err Write) = (end ≡ end_of machine.ending) × Faulted before.faults after.faults
-    × GainedFront before.told after.told (ReportText (shown_by machine) end machine.turns)
-Tells before after machine end (Err NoMemory) = after.told ≡ before.told
-Tells before after machine end (Err _) = ⊥
+-- a run was made by a command that ended so, unless memory was wanting
+pub record Made (run : RunWords) (told : Option FileMap) (kept : Option MachineView) (entries : List Entry) (end : RunEnd) : Type 0 where
+  pub ran : RanWithin run told kept entries
+  pub answer : (end ≡ run_end.NoMemory) ⊎ (end ≡ end_of ran.machine.ending)
+  pub all : end ≡ run_end.Turns → ran.machine.turns ≡ run.turns
+
+-- a text was put after which a command has this status, or it was not put whole
+abbrev pub IsPut : SinkSeen → SinkSeen → List ℕ → Status → Result Status Stop → Type 0
+IsPut before after text whole (Ok s) = Gained before.told after.told text × (s ≡ whole)
+IsPut before after text whole (Err Write) = Faulted before.faults after.faults × GainedFront before.told after.told text
+IsPut before after text whole (Err _) = ⊥
 
 -- the status and the line of what a command answers
 abbrev pub told_status : Result Status Stop → Status
@@ -129,7 +110,7 @@ abbrev pub told_line : Result Status Stop → List ℕ
 told_line (Ok s) = []
 told_line (Err stop) = line_of stop
 
--- a command ended so, and left no more than a command may that writes no file
+-- a command ended so, and left no more than it may
 pub record Acted (request : Request) (c : Call) (result : Result Status Stop) : Type 0 where
-  pub ends : Ends c request (told_status result) (told_line result)
-  pub leaves : Leaves None c (told_status result)
+  pub ends : Ends c (form_of request) (told_status result) (told_line result)
+  pub leaves : Leaves (form_of request).writes c (told_status result)

@@ -5,6 +5,7 @@ ghost use Rattle.verve_tool.specs.Seen.{call_of};
 ghost use Rattle.verve_tool.specs.Stops.{Acted};
 
 use crate::load::load_image;
+use crate::putting::put_text;
 use crate::status::Status;
 use crate::stop::Stop;
 use outside::{Files, Sink};
@@ -21,6 +22,5 @@ pub(crate) fn act_check<'a, F: Files, K: Sink>(
         files.old files.new out.old out.new [] None) result }
 {
     load_image(alloc, files, image)?;
-    out.put(b"accepted\n")?;
-    Ok(Status::Done)
+    put_text(out, b"accepted\n", Status::Done)
 }

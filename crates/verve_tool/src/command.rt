@@ -3,16 +3,18 @@ ghost use Rattle.std.specs.Prelude.{◌≡◌, ◌⊎◌, ℕ, List, Some, None}
 ghost use Rattle.outside.specs.FileMaps.{FileMap};
 ghost use Rattle.outside.specs.Faults.{Quiet};
 ghost use Rattle.tal_image.specs.Image.{ImageParts};
-ghost use Rattle.verve_tool.specs.Commands.{Request, Check, WordsOf, NoCommand, causes, MayEnd};
-ghost use Rattle.verve_tool.specs.Lines.{Says};
 ghost use Rattle.verve_tool.specs.Causes.{Cause, Missing, TypedImage, IsFirst, NoneHolds, status_of};
+ghost use Rattle.verve_tool.specs.Commands.{Request, Check, form_of, WordsOf, NoCommand};
+ghost use Rattle.verve_tool.specs.Forms.{WritesQuietly};
+ghost use Rattle.verve_tool.specs.Lines.{Says};
+ghost use Rattle.verve_tool.specs.Outcome.{Outcome, IsWorked};
 ghost use Rattle.verve_tool.specs.Seen.{call_of, Leaves};
-ghost use Rattle.verve_tool.specs.Outcome.{Outcome};
 ghost use Rattle.verve_tool.specs.Stops.{told_status, told_line};
 ghost use Rattle.verve_tool.specs.declared.status.Status.{Status};
 
 use crate::checks::act_check;
 use crate::complaint::complain;
+use crate::journals::act_journal;
 use crate::laws::{nothing_stops, one_cause};
 use crate::listings::act_list;
 use crate::runs::act_run;
@@ -33,10 +35,8 @@ fn act<'a, F: Files, K: Sink>(
     journal: &mut Journal,
     kept: &mut Option<Machine>,
 ) -> Result<Status, Stop<'a>>
-    ensures outcome { Outcome words.now (call_of F.told F.steady F.read_faults F.write_faults K.told K.faults
+    ensures { Outcome words.now (call_of F.told F.steady F.read_faults F.write_faults K.told K.faults
         files.old files.new out.old out.new journal.new.entries kept.new) (told_status result) (told_line result) }
-    ensures leaves { Leaves None (call_of F.told F.steady F.read_faults F.write_faults K.told K.faults
-        files.old files.new out.old out.new journal.new.entries kept.new) (told_status result) }
 {
     journal.clear();
     *kept = None;
@@ -44,15 +44,33 @@ fn act<'a, F: Files, K: Sink>(
         return Err(Stop::Usage);
     };
     match command {
-        Command::Run(run) => act_run(alloc, run, files, out, journal, kept),
         Command::Check(image) => act_check(alloc, image, files, out),
         Command::List(image) => act_list(alloc, image, files, out),
+        Command::Run(run) => act_run(alloc, run, files, out, journal, kept),
+        Command::Journal(run) => act_journal(alloc, run, files, out, journal, kept),
+    }
+}
+
+// The status of what a command answers. What stopped it goes to `err` as one line.
+fn tell<E: Sink>(err: &mut E, answer: Result<Status, Stop<'_>>) -> Status
+    ensures status { result ≡ told_status answer.entry }
+    ensures line { Says (E.faults err.old) (E.faults err.new) (E.told err.old) (E.told err.new) (told_line answer.entry) }
+    ensures silent { (result ≡ Status.Done) ⊎ (result ≡ Status.KernelFault)
+        → (E.told err.new ≡ E.told err.old) × (E.faults err.new ≡ E.faults err.old) }
+{
+    match answer {
+        Ok(status) => status,
+        Err(stop) => {
+            complain(err, &stop);
+            stop.status()
+        }
     }
 }
 
 /// Does what the words of a command line, without the program's own name, say: `run IMAGE EVENTS TURNS` runs the image of
 /// one file over the events of another for so many turns at most, from 1 to [`kernel_machine::MOST_TURNS`], and puts the
-/// report into `out` in one piece; `check IMAGE` puts `accepted` into `out` where the image of a file is well typed;
+/// report into `out` in one piece; `journal IMAGE EVENTS TURNS` does so for at most 5000000 turns, and puts the entries of the
+/// run's journal behind the report; `check IMAGE` puts `accepted` into `out` where the image of a file is well typed;
 /// `list IMAGE` puts the listing of a file's image into `out` in one piece, well typed or not. An image file has at most
 /// 4 MiB, an event file 32 MiB.
 ///
@@ -76,29 +94,29 @@ pub fn verve<F: Files, K: Sink, E: Sink>(
     // When each status comes. Want of memory may come in place of each but Usage.
     ensures usage { NoCommand words.now → result ≡ Status.Usage }
     ensures missing { (map : FileMap) (request : Request) (name line : List ℕ) → F.told files.old ≡ Some map → WordsOf words.now request
-        → IsFirst (Some map) (causes request) (Missing name) line → (result ≡ Status.ReadFault) ⊎ (result ≡ Status.NoMemory) }
+        → IsFirst (Some map) (form_of request).causes (Missing name) line → (result ≡ Status.ReadFault) ⊎ (result ≡ Status.NoMemory) }
     ensures stopped { (map : FileMap) (request : Request) (cause : Cause) (line : List ℕ) → F.told files.old ≡ Some map → WordsOf words.now request
-        → Quiet (F.read_faults files.old) (F.read_faults files.new) → IsFirst (Some map) (causes request) cause line
+        → Quiet (F.read_faults files.old) (F.read_faults files.new) → IsFirst (Some map) (form_of request).causes cause line
         → (result ≡ status_of cause) ⊎ (result ≡ Status.NoMemory) }
     ensures complete { (map : FileMap) (request : Request) → F.told files.old ≡ Some map → WordsOf words.now request
-        → Quiet (F.read_faults files.old) (F.read_faults files.new) → Quiet (K.faults out.old) (K.faults out.new) → NoneHolds (Some map) (causes request)
-        → MayEnd request result ⊎ (result ≡ Status.NoMemory) }
+        → Quiet (F.read_faults files.old) (F.read_faults files.new) → NoneHolds (Some map) (form_of request).causes
+        → let call = call_of F.told F.steady F.read_faults F.write_faults K.told K.faults
+        files.old files.new out.old out.new journal.new.entries kept.new in
+        WritesQuietly (form_of request).writes call → IsWorked call request result ⊎ (result ≡ Status.NoMemory) }
     ensures accepted { (map : FileMap) (name : List ℕ) → F.told files.old ≡ Some map → WordsOf words.now (Check name) → result ≡ Status.Done
         → (image : ImageParts) × TypedImage (Some map) name image }
 
-    // What stays. No command that is built writes a file.
-    ensures leaves { Leaves None (call_of F.told F.steady F.read_faults F.write_faults K.told K.faults
+    // What stays: a command may write the file that it names to be written, and words that are no command write none.
+    ensures leaves { (request : Request) → WordsOf words.now request
+        → Leaves (form_of request).writes (call_of F.told F.steady F.read_faults F.write_faults K.told K.faults
+        files.old files.new out.old out.new journal.new.entries kept.new) result }
+    ensures untouched { NoCommand words.now → Leaves None (call_of F.told F.steady F.read_faults F.write_faults K.told K.faults
         files.old files.new out.old out.new journal.new.entries kept.new) result }
     ensures silent { (result ≡ Status.Done) ⊎ (result ≡ Status.KernelFault)
         → (E.told err.new ≡ E.told err.old) × (E.faults err.new ≡ E.faults err.old) }
 {
     one_cause();
     nothing_stops();
-    match act(alloc, words, files, out, journal, kept) {
-        Ok(status) => status,
-        Err(stop) => {
-            complain(err, &stop);
-            stop.status()
-        }
-    }
+    let answer = act(alloc, words, files, out, journal, kept);
+    tell(err, answer)
 }

@@ -4,7 +4,7 @@ ghost use Rattle.std.specs.List.{flat_map};
 ghost use Rattle.device_model.specs.declared.events.EventFault.{EventFault};
 ghost use Rattle.hex_text.specs.Words.{word_text};
 ghost use Rattle.file_fields.specs.declared.fault.ImageFault.{ImageFault};
-ghost use Rattle.verve_tool.specs.Lines.{Says, file_line, bad_line, not_built_line, fault_line, events_line, event_fault_line, refused_line};
+ghost use Rattle.verve_tool.specs.Lines.{Says, file_line, bad_line, not_built_line, fault_line, events_line, event_fault_line, refused_line, answer_line};
 ghost use Rattle.verve_tool.specs.Stops.{line_of};
 
 use crate::stop::Stop;
@@ -12,6 +12,7 @@ use device_model::EventFault;
 use hex_text::word_digits;
 use itoa::Buffer;
 use outside::Sink;
+use tal_checker::CheckAnswer;
 use tal_image::ImageFault;
 
 // Puts these pieces, up to the first that is not taken: so the stream has a front of them, and no later piece behind a gap.
@@ -123,6 +124,15 @@ fn say_refused<E: Sink>(err: &mut E, address: u32, rule: u8)
     );
 }
 
+fn say_answer<E: Sink>(err: &mut E, answer: CheckAnswer)
+    ensures { Says (E.faults err.old) (E.faults err.new) (E.told err.old) (E.told err.new) (answer_line answer) }
+{
+    match answer {
+        CheckAnswer::Refused { address, rule } => say_refused(err, address, rule),
+        CheckAnswer::NoMemory => say(err, &[b"no memory\n"]),
+    }
+}
+
 // Puts the line that tells why the command stopped. A failure of the stream changes nothing else.
 pub(crate) fn complain<E: Sink>(err: &mut E, stop: &Stop<'_>)
     ensures { Says (E.faults err.old) (E.faults err.new) (E.told err.old) (E.told err.new) (line_of stop.now) }
@@ -133,7 +143,7 @@ pub(crate) fn complain<E: Sink>(err: &mut E, stop: &Stop<'_>)
         Stop::Write => say(err, &[b"write\n"]),
         Stop::Long(name) => say(err, &[b"long ", name.as_bytes(), b"\n"]),
         Stop::Image(name, fault) => say_fault(err, name, fault),
-        Stop::Refused { address, rule } => say_refused(err, address, rule),
+        Stop::NotAccepted(answer) => say_answer(err, answer),
         Stop::NucleusCall { name, at } => say_not_built(err, name, at),
         Stop::Events(fault) => say_event_fault(err, fault),
         Stop::NoMemory => say(err, &[b"no memory\n"]),

@@ -13,7 +13,7 @@ pub fn one_cause()
     ensures { (files : FileMap) (causes : List Cause) → OneCause files causes }
 {}
 
-/// No cause holds of files over which a command does its work.
+/// A command that did its work over its files had no cause to stop.
 pub fn nothing_stops()
     ensures { NothingStops }
 {

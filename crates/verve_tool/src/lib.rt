@@ -1,26 +1,28 @@
 // The tool's top call, and what it promises.
 //
 // `verve` does what the words of a command line say, over files and sinks that it is given, and answers a `Status`, whose
-// number is the program's exit status. `run` runs an image, and leaves the journal of the run and the machine that ran;
-// `check` tells whether an image is accepted, and `list` prints the listing of an image; neither runs anything.
+// number is the program's exit status. `run` and `journal` run an image, and leave the journal of the run and the machine that
+// ran; `check` tells whether an image is accepted, and `list` prints the listing of an image; neither runs anything.
 //
-// `Outcome` (in specs/) says what a call came to: the words are no command, or the command ended in one of five ways. A
-// command has a list of causes, `causes`, by which its files can stop it; the first that holds decides. `Did` says what it did
-// where none holds, and `Leaves` what any command leaves of its files and its output.
+// `Outcome` (in specs/) says what a call came to: the words are no command, or the command ended in one of five ways. All that
+// is said of one command stands in a record of the type `Form`: its words, the causes by which its files can stop it, of which
+// the first that holds decides, the file that it writes, and what it did. `Leaves` is what any command leaves.
 //
-// A further command is a module with its `act_..`, a variant of `Command` and a line in `read_words` and in `act`. Its
-// definitions are a row each of `Request` and `WordsOf`, `causes`, `Serves` and `Did`; of `MayEnd` where it ends other
-// than by `Done`, of `MayHaveRun` where it runs something, of `Written` and `PartWritten` where its text goes into a
-// file; and of `Cause`, `status_of` and `Holds` for each cause of its own.
+// A further command is a module here with its `act_..` and a file in specs/ with its form. It has a line in `read_words`, the list
+// of words; a variant of `Command` and of `Request`, with a line each in `act`, `request_of` and `form_of`; and a row in
+// docs/program.md. One that writes a file names it in `writes`; one that stops by a cause of its own has a row each of `Cause`,
+// `status_of` and `Holds`, and its line in complaint.rt. specs/Assembling.antt is an example.
 #![tactic(auto)]
 
 mod checks;
 mod code_place;
 mod command;
 mod complaint;
+mod journals;
 pub mod laws;
 mod listings;
 mod load;
+mod putting;
 mod runs;
 mod status;
 mod stop;

@@ -5,6 +5,7 @@ ghost use Rattle.verve_tool.specs.Seen.{call_of};
 ghost use Rattle.verve_tool.specs.Stops.{Acted};
 
 use crate::load::hold_image;
+use crate::putting::put_text;
 use crate::status::Status;
 use crate::stop::Stop;
 use outside::{Files, Sink};
@@ -23,6 +24,5 @@ pub(crate) fn act_list<'a, F: Files, K: Sink>(
 {
     let image = hold_image(alloc, files, name)?;
     let text = listing(alloc, &image)?;
-    out.put(text.as_bytes())?;
-    Ok(Status::Done)
+    put_text(out, text.as_bytes(), Status::Done)
 }

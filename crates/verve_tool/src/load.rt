@@ -1,11 +1,13 @@
 // The files of a command: read whole, each once, and then accepted or not.
-ghost use Rattle.std.specs.Prelude.{◌≤◌, length, ◌∷◌, [], Option, IfOk, IfErr, OnOk, IsErrAnd};
+ghost use Rattle.std.specs.Prelude.{◌≡◌, ◌≤◌, ℕ, List, length, ◌∷◌, [], Option, IfOk, IfErr, OnOk, IsErrAnd};
 ghost use Rattle.outside.specs.FileMaps.{FileMap};
 ghost use Rattle.device_model.specs.EventFile.{EventsOf, InOrder};
 ghost use Rattle.tal_image.specs.Formed.{ImageOf};
 ghost use Rattle.tal_checker.specs.WellTyped.{WellTyped};
 ghost use Rattle.kernel_machine.specs.Built.{IsBuilt};
-ghost use Rattle.verve_tool.specs.Commands.{Run, Check, Listing, causes, Loaded};
+ghost use Rattle.verve_tool.specs.Checks.{a_check};
+ghost use Rattle.verve_tool.specs.Listings.{a_listing};
+ghost use Rattle.verve_tool.specs.Runs.{run_causes, Loaded};
 ghost use Rattle.verve_tool.specs.Causes.{Missing, Long, Malformed, IllTyped, Unbuilt, BadEvents, FileRead, HoldsImage, TypedImage};
 ghost use Rattle.verve_tool.specs.Seen.{files_seen, OnlyReads};
 ghost use Rattle.verve_tool.specs.Stops.{StopsBy, StopsAt, IsUnread, run_of};
@@ -62,19 +64,17 @@ fn read_image<'a>(alloc: Global, name: &'a str, bytes: &[u8]) -> Result<Image, S
 {
     match Image::read(alloc, bytes) {
         Ok(image) => Ok(image),
-        Err(fault) => Err(Stop::of_fault(name, fault)),
+        Err(fault) => Err(Stop::Image(name, fault)),
     }
 }
 
-// The accepted image of these bytes.
-fn accept<'a>(alloc: Global, name: &'a str, bytes: &[u8]) -> Result<Checked, Stop<'a>>
-    ensures stands { IfOk result (λ c. ImageOf bytes.now c.image) }
-    ensures well_typed { IfOk result (λ c. WellTyped c.image) }
-    ensures stopped { (told : Option FileMap) → FileRead told name.now IMAGE_MOST bytes.now
-        → IfErr result (λ s. StopsBy told (Malformed name.now ∷ IllTyped name.now ∷ []) s) }
+// The image, accepted.
+fn accept<'a>(alloc: Global, image: Image) -> Result<Checked, Stop<'a>>
+    ensures same { IfOk result (λ c. c.image ≡ image) }
+    ensures well_typed { OnOk result (WellTyped image) }
+    ensures stopped { (told : Option FileMap) (name : List ℕ) → HoldsImage told name image
+        → IfErr result (λ s. StopsBy told (IllTyped name ∷ []) s) }
 {
-    one_meaning();
-    let image = read_image(alloc, name, bytes)?;
     Ok(check(alloc, image)?)
 }
 
@@ -114,7 +114,7 @@ pub(crate) fn hold_image<'a, F: Files>(
 ) -> Result<Image, Stop<'a>>
     ensures held { IfOk result (λ i. HoldsImage (F.told files.old) name.now i) }
     ensures stopped { let seen = files_seen F.told F.steady F.read_faults F.write_faults in
-        IfErr result (λ s. StopsAt (seen files.old) (seen files.new) (causes (Listing name.now)) s) }
+        IfErr result (λ s. StopsAt (seen files.old) (seen files.new) (a_listing name.now).causes s) }
     ensures reads { let seen = files_seen F.told F.steady F.read_faults F.write_faults in
         OnlyReads (seen files.old) (seen files.new) (IsErrAnd result IsUnread) }
 {
@@ -130,12 +130,13 @@ pub(crate) fn load_image<'a, F: Files>(
 ) -> Result<Checked, Stop<'a>>
     ensures typed { IfOk result (λ c. TypedImage (F.told files.old) name.now c.image) }
     ensures stopped { let seen = files_seen F.told F.steady F.read_faults F.write_faults in
-        IfErr result (λ s. StopsAt (seen files.old) (seen files.new) (causes (Check name.now)) s) }
+        IfErr result (λ s. StopsAt (seen files.old) (seen files.new) (a_check name.now).causes s) }
     ensures reads { let seen = files_seen F.told F.steady F.read_faults F.write_faults in
         OnlyReads (seen files.old) (seen files.new) (IsErrAnd result IsUnread) }
 {
-    let bytes = read_file(alloc, files, name, IMAGE_MOST)?;
-    accept(alloc, name, &bytes)
+    one_meaning();
+    let image = hold_image(alloc, files, name)?;
+    accept(alloc, image)
 }
 
 // Reads the image's file and then the events', and accepts what they hold.
@@ -147,7 +148,7 @@ pub(crate) fn load_run<'a, F: Files>(
     ensures loaded { IfOk result (λ l. Loaded (F.told files.old) (run_of run.entry) l.0.image l.1.items) }
     ensures in_order { IfOk result (λ l. InOrder l.1.items) }
     ensures stopped { let seen = files_seen F.told F.steady F.read_faults F.write_faults in
-        IfErr result (λ s. StopsAt (seen files.old) (seen files.new) (causes (Run (run_of run.entry))) s) }
+        IfErr result (λ s. StopsAt (seen files.old) (seen files.new) (run_causes (run_of run.entry)) s) }
     ensures reads { let seen = files_seen F.told F.steady F.read_faults F.write_faults in
         OnlyReads (seen files.old) (seen files.new) (IsErrAnd result IsUnread) }
 {
@@ -155,7 +156,8 @@ pub(crate) fn load_run<'a, F: Files>(
     one_refusal();
     let image_bytes = read_file(alloc, files, run.image, IMAGE_MOST)?;
     let event_bytes = read_file(alloc, files, run.events, EVENTS_MOST)?;
-    let checked = accept(alloc, run.image, &image_bytes)?;
+    let image = read_image(alloc, run.image, &image_bytes)?;
+    let checked = accept(alloc, image)?;
     let events = read_run_events(alloc, checked.image(), run, &image_bytes, &event_bytes)?;
     Ok((checked, events))
 }

@@ -1,24 +1,27 @@
 // The command `run`: the run of an accepted image, and its report.
-ghost use Rattle.std.specs.Prelude.{◌≡◌, ◌⊎◌, ◌≤◌, [], None, IsErrAnd};
-ghost use Rattle.kernel_machine.specs.Machine.{end_of};
+ghost use Rattle.std.specs.Prelude.{◌≡◌, ◌⊎◌, ◌≤◌, [], Some, None, IfOk, IfErr, IsErrAnd};
+ghost use Rattle.run_report.specs.Report.{ReportText};
+ghost use Rattle.kernel_machine.specs.Machine.{MachineView, shown_by, end_of};
 ghost use Rattle.verve_tool.specs.Commands.{Run};
-ghost use Rattle.verve_tool.specs.Seen.{call_of, sink_seen, OnlyPuts};
-ghost use Rattle.verve_tool.specs.Runs.{status_at};
-ghost use Rattle.verve_tool.specs.Stops.{Acted, Tells, run_of};
+ghost use Rattle.verve_tool.specs.Runs.{run_causes, status_at};
+ghost use Rattle.verve_tool.specs.Seen.{call_of, files_seen, OnlyReads};
+ghost use Rattle.verve_tool.specs.Stops.{Acted, Made, StopsAt, IsUnread, run_of};
 
 use crate::load::load_run;
+use crate::putting::put_text;
 use crate::status::Status;
 use crate::stop::Stop;
 use crate::words::RunCommand;
 use kernel_machine::laws::machines_show_their_runs;
 use kernel_machine::{MOST_TURNS, Machine, run as run_machine};
+use no_memory::NoMemory;
 use nucleus_calls::Journal;
 use outside::{Files, Sink};
 use run_report::{RunEnd, report};
 use std::alloc::Global;
 
 // The status of a command whose run came to this end and was told.
-fn status_after(end: RunEnd) -> Status
+pub(crate) fn status_after(end: RunEnd) -> Status
     ensures { result ≡ status_at end }
 {
     match end {
@@ -27,26 +30,49 @@ fn status_after(end: RunEnd) -> Status
     }
 }
 
-// Puts the report of a machine in one piece, after a run that answered this.
-fn tell<'a, K: Sink>(
+// Reads the files of a run, and takes its turns. The machine is kept.
+pub(crate) fn make_run<'a, F: Files>(
     alloc: Global,
-    out: &mut K,
-    machine: &Machine,
-    end: RunEnd,
-) -> Result<Status, Stop<'a>>
-    requires { (end ≡ RunEnd.NoMemory) ⊎ (end ≡ end_of machine.now.ending) }
-    ensures told { Tells (sink_seen K.told K.faults out.old) (sink_seen K.told K.faults out.new) machine.now end result }
-    ensures puts { OnlyPuts (sink_seen K.told K.faults out.old) (sink_seen K.told K.faults out.new) (IsErrAnd result (λ s. s ≡ Stop.Write)) }
+    run: RunCommand<'a>,
+    files: &mut F,
+    journal: &mut Journal,
+    kept: &mut Option<Machine>,
+) -> Result<RunEnd, Stop<'a>>
+    requires few { run.turns ≤ MOST_TURNS }
+    requires clear { journal.old.entries ≡ [] }
+    requires empty { kept.old ≡ None }
+    ensures made { IfOk result (λ end. Made (run_of run.entry) (F.told files.old) kept.new journal.new.entries end) }
+    ensures stopped { let seen = files_seen F.told F.steady F.read_faults F.write_faults in
+        IfErr result (λ s. StopsAt (seen files.old) (seen files.new) (run_causes (run_of run.entry)) s) }
+    ensures idle { IfErr result (λ s. (journal.new.entries ≡ []) × (kept.new ≡ None)) }
+    ensures reads { let seen = files_seen F.told F.steady F.read_faults F.write_faults in
+        OnlyReads (seen files.old) (seen files.new) (IsErrAnd result IsUnread) }
 {
-    if end == RunEnd::NoMemory {
-        return Err(Stop::NoMemory);
-    }
-    let text = report(alloc, machine, end, machine.turns_taken())?;
-    out.put(&text)?;
-    Ok(status_after(end))
+    let (checked, events) = load_run(alloc, files, run)?;
+    let mut machine = Machine::new(alloc, checked, events)?;
+    let end = run_machine(&mut machine, journal, run.turns);
+    *kept = Some(machine);
+    Ok(end)
 }
 
-// Runs an image over events, and tells its report. The machine that ran is kept.
+// The report of the machine that is kept, after a run that answered this.
+pub(crate) fn report_kept(
+    alloc: Global,
+    kept: &Option<Machine>,
+    end: RunEnd,
+) -> Result<Vec<u8>, NoMemory>
+    requires kept { (machine : MachineView) × (kept.now ≡ Some machine) × ((end ≡ RunEnd.NoMemory) ⊎ (end ≡ end_of machine.ending)) }
+    ensures { (machine : MachineView) → kept.now ≡ Some machine
+        → IfOk result (λ text. (end ≡ end_of machine.ending) × (text.items ≡ ReportText (shown_by machine) end machine.turns)) }
+{
+    if end == RunEnd::NoMemory {
+        return Err(NoMemory);
+    }
+    let machine = kept.as_ref().unwrap();
+    report(alloc, machine, end, machine.turns_taken())
+}
+
+// Runs an image over events, and tells its report.
 pub(crate) fn act_run<'a, F: Files, K: Sink>(
     alloc: Global,
     run: RunCommand<'a>,
@@ -62,10 +88,7 @@ pub(crate) fn act_run<'a, F: Files, K: Sink>(
         files.old files.new out.old out.new journal.new.entries kept.new) result }
 {
     machines_show_their_runs();
-    let (checked, events) = load_run(alloc, files, run)?;
-    let mut machine = Machine::new(alloc, checked, events)?;
-    let end = run_machine(&mut machine, journal, run.turns);
-    let told = tell(alloc, out, &machine, end);
-    *kept = Some(machine);
-    told
+    let end = make_run(alloc, run, files, journal, kept)?;
+    let text = report_kept(alloc, kept, end)?;
+    put_text(out, &text, status_after(end))
 }

@@ -1,11 +1,10 @@
 // What stops a command, with what is told of it.
 ghost use Rattle.std.specs.Prelude.{◌≡◌};
-ghost use Rattle.verve_tool.specs.Stops.{status_of, stop_of_fault};
+ghost use Rattle.verve_tool.specs.Stops.{status_of};
 
 use crate::status::Status;
 use device_model::EventFault;
 use no_memory::NoMemory;
-use outside::PutFailed;
 use tal_checker::CheckAnswer;
 use tal_image::ImageFault;
 
@@ -20,28 +19,16 @@ pub(crate) enum Stop<'a> {
     Write,
     // The file of this name is too long.
     Long(&'a str),
-    // No image stands for the file of this name.
+    // No image stands for the file of this name, or memory was wanting for it.
     Image(&'a str, ImageFault),
-    // This rule fails at this address.
-    Refused { address: u32, rule: u8 },
+    // An image is not accepted, or memory was wanting for its check.
+    NotAccepted(CheckAnswer),
     // The image of the file of this name has a CALL at this byte of the file, of an entry of the Nucleus that is not built.
     NucleusCall { name: &'a str, at: u32 },
-    // No list of events stands for the event file.
+    // No list of events stands for the event file, or memory was wanting for it.
     Events(EventFault),
     // Memory was wanting.
     NoMemory,
-}
-
-impl<'a> Stop<'a> {
-    // Why the file of this name stands for no image.
-    pub(crate) fn of_fault(name: &'a str, fault: ImageFault) -> Stop<'a>
-        ensures { result ≡ stop_of_fault name.entry fault }
-    {
-        match fault {
-            ImageFault::NoMemory => Stop::NoMemory,
-            _ => Stop::Image(name, fault),
-        }
-    }
 }
 
 impl Stop<'_> {
@@ -54,10 +41,11 @@ impl Stop<'_> {
             Stop::Write => Status::WriteFault,
             Stop::Long(_) => Status::TooLong,
             Stop::Image(_, ImageFault::NoMemory)
+            | Stop::NotAccepted(CheckAnswer::NoMemory)
             | Stop::Events(EventFault::NoMemory)
             | Stop::NoMemory => Status::NoMemory,
             Stop::Image(..) => Status::Malformed,
-            Stop::Refused { .. } => Status::Refused,
+            Stop::NotAccepted(_) => Status::Refused,
             Stop::NucleusCall { .. } => Status::NotBuilt,
             Stop::Events(_) => Status::Events,
         }
@@ -75,41 +63,24 @@ impl From<NoMemory> for Stop<'_> {
     }
 }
 
-impl From<PutFailed> for Stop<'_> {
-    ghost use Rattle.std.specs.Prelude.{◌≡◌};
-    ghost use Rattle.verve_tool.specs.declared.stop.Stop.TheVariants.{Write as write};
-
-    ghost from_gives = { λ _ stop. stop ≡ write };
-
-    fn from(_failure: PutFailed) -> Self {
-        Stop::Write
-    }
-}
-
 impl From<EventFault> for Stop<'_> {
     ghost use Rattle.std.specs.Prelude.{◌≡◌};
-    ghost use Rattle.verve_tool.specs.Stops.{stop_of_event_fault};
+    ghost use Rattle.verve_tool.specs.declared.stop.Stop.TheVariants.{Events as events};
 
-    ghost from_gives = { λ fault stop. stop ≡ stop_of_event_fault fault };
+    ghost from_gives = { λ fault stop. stop ≡ events fault };
 
     fn from(fault: EventFault) -> Self {
-        match fault {
-            EventFault::NoMemory => Stop::NoMemory,
-            _ => Stop::Events(fault),
-        }
+        Stop::Events(fault)
     }
 }
 
 impl From<CheckAnswer> for Stop<'_> {
     ghost use Rattle.std.specs.Prelude.{◌≡◌};
-    ghost use Rattle.verve_tool.specs.Stops.{stop_of_answer};
+    ghost use Rattle.verve_tool.specs.declared.stop.Stop.TheVariants.{NotAccepted as not_accepted};
 
-    ghost from_gives = { λ answer stop. stop ≡ stop_of_answer answer };
+    ghost from_gives = { λ answer stop. stop ≡ not_accepted answer };
 
     fn from(answer: CheckAnswer) -> Self {
-        match answer {
-            CheckAnswer::Refused { address, rule } => Stop::Refused { address, rule },
-            CheckAnswer::NoMemory => Stop::NoMemory,
-        }
+        Stop::NotAccepted(answer)
     }
 }

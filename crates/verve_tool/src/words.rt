@@ -1,8 +1,10 @@
 // The words of a command.
-ghost use Rattle.std.specs.Prelude.{◌≡◌, ◌≤◌, ℕ, List, decimal, MatchOption};
-ghost use Rattle.verve_tool.specs.Commands.{RunWords, SpellsRun, SpellsImage, WordsOf, NoCommand};
+ghost use Rattle.std.specs.Prelude.{◌≡◌, ◌≢◌, ◌≤◌, ◌∷◌, [], ℕ, List, decimal, map, string_bytes, MatchOption};
+ghost use Rattle.verve_tool.specs.Runs.{RunWords, AllowsRun};
+ghost use Rattle.verve_tool.specs.Commands.{WordsOf, NoCommand};
 ghost use Rattle.verve_tool.specs.Stops.{run_of, request_of};
 
+use crate::journals::JOURNAL_TURNS;
 use itoa::Buffer;
 use kernel_machine::MOST_TURNS;
 
@@ -14,41 +16,44 @@ pub(crate) struct RunCommand<'a> {
     pub(crate) turns: u32,
 }
 
-// What the words ask for: a run, or of the image of a file whether it is accepted, or its listing.
+// What the words ask for.
 #[derive(Clone, Copy)]
 pub(crate) enum Command<'a> {
-    Run(RunCommand<'a>),
     Check(&'a str),
     List(&'a str),
+    Run(RunCommand<'a>),
+    Journal(RunCommand<'a>),
 }
 
 // The turns are a decimal number as it is printed, so without leading zeros or a sign.
-fn read_turns(word: &str) -> Option<u32>
+fn read_turns(word: &str, most: u32) -> Option<u32>
     ensures { MatchOption result
-        ((n : ℕ) → 1 ≤ n → n ≤ MOST_TURNS → word.now ≡ decimal n → ⊥)
-        (λ n. (word.now ≡ decimal n) × (1 ≤ n) × (n ≤ MOST_TURNS)) }
+        ((n : ℕ) → 1 ≤ n → n ≤ most → word.now ≡ decimal n → ⊥)
+        (λ n. (word.now ≡ decimal n) × (1 ≤ n) × (n ≤ most)) }
 {
     let Ok(number) = word.parse::<u32>() else {
         return None;
     };
     let mut buffer = Buffer::new();
-    if number == 0 || number > MOST_TURNS || buffer.format(number) != word {
+    if number == 0 || number > most || buffer.format(number) != word {
         return None;
     }
     Some(number)
 }
 
-// The run that the words are, if they are one.
-fn read_run(words: &[String]) -> Option<RunCommand<'_>>
-    ensures { MatchOption result ((run : RunWords) → SpellsRun words.now run → ⊥) (λ run. SpellsRun words.now (run_of run)) }
+// The names and the turns of a run, if the words are these.
+fn read_run(words: &[String], most: u32) -> Option<RunCommand<'_>>
+    ensures { MatchOption result
+        ((run : RunWords) → map string_bytes words.now ≡ run.image ∷ run.events ∷ decimal run.turns ∷ [] → AllowsRun most run → ⊥)
+        (λ run. (map string_bytes words.now ≡ run.image.now ∷ run.events.now ∷ decimal run.turns ∷ []) × AllowsRun most (run_of run)) }
 {
-    let [command, image, events, turns] = words else {
+    let [image, events, turns] = words else {
         return None;
     };
-    if command.as_str() != "run" || image.is_empty() || events.is_empty() {
+    if image.is_empty() || events.is_empty() {
         return None;
     }
-    let turns = read_turns(turns.as_str())?;
+    let turns = read_turns(turns.as_str(), most)?;
     Some(RunCommand {
         image: image.as_str(),
         events: events.as_str(),
@@ -56,30 +61,31 @@ fn read_run(words: &[String]) -> Option<RunCommand<'_>>
     })
 }
 
-// The name of the image, if the words are this command of an image alone.
-fn read_image_name<'a>(words: &'a [String], command: &str) -> Option<&'a str>
-    ensures { MatchOption result ((image : List ℕ) → SpellsImage command.now words.now image → ⊥)
-        (λ image. SpellsImage command.now words.now image.now) }
+// The name of a file, if the words are one.
+fn read_name(words: &[String]) -> Option<&str>
+    ensures { MatchOption result
+        ((name : List ℕ) → map string_bytes words.now ≡ name ∷ [] → name ≢ [] → ⊥)
+        (λ name. (map string_bytes words.now ≡ name.now ∷ []) × (name.now ≢ [])) }
 {
-    let [first, image] = words else {
+    let [name] = words else {
         return None;
     };
-    if first.as_str() != command || image.is_empty() {
+    if name.is_empty() {
         return None;
     }
-    Some(image.as_str())
+    Some(name.as_str())
 }
 
-// What the words ask for, if they are a command.
+// What the words ask for, if they are a command: the list of words.
 pub(crate) fn read_words(words: &[String]) -> Option<Command<'_>>
     ensures { MatchOption result (NoCommand words.now) (λ command. WordsOf words.now (request_of command)) }
 {
-    if let Some(run) = read_run(words) {
-        return Some(Command::Run(run));
+    let (word, operands) = words.split_first()?;
+    match word.as_str() {
+        "check" => Some(Command::Check(read_name(operands)?)),
+        "list" => Some(Command::List(read_name(operands)?)),
+        "run" => Some(Command::Run(read_run(operands, MOST_TURNS)?)),
+        "journal" => Some(Command::Journal(read_run(operands, JOURNAL_TURNS)?)),
+        _ => None,
     }
-    if let Some(image) = read_image_name(words, "check") {
-        return Some(Command::Check(image));
-    }
-    let image = read_image_name(words, "list")?;
-    Some(Command::List(image))
 }

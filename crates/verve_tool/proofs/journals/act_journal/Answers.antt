@@ -1,0 +1,34 @@
+use Rattle.std.proofs.Common.{refl, inl, inr}
+use Rattle.std.proofs.lemmas.Result.{err_from_is_err_and}
+use Rattle.verve_tool.specs.Commands.{Journal}
+use Rattle.verve_tool.specs.Stops.{run_of}
+use Rattle.verve_tool.proofs.Endings.{acted_stopped, acted_wanting, acted_journal, no_puts}
+use Rattle.verve_tool.proofs.journals.act_journal.Goals as goal
+
+pub report_kept-requires : goal.report_kept-requires
+report_kept-requires g c =
+    let made = c.in_ok-end.ensures.made in
+    record { kept = (made.ran.machine, made.ran.is, made.answer) }
+
+pub returns-in_err-end : goal.returns-in_err-end
+returns-in_err-end g c =
+    let p = err_from_is_err_and c.from_residual.result c.from_residual.ensures.1 in
+    rw (p.1, p.2) (acted_stopped _ (Journal (run_of c.args.run)) _ refl refl c.in_err-end.ensures.idle.0 c.in_err-end.ensures.idle.1 (λ u. inl u)
+    c.in_err-end.ensures.stopped c.in_err-end.ensures.reads (no_puts _))
+
+pub returns-in_err-text : goal.returns-in_err-text
+returns-in_err-text g c =
+    let p = err_from_is_err_and c.from_residual-in_err-text.result c.from_residual-in_err-text.ensures.1 in
+    rw (p.1, p.2) (acted_wanting _ (Journal (run_of c.args.run)) refl refl (inr c.in_ok-end.ensures.made.ran) c.in_ok-end.ensures.reads (no_puts _))
+
+pub returns-in_err-push_journal : goal.returns-in_err-push_journal
+returns-in_err-push_journal g c =
+    let p = err_from_is_err_and c.from_residual-in_err-push_journal.result c.from_residual-in_err-push_journal.ensures.1 in
+    rw (p.1, p.2) (acted_wanting _ (Journal (run_of c.args.run)) refl refl (inr c.in_ok-end.ensures.made.ran) c.in_ok-end.ensures.reads (no_puts _))
+
+pub returns : goal.returns
+returns g c =
+    let made = c.in_ok-end.ensures.made in
+    let told = c.in_ok-text.ensures made.ran.machine made.ran.is in
+    acted_journal c.machines_show_their_runs.ensures _ (run_of c.args.run) c.in_ok-end.end made c.in_ok-text.text.items c.push_journal.new.text.items _ told.0 told.1
+    c.in_ok-push_journal.ensures (rw (← c.status_after.ensures, ← c.deref.ensures.value) c.put_text.ensures.put) c.in_ok-end.ensures.reads c.put_text.ensures.puts
