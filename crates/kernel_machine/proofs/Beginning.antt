@@ -1,12 +1,13 @@
 -- A machine before its first turn stands for the first state.
-use Rattle.std.proofs.Common.{ℕ, Bool, List, [], None, refl}
+use Rattle.std.proofs.Common.{ℕ, Bool, true, List, [], None, refl}
 use Rattle.device_model.specs.declared.events.Event.{Event}
 use Rattle.device_model.specs.EventFile.{InOrder}
 use Rattle.tal_types.specs.Contexts.{same}
 use Rattle.tal_image.specs.Image.{ImageParts}
 use Rattle.tal_checker.specs.WellTyped.{WellTyped}
-use Rattle.typed_machine.specs.Values.{Word, all_objects}
+use Rattle.typed_machine.specs.Values.{Word}
 use Rattle.typed_machine.specs.States.{first_state}
+use Rattle.typed_machine.specs.Reaching.{live_in}
 use Rattle.typed_machine.specs.Turns.{Run, RunOf}
 use Rattle.typed_safety.specs.Laws.{RunsAreTyped}
 use Rattle.word_machine.specs.Standing.{CpuStands}
@@ -28,7 +29,7 @@ first-cpu image = record { regs = refl; flags = refl; place = refl }
 first-stands : (image : ImageParts) (events : List Event) (v : NucleusView) → ((live : ℕ → Bool) → NucleusStands image live (first_state image) v)
     → Stands (viewed image events (first_cpu image) v 0 None) (first_state image)
 unfolding first_state
-first-stands image events v nucleus = record { processor = first-cpu image; nucleus = nucleus all_objects; turns = refl; ending = refl }
+first-stands image events v nucleus = record { processor = first-cpu image; nucleus = nucleus (live_in image (first_state image)); turns = refl; ending = refl }
 
 -- it is lawful
 pub first-lawful : RunsAreTyped → (image : ImageParts) (events : List Event) (v : NucleusView) → WellTyped image → IsBuilt image → InOrder events

@@ -1,6 +1,6 @@
 -- What an instruction of a turn comes to: processor and Nucleus go where the turn leads the state.
 use Rattle.std.specs.Prelude.{slice_index}
-use Rattle.std.proofs.Common.{◌≡◌, ℕ, ◌≤◌, Bool, List, Option, Some, None, refl, sym, ap, ◌∙◌, append-nil}
+use Rattle.std.proofs.Common.{◌≡◌, inl, ℕ, ◌≤◌, Bool, List, [], ◌++◌, Option, Some, None, refl, sym, ap, ◌∙◌, append-nil}
 use Rattle.ia32_code.specs.declared.instruction.Reg.TheVariants.{Eax}
 use Rattle.ia32_code.specs.declared.instruction.Inst.{Inst}
 use Rattle.ia32_step.specs.declared.cpu.Cpu.{Cpu}
@@ -9,7 +9,7 @@ use Rattle.tal_flow.specs.Rules.{next_address}
 use Rattle.tal_image.specs.Image.{ImageParts}
 use Rattle.tal_checker.specs.Running.{AcceptedRuns}
 use Rattle.typed_machine.specs.declared.ending.Ending.{Ending}
-use Rattle.typed_machine.specs.Values.{Word, all_objects}
+use Rattle.typed_machine.specs.Values.{Word}
 use Rattle.typed_machine.specs.States.{State, places_of}
 use Rattle.typed_machine.specs.Code.{inst_at}
 use Rattle.typed_machine.specs.Effects.{EffectView, Moves, Faults, Calls, Ends, Effect}
@@ -26,6 +26,7 @@ use Rattle.nucleus_calls.specs.Nucleus.{NucleusView, NucleusStands}
 use Rattle.nucleus_calls.specs.Turning.{StandsBefore, SameTurn, AtInstruction, BothStand, Stepped, Leads, effect_of}
 use Rattle.nucleus_calls.specs.Laws.{CallsNameEntries}
 use Rattle.kernel_machine.specs.Stepping.{TurnLeads, InTurn, ending_by, MayAct}
+use Rattle.kernel_machine.proofs.NoAnswers.{TellsNone, effect-tells-none}
 use Rattle.kernel_machine.proofs.UnbuiltCalls.{built-calls-none, entry-least, entry-most}
 
 -- ---- turns and the end are no words
@@ -36,7 +37,7 @@ pub nucleus-retold : (image : ImageParts) (live : ℕ → Bool) (s : State) (v :
 unfolding values_at
 nucleus-retold image live s v turns ending h =
     let m = h.memory in
-    let lie : ObjectsLie live (record s { turns = turns; ending = ending }) =
+    let lie : ObjectsLie image live (record s { turns = turns; ending = ending }) =
     record { short = m.lie.short; aligned = m.lie.aligned; inside = m.lie.inside; apart = m.lie.apart } in
     record {
       memory = record {
@@ -47,6 +48,7 @@ nucleus-retold image live s v turns ending h =
         stacks = m.stacks;
         room = m.room;
         lie = lie;
+        blocks = m.blocks;
       };
       stacks = h.stacks;
       starts = h.starts;
@@ -56,22 +58,22 @@ nucleus-retold image live s v turns ending h =
 -- ---- what a step came to
 
 -- a step that moved
-stepped-moves : (cpu : Cpu) (v : NucleusView) (image : ImageParts) (s : State) (o : Option EffectView) → Stepped step.Moves cpu v image s o
-    → (t : State) × (o ≡ Some (Moves t)) × BothStand image t cpu v × SameTurn s t
-stepped-moves cpu v image s None h = absurd h
-stepped-moves cpu v image s (Some (Moves t)) h = (t, refl, h.1, h.2)
-stepped-moves cpu v image s (Some (Faults n)) h = absurd (let e = h.0 in cc)
-stepped-moves cpu v image s (Some (Calls k)) h = absurd (let e = h.0 in cc)
-stepped-moves cpu v image s (Some Ends) h = absurd (let e = h.0 in cc)
+stepped-moves : (cpu : Cpu) (v : NucleusView) (image : ImageParts) (live : ℕ → Bool) (s : State) (o : Option EffectView) → Stepped step.Moves cpu v image live s o
+    → (t : State) × (o ≡ Some (Moves t)) × BothStand image live t cpu v × SameTurn s t
+stepped-moves cpu v image live s None h = absurd h
+stepped-moves cpu v image live s (Some (Moves t)) h = (t, refl, h.1, h.2)
+stepped-moves cpu v image live s (Some (Faults n)) h = absurd (let e = h.0 in cc)
+stepped-moves cpu v image live s (Some (Calls k)) h = absurd (let e = h.0 in cc)
+stepped-moves cpu v image live s (Some Ends) h = absurd (let e = h.0 in cc)
 
 -- one that called the Nucleus
-stepped-calls : (k : ℕ) (cpu : Cpu) (v : NucleusView) (image : ImageParts) (s : State) (o : Option EffectView) → Stepped (step.Calls k) cpu v image s o
-    → (o ≡ Some (Calls k)) × BothStand image s cpu v
-stepped-calls k cpu v image s None h = absurd h
-stepped-calls k cpu v image s (Some (Moves t)) h = absurd (let e = h.0 in cc)
-stepped-calls k cpu v image s (Some (Faults n)) h = absurd (let e = h.0 in cc)
-stepped-calls k cpu v image s (Some (Calls n)) h = let e = h.0 in let same : n ≡ k = cc in (rw same refl, h.1)
-stepped-calls k cpu v image s (Some Ends) h = absurd (let e = h.0 in cc)
+stepped-calls : (k : ℕ) (cpu : Cpu) (v : NucleusView) (image : ImageParts) (live : ℕ → Bool) (s : State) (o : Option EffectView) → Stepped (step.Calls k) cpu v image live s o
+    → (o ≡ Some (Calls k)) × BothStand image live s cpu v
+stepped-calls k cpu v image live s None h = absurd h
+stepped-calls k cpu v image live s (Some (Moves t)) h = absurd (let e = h.0 in cc)
+stepped-calls k cpu v image live s (Some (Faults n)) h = absurd (let e = h.0 in cc)
+stepped-calls k cpu v image live s (Some (Calls n)) h = let e = h.0 in let same : n ≡ k = cc in (rw same refl, h.1)
+stepped-calls k cpu v image live s (Some Ends) h = absurd (let e = h.0 in cc)
 
 -- what a step answers at which the running stack leaves
 abbrev pub step_of : Leaving → Step
@@ -79,17 +81,17 @@ step_of (leaving.Fault vector) = step.Faults vector
 step_of leaving.Ended = step.Ends
 
 -- one at which it leaves
-stepped-leaves : (why : Leaving) (cpu : Cpu) (v : NucleusView) (image : ImageParts) (s : State) (o : Option EffectView) → Stepped (step_of why) cpu v image s o
-    → (o ≡ Some (effect_of why)) × BothStand image s cpu v
-stepped-leaves why cpu v image s None h = absurd h
-stepped-leaves (leaving.Fault vector) cpu v image s (Some (Moves t)) h = absurd (let e = h.0 in cc)
-stepped-leaves (leaving.Fault vector) cpu v image s (Some (Faults n)) h = let e = h.0 in let same : n ≡ vector = cc in (rw same refl, h.1)
-stepped-leaves (leaving.Fault vector) cpu v image s (Some (Calls k)) h = absurd (let e = h.0 in cc)
-stepped-leaves (leaving.Fault vector) cpu v image s (Some Ends) h = absurd (let e = h.0 in cc)
-stepped-leaves leaving.Ended cpu v image s (Some (Moves t)) h = absurd (let e = h.0 in cc)
-stepped-leaves leaving.Ended cpu v image s (Some (Faults n)) h = absurd (let e = h.0 in cc)
-stepped-leaves leaving.Ended cpu v image s (Some (Calls k)) h = absurd (let e = h.0 in cc)
-stepped-leaves leaving.Ended cpu v image s (Some Ends) h = (refl, h.1)
+stepped-leaves : (why : Leaving) (cpu : Cpu) (v : NucleusView) (image : ImageParts) (live : ℕ → Bool) (s : State) (o : Option EffectView) → Stepped (step_of why) cpu v image live s o
+    → (o ≡ Some (effect_of why)) × BothStand image live s cpu v
+stepped-leaves why cpu v image live s None h = absurd h
+stepped-leaves (leaving.Fault vector) cpu v image live s (Some (Moves t)) h = absurd (let e = h.0 in cc)
+stepped-leaves (leaving.Fault vector) cpu v image live s (Some (Faults n)) h = let e = h.0 in let same : n ≡ vector = cc in (rw same refl, h.1)
+stepped-leaves (leaving.Fault vector) cpu v image live s (Some (Calls k)) h = absurd (let e = h.0 in cc)
+stepped-leaves (leaving.Fault vector) cpu v image live s (Some Ends) h = absurd (let e = h.0 in cc)
+stepped-leaves leaving.Ended cpu v image live s (Some (Moves t)) h = absurd (let e = h.0 in cc)
+stepped-leaves leaving.Ended cpu v image live s (Some (Faults n)) h = absurd (let e = h.0 in cc)
+stepped-leaves leaving.Ended cpu v image live s (Some (Calls k)) h = absurd (let e = h.0 in cc)
+stepped-leaves leaving.Ended cpu v image live s (Some Ends) h = (refl, h.1)
 
 -- ---- where turns lead
 
@@ -98,46 +100,54 @@ instruction-is : (image : ImageParts) (answers : List Answer) (s : State) (i : I
     → Effect image s i len ≡ Some e → instruction image answers s ≡ after_effect image answers (next_address s.thread.place len) s e
 instruction-is image answers s i len e here effect = rw (here, effect) refl
 
--- a turn without an end leads as the Nucleus does
-pub leads-on : (image : ImageParts) (turn : ℕ) (s : State) (answers : List Answer) (before after : List Entry) (cpu : Cpu) (v : NucleusView) (o : Option Turned)
-    → InTurn turn s → Leads image all_objects s answers before after cpu v o → TurnLeads image turn answers before after cpu v None o
-leads-on image turn s answers before after cpu v o now (r, is, h) = (
-  r,
-  is,
-  record {
-    processor = h.processor;
-    nucleus = h.nucleus;
-    turns = sym (h.same_turn.turns ∙ now.turns);
-    ending = sym (h.same_turn.ending ∙ now.on);
-    entries = h.entries;
-    left = h.left;
-  },
-)
+-- a turn without an end that takes no answer leads as the Nucleus does
+pub leads-on : (image : ImageParts) (live : ℕ → Bool) (turn : ℕ) (s : State) (left : List Answer) (before after : List Entry) (cpu : Cpu) (v : NucleusView)
+    (takes : List Answer → Option Turned) → TellsNone left (takes left) → InTurn turn s → Leads image live s left before after cpu v (takes left)
+    → TurnLeads image live turn left before after cpu v None takes
+leads-on image live turn s left before after cpu v takes none now (r, is, h) =
+    let untold = (rw is at none) h.left in (
+      [],
+      r,
+      is,
+      record {
+        processor = h.processor;
+        nucleus = inl (refl, h.nucleus);
+        turns = sym (h.same_turn.turns ∙ now.turns);
+        ending = sym (h.same_turn.ending ∙ now.on);
+        entries = h.entries;
+        tells = untold.1;
+        others = h.left;
+        legal = untold.0;
+      },
+    )
 
 -- so it is with the turn whose instruction has this effect
-effect-leads : (image : ImageParts) (turn : ℕ) (s : State) (i : Inst) (len : ℕ) (cpu ran : Cpu) (v after : NucleusView) → AtInstruction image s i len cpu v
-    → (e : EffectView) → Effect image s i len ≡ Some e → (answers : List Answer) (entries more : List Entry) (ending : Option Ending)
-    → TurnLeads image turn answers entries more ran after ending (after_effect image answers (next_address s.thread.place len) s e)
-    → TurnLeads image turn answers entries more ran after ending (instruction image answers s)
-effect-leads image turn s i len cpu ran v after h e effect answers entries more ending (r, is, stands) =
-    (r, instruction-is image answers s i len e h.here effect ∙ is, stands)
+effect-leads : (image : ImageParts) (live : ℕ → Bool) (turn : ℕ) (s : State) (i : Inst) (len : ℕ) (cpu ran : Cpu) (v after : NucleusView) → AtInstruction image live s i len cpu v
+    → (e : EffectView) → Effect image s i len ≡ Some e → (left : List Answer) (entries more : List Entry) (ending : Option Ending)
+    → TurnLeads image live turn left entries more ran after ending (λ answers. after_effect image answers (next_address s.thread.place len) s e)
+    → TurnLeads image live turn left entries more ran after ending (λ answers. instruction image answers s)
+effect-leads image live turn s i len cpu ran v after h e effect left entries more ending (told, r, is, stands) =
+    (told, r, instruction-is image (told ++ left) s i len e h.here effect ∙ is, stands)
 
 -- an instruction that moves on
-pub moves-lead : (image : ImageParts) (turn : ℕ) (s : State) (i : Inst) (len : ℕ) (cpu ran : Cpu) (v after : NucleusView) → AtInstruction image s i len cpu v → InTurn turn s
-    → Stepped step.Moves ran after image s (Effect image s i len) → (answers : List Answer) (entries : List Entry)
-    → TurnLeads image turn answers entries entries ran after None (instruction image answers s)
-moves-lead image turn s i len cpu ran v after h now stepped answers entries =
-    let (t, effect, both, same) = stepped-moves ran after image s (Effect image s i len) stepped in
-    effect-leads image turn s i len cpu ran v after h (Moves t) effect answers entries entries None (
-      turned answers None t,
+pub moves-lead : (image : ImageParts) (live : ℕ → Bool) (turn : ℕ) (s : State) (i : Inst) (len : ℕ) (cpu ran : Cpu) (v after : NucleusView) → AtInstruction image live s i len cpu v
+    → InTurn turn s → Stepped step.Moves ran after image live s (Effect image s i len) → (left : List Answer) (entries : List Entry)
+    → TurnLeads image live turn left entries entries ran after None (λ answers. instruction image answers s)
+moves-lead image live turn s i len cpu ran v after h now stepped left entries =
+    let (t, effect, both, same) = stepped-moves ran after image live s (Effect image s i len) stepped in
+    effect-leads image live turn s i len cpu ran v after h (Moves t) effect left entries entries None (
+      [],
+      turned left None t,
       refl,
       record {
         processor = both.processor;
-        nucleus = both.nucleus;
+        nucleus = inl (refl, both.nucleus);
         turns = sym (same.turns ∙ now.turns);
         ending = sym (same.ending ∙ now.on);
         entries = sym (append-nil entries);
-        left = refl;
+        tells = refl;
+        others = refl;
+        legal = refl;
       },
     )
 
@@ -155,43 +165,50 @@ kernel-ends : (image : ImageParts) (answers : List Answer) (next : ℕ) (s : Sta
 kernel-ends image answers next s (leaving.Fault vector) current = rw current refl
 kernel-ends image answers next s leaving.Ended current = rw current refl
 
-pub kernel-leads : (image : ImageParts) (turn : ℕ) (s : State) (cpu : Cpu) (v : NucleusView) (why : Leaving) → StandsBefore image all_objects s s.thread.place cpu v
-    → InTurn turn s → s.current ≡ 0 → (answers : List Answer) (next : ℕ) (entries : List Entry)
-    → TurnLeads image turn answers entries entries cpu v (Some (ending_by why (slice_index cpu.regs 0))) (after_effect image answers next s (effect_of why))
-kernel-leads image turn s cpu v why h now current answers next entries = (
-  turned answers None (record s { ending = Some (ending_by why (Word (places_of s) (s.thread.regs Eax))) }),
-  kernel-ends image answers next s why current,
+pub kernel-leads : (image : ImageParts) (live : ℕ → Bool) (turn : ℕ) (s : State) (cpu : Cpu) (v : NucleusView) (why : Leaving) → StandsBefore image live s s.thread.place cpu v
+    → InTurn turn s → s.current ≡ 0 → (left : List Answer) (next : ℕ) (entries : List Entry)
+    → TurnLeads image live turn left entries entries cpu v (Some (ending_by why (slice_index cpu.regs 0))) (λ answers. after_effect image answers next s (effect_of why))
+kernel-leads image live turn s cpu v why h now current left next entries = (
+  [],
+  turned left None (record s { ending = Some (ending_by why (Word (places_of s) (s.thread.regs Eax))) }),
+  kernel-ends image left next s why current,
   record {
     processor = record { regs = h.processor.regs; flags = h.processor.flags; place = h.processor.place };
-    nucleus = nucleus-retold image all_objects s v s.turns (Some (ending_by why (Word (places_of s) (s.thread.regs Eax)))) h.nucleus;
+    nucleus = inl (refl, nucleus-retold image live s v s.turns (Some (ending_by why (Word (places_of s) (s.thread.regs Eax)))) h.nucleus);
     turns = sym now.turns;
     ending = ap (λ (rs : List ℕ). Some (ending_by why (slice_index rs 0))) h.processor.regs;
     entries = sym (append-nil entries);
-    left = refl;
+    tells = refl;
+    others = refl;
+    legal = refl;
   },
 )
 
 -- an application's
-pub application-leads : (image : ImageParts) (turn : ℕ) (s : State) (why : Leaving) (place : ℕ) (ran : Cpu) (after : NucleusView) → InTurn turn s
-    → (answers : List Answer) (entries more : List Entry) → Leads image all_objects s answers entries more ran after (after_effect image answers place s (effect_of why))
-    → (next : ℕ) → TurnLeads image turn answers entries more ran after None (after_effect image answers next s (effect_of why))
-application-leads image turn s why place ran after now answers entries more led next =
-    rw (leaving-anywhere image answers next place s why) (leads-on image turn s answers entries more ran after _ now led)
+pub application-leads : (image : ImageParts) (live : ℕ → Bool) (turn : ℕ) (s : State) (why : Leaving) (place : ℕ) (ran : Cpu) (after : NucleusView) → InTurn turn s
+    → (left : List Answer) (entries more : List Entry) → Leads image live s left entries more ran after (after_effect image left place s (effect_of why))
+    → (next : ℕ) → TurnLeads image live turn left entries more ran after None (λ answers. after_effect image answers next s (effect_of why))
+application-leads image live turn s why place ran after now left entries more led next =
+    let (told, r, is, stands) =
+    leads-on image live turn s left entries more ran after (λ answers. after_effect image answers place s (effect_of why))
+    (effect-tells-none image left place s (effect_of why)) now led in
+    (told, r, leaving-anywhere image (told ++ left) next place s why ∙ is, stands)
 
 -- where a step says that the running stack leaves, processor and Nucleus stand as before
-pub leaves-before : (image : ImageParts) (s : State) (i : Inst) (len : ℕ) (cpu ran : Cpu) (v after : NucleusView) (why : Leaving) → AtInstruction image s i len cpu v
-    → Stepped (step_of why) ran after image s (Effect image s i len) → StandsBefore image all_objects s s.thread.place ran after
-leaves-before image s i len cpu ran v after why h stepped =
-    let (effect, both) = stepped-leaves why ran after image s (Effect image s i len) stepped in
+pub leaves-before : (image : ImageParts) (live : ℕ → Bool) (s : State) (i : Inst) (len : ℕ) (cpu ran : Cpu) (v after : NucleusView) (why : Leaving) → AtInstruction image live s i len cpu v
+    → Stepped (step_of why) ran after image live s (Effect image s i len) → StandsBefore image live s s.thread.place ran after
+leaves-before image live s i len cpu ran v after why h stepped =
+    let (effect, both) = stepped-leaves why ran after image live s (Effect image s i len) stepped in
     record { well_typed = h.before.well_typed; typed = h.before.typed; processor = both.processor; nucleus = both.nucleus }
 
-pub leaving-leads : (image : ImageParts) (turn : ℕ) (s : State) (i : Inst) (len : ℕ) (cpu stood ran : Cpu) (v between after : NucleusView) (why : Leaving)
-    → AtInstruction image s i len cpu v → Stepped (step_of why) stood between image s (Effect image s i len) → (answers : List Answer) (entries more : List Entry) (ending : Option Ending)
-    → ((next : ℕ) → TurnLeads image turn answers entries more ran after ending (after_effect image answers next s (effect_of why)))
-    → TurnLeads image turn answers entries more ran after ending (instruction image answers s)
-leaving-leads image turn s i len cpu stood ran v between after why h stepped answers entries more ending led =
-    let (effect, both) = stepped-leaves why stood between image s (Effect image s i len) stepped in
-    effect-leads image turn s i len cpu ran v after h (effect_of why) effect answers entries more ending (led (next_address s.thread.place len))
+pub leaving-leads : (image : ImageParts) (live : ℕ → Bool) (turn : ℕ) (s : State) (i : Inst) (len : ℕ) (cpu stood ran : Cpu) (v between after : NucleusView) (why : Leaving)
+    → AtInstruction image live s i len cpu v → Stepped (step_of why) stood between image live s (Effect image s i len)
+    → (left : List Answer) (entries more : List Entry) (ending : Option Ending)
+    → ((next : ℕ) → TurnLeads image live turn left entries more ran after ending (λ answers. after_effect image answers next s (effect_of why)))
+    → TurnLeads image live turn left entries more ran after ending (λ answers. instruction image answers s)
+leaving-leads image live turn s i len cpu stood ran v between after why h stepped left entries more ending led =
+    let (effect, both) = stepped-leaves why stood between image live s (Effect image s i len) stepped in
+    effect-leads image live turn s i len cpu ran v after h (effect_of why) effect left entries more ending (led (next_address s.thread.place len))
 
 -- ---- a call of the Nucleus
 
@@ -200,13 +217,13 @@ one-answer : (a b : Inst × ℕ) → Some a ≡ Some b → (a.0 ≡ b.0) × (a.1
 one-answer a b e = let same : a ≡ b = cc in (ap (λ x. x.0) same, ap (λ x. x.1) same)
 
 -- its arguments have their types
-call-typed : WellTypedImagesKeepTyping → (image : ImageParts) (s : State) (i : Inst) (len k : ℕ) (cpu : Cpu) (v : NucleusView) → AtInstruction image s i len cpu v
-    → Effect image s i len ≡ Some (Calls k) → CallTyped (scope_of image all_objects s) s (next_address s.thread.place len) k
-call-typed law image s i len k cpu v h effect =
-    let keeps = law image h.before.well_typed all_objects s h.before.typed in
+call-typed : WellTypedImagesKeepTyping → (image : ImageParts) (live : ℕ → Bool) (s : State) (i : Inst) (len k : ℕ) (cpu : Cpu) (v : NucleusView) → AtInstruction image live s i len cpu v
+    → Effect image s i len ≡ Some (Calls k) → CallTyped (scope_of image live s) s (next_address s.thread.place len) k
+call-typed law image live s i len k cpu v h effect =
+    let keeps = law image h.before.well_typed live s h.before.typed in
     let x = keeps.placed in
     let same = one-answer (x.inst, x.len) (i, len) (sym keeps.spelled ∙ h.here) in
-    let typed : EffectTyped image all_objects s (next_address s.thread.place len) (Effect image s i len) = rw (same.0, same.1) at keeps.typed in
+    let typed : EffectTyped image live s (next_address s.thread.place len) (Effect image s i len) = rw (same.0, same.1) at keeps.typed in
     rw effect at typed
 
 -- it is of an entry that is built
@@ -215,35 +232,37 @@ pub record IsBuiltEntry (k : ℕ) : Type 0 where
   pub most : k ≤ 10
 
 pub call-built : WellTypedImagesKeepTyping → AcceptedRuns → CallsNameEntries → (i : Inst) (len k : ℕ) (cpu ran : Cpu) (v after : NucleusView)
-    → ((image : ImageParts) (s : State) → AtInstruction image s i len cpu v → Stepped (step.Calls k) ran after image s (Effect image s i len)) → MayAct i len cpu v
+    → ((image : ImageParts) (live : ℕ → Bool) (s : State) → AtInstruction image live s i len cpu v → Stepped (step.Calls k) ran after image live s (Effect image s i len)) → MayAct i len cpu v
     → IsBuiltEntry k
-call-built law accepted names i len k cpu ran v after stepped (image, s, built, h) =
-    let (effect, both) = stepped-calls k ran after image s (Effect image s i len) (stepped image s h) in
-    let keeps = law image h.before.well_typed all_objects s h.before.typed in
+call-built law accepted names i len k cpu ran v after stepped (image, live, s, built, h) =
+    let (effect, both) = stepped-calls k ran after image live s (Effect image s i len) (stepped image live s h) in
+    let keeps = law image h.before.well_typed live s h.before.typed in
     let x = keeps.placed in
     let same = one-answer (x.inst, x.len) (i, len) (sym keeps.spelled ∙ h.here) in
     let at = ((accepted image h.before.well_typed).spelled s.thread.place x keeps.here).address in
     let none = rw (same.0, same.1, at) at (built-calls-none image s.thread.place x built keeps.here) in
-    let typed = call-typed law image s i len k cpu v h effect in
+    let typed = call-typed law image live s i len k cpu v h effect in
     record { least = entry-least (next_address s.thread.place len) k i none (names image s i len k effect); most = entry-most k typed.arguments typed.entry }
 
 -- the processor stands at the next instruction
-next-before : (image : ImageParts) (s : State) (i : Inst) (len : ℕ) (cpu ran : Cpu) (v after : NucleusView) → AtInstruction image s i len cpu v → BothStand image s ran after
-    → StandsBefore image all_objects s (next_address s.thread.place len) (record ran { pc = next_address ran.pc len }) after
-next-before image s i len cpu ran v after h both = record {
+next-before : (image : ImageParts) (live : ℕ → Bool) (s : State) (i : Inst) (len : ℕ) (cpu ran : Cpu) (v after : NucleusView) → AtInstruction image live s i len cpu v → BothStand image live s ran after
+    → StandsBefore image live s (next_address s.thread.place len) (record ran { pc = next_address ran.pc len }) after
+next-before image live s i len cpu ran v after h both = record {
   well_typed = h.before.well_typed;
   typed = h.before.typed;
   processor = record { regs = both.processor.regs; flags = both.processor.flags; place = ap (λ place. next_address place len) both.processor.place };
   nucleus = both.nucleus;
 }
 
-pub calls-lead : WellTypedImagesKeepTyping → (image : ImageParts) (turn : ℕ) (s : State) (i : Inst) (len k : ℕ) (cpu stood ran : Cpu) (v between after : NucleusView)
-    → AtInstruction image s i len cpu v → InTurn turn s → Stepped (step.Calls k) stood between image s (Effect image s i len) → (answers : List Answer) (entries more : List Entry)
-    → ((next : ℕ) → StandsBefore image all_objects s next (record stood { pc = next_address stood.pc len }) between
-    → CallTyped (scope_of image all_objects s) s next k → Leads image all_objects s answers entries more ran after (after_effect image answers next s (Calls k)))
-    → TurnLeads image turn answers entries more ran after None (instruction image answers s)
-calls-lead law image turn s i len k cpu stood ran v between after h now stepped answers entries more led =
-    let (effect, both) = stepped-calls k stood between image s (Effect image s i len) stepped in
-    effect-leads image turn s i len cpu ran v after h (Calls k) effect answers entries more None
-    (leads-on image turn s answers entries more ran after _ now
-    (led (next_address s.thread.place len) (next-before image s i len cpu stood v between h both) (call-typed law image s i len k cpu v h effect)))
+pub calls-lead : WellTypedImagesKeepTyping → (image : ImageParts) (live : ℕ → Bool) (turn : ℕ) (s : State) (i : Inst) (len k : ℕ) (cpu stood ran : Cpu) (v between after : NucleusView)
+    → AtInstruction image live s i len cpu v → InTurn turn s → Stepped (step.Calls k) stood between image live s (Effect image s i len)
+    → (left : List Answer) (entries more : List Entry)
+    → ((next : ℕ) → StandsBefore image live s next (record stood { pc = next_address stood.pc len }) between
+    → CallTyped (scope_of image live s) s next k → Leads image live s left entries more ran after (after_effect image left next s (Calls k)))
+    → TurnLeads image live turn left entries more ran after None (λ answers. instruction image answers s)
+calls-lead law image live turn s i len k cpu stood ran v between after h now stepped left entries more led =
+    let (effect, both) = stepped-calls k stood between image live s (Effect image s i len) stepped in
+    let next = next_address s.thread.place len in
+    effect-leads image live turn s i len cpu ran v after h (Calls k) effect left entries more None
+    (leads-on image live turn s left entries more ran after (λ answers. after_effect image answers next s (Calls k)) (effect-tells-none image left next s (Calls k)) now
+    (led next (next-before image live s i len cpu stood v between h both) (call-typed law image live s i len k cpu v h effect)))

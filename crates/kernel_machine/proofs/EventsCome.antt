@@ -6,7 +6,6 @@ use Rattle.device_model.specs.EventFile.{InOrderFrom}
 use Rattle.device_model.specs.History.{History}
 use Rattle.device_model.specs.Devices.{item_of, after_events}
 use Rattle.tal_image.specs.Image.{ImageParts}
-use Rattle.typed_machine.specs.Values.{all_objects}
 use Rattle.typed_machine.specs.States.{State}
 use Rattle.typed_machine.specs.Turns.{events_of}
 use Rattle.nucleus_calls.specs.Nucleus.{NucleusView, NucleusStands}
@@ -44,8 +43,8 @@ none-earlier earlier turn (event ∷ events) low h =
 pub record SoFar (events : List Event) (turn index : ℕ) (before now : NucleusView) : Type 0 where
   pub rest : (later : ℕ) → turn < later → events_of later events ≡ events_of later (drop index events)
   pub in_order : InOrderFrom turn (drop index events)
-  pub come : (image : ImageParts) (s : State) → NucleusStands image all_objects s before
-      → (h : History) × NucleusStands image all_objects (record s { devices = h }) now
+  pub come : (image : ImageParts) (live : ℕ → Bool) (s : State) → NucleusStands image live s before
+      → (h : History) × NucleusStands image live (record s { devices = h }) now
       × (after_events (events_of turn (drop index events)) h ≡ after_events (events_of turn events) s.devices)
 
 -- before the first
@@ -53,7 +52,7 @@ pub none-came : (events : List Event) (turn index : ℕ) (v : NucleusView) → C
 none-came events turn index v next = record {
   rest = λ later low. next.rest later (omega (arith, low));
   in_order = next.in_order;
-  come = λ image s stands. (s.devices, stands, ap (λ es. after_events es s.devices) (sym (next.rest turn (omega arith))));
+  come = λ image live s stands. (s.devices, stands, ap (λ es. after_events es s.devices) (sym (next.rest turn (omega arith))));
 }
 
 -- an event of the turn comes
@@ -66,10 +65,10 @@ one-came events turn index event before now after here is h due =
     record {
       rest = λ later low. h.rest later low ∙ ap (events_of later) front ∙ front-other later event _ (omega (arith, low, is));
       in_order = let order = rw front at h.in_order in rw is at order.2;
-      come = λ image s stands.
-          let c = h.come image s stands in
+      come = λ image live s stands.
+          let c = h.come image live s stands in
           let first = ap (events_of turn) front ∙ front-due turn event (drop (index + 1) events) is in
-          (item_of event.kind ∷ c.0, due image all_objects _ c.1, sym (ap (λ es. after_events es c.0) first) ∙ c.2);
+          (item_of event.kind ∷ c.0, due image live _ c.1, sym (ap (λ es. after_events es c.0) first) ∙ c.2);
     }
 
 -- the next event, if there is one, is of a later turn
@@ -91,8 +90,8 @@ pub all-came : (events : List Event) (turn index : ℕ) (o : Option Event) (befo
 all-came events turn index o before now here later h =
     let order = later-order events turn index o here later h.in_order in
     let none = none-earlier turn (turn + 1) (drop index events) (omega arith) order in (
-      λ image s stands.
-          let c = h.come image s stands in
+      λ image live s stands.
+          let c = h.come image live s stands in
           let is : c.0 ≡ after_events (events_of turn events) s.devices = sym (ap (λ es. after_events es c.0) none) ∙ c.2 in
           rw is at c.1,
       record { rest = λ after low. h.rest after (omega (arith, low)); in_order = order },

@@ -2,6 +2,7 @@ pub mod Cells
 pub mod UnbuiltCalls
 pub mod EventsCome
 pub mod NoAnswers
+pub mod MoreAnswers
 pub mod Showing
 pub mod Beginning
 pub mod EffectsLead

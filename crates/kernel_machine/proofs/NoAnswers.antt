@@ -4,7 +4,6 @@ use Rattle.std.specs.Option.{option_map, option_and_then, option_to_list}
 use Rattle.std.proofs.Common.{◌≡◌, ◌≤◌, ℕ, zero, suc, ◌==◌, Bool, true, false, if◌then◌else◌, List, [], ◌∷◌, ◌++◌, Option, Some, None, refl, ap, length, ◌∙◌, append_assoc, append-nil, arith}
 use Rattle.std.proofs.lemmas.Bool.Decides.{nat_tests}
 use Rattle.ia32_code.specs.declared.instruction.Inst.{Inst}
-use Rattle.device_model.specs.declared.events.Event.{Event}
 use Rattle.stack_states.specs.declared.journal_entry.Entry.{Entry}
 use Rattle.stack_states.specs.declared.journal_entry.EntryKind.{EntryKind}
 use Rattle.stack_states.specs.declared.journal_entry.EntryKind.TheVariants.{Call, Yield, Interrupt, Fault, Ended}
@@ -19,7 +18,7 @@ use Rattle.typed_machine.specs.Effects.{EffectView, Moves, Faults, Calls, Ends, 
 use Rattle.typed_machine.specs.Replies.{ReplyView, Replies, YieldsTo, Allocates, Collects, class_asked, array_asked, alloc_object, alloc_array, Reply}
 use Rattle.typed_machine.specs.Placing.{Answer, free_words}
 use Rattle.typed_machine.specs.Reaching.{Roots}
-use Rattle.typed_machine.specs.Turns.{Turned, turned, begun, line_granted, entry_of, kernel_goes_on, ended_by, answered, replied, after_effect, instruction, interrupt_or, TurnOf}
+use Rattle.typed_machine.specs.Turns.{Turned, turned, entry_of, kernel_goes_on, ended_by, answered, replied, after_effect, instruction, interrupted}
 use Rattle.kernel_machine.specs.Machine.{entry_answer, answers_of}
 
 -- where the turn takes no answer, its entry, if it has one, tells none
@@ -71,7 +70,7 @@ array-allocates s r e = go (array_asked (s.thread.regs Eax) (s.thread.regs Ecx))
     go (Some shape) f = (shape, cc)
 
 -- an effect
-effect-tells-none : (image : ImageParts) (answers : List Answer) (next : ℕ) (s : State) (e : EffectView) → TellsNone answers (after_effect image answers next s e)
+pub effect-tells-none : (image : ImageParts) (answers : List Answer) (next : ℕ) (s : State) (e : EffectView) → TellsNone answers (after_effect image answers next s e)
 unfolding Reply
 effect-tells-none image answers next s (Moves t) = λ same. (refl, refl)
 effect-tells-none image answers next s (Faults vector) = leaving-tells-none image answers s _ Fault vector _ (s.current == 0) refl
@@ -85,7 +84,7 @@ effect-tells-none image answers next s (Calls (suc (suc (suc k)))) =
 effect-tells-none image answers next s Ends = leaving-tells-none image answers s _ Ended 0 _ (s.current == 0) refl
 
 -- an instruction
-instruction-tells-none : (image : ImageParts) (answers : List Answer) (s : State) → TellsNone answers (instruction image answers s)
+pub instruction-tells-none : (image : ImageParts) (answers : List Answer) (s : State) → TellsNone answers (instruction image answers s)
 instruction-tells-none image answers s = go (inst_at image s.thread.place)
   where
     effect : (next : ℕ) (o : Option EffectView) → TellsNone answers (option_and_then (after_effect image answers next s) o)
@@ -97,20 +96,11 @@ instruction-tells-none image answers s = go (inst_at image s.thread.place)
     go None = tt
     go (Some i) = effect (next_address s.thread.place i.1) (Effect image s i.0 i.1)
 
--- a turn
-pub turn-tells-none : (image : ImageParts) (events : List Event) (answers : List Answer) (s : State) → TellsNone answers (TurnOf image events answers s)
-unfolding TurnOf
-turn-tells-none image events answers s = go (line_granted (begun events s))
-  where
-    go : (o : Option ℕ) → TellsNone answers (interrupt_or image answers (begun events s) o)
-    go None = instruction-tells-none image answers (begun events s)
-    go (Some line) = entry-tells-none answers (entry_of Interrupt line (begun events s)) _ refl
+-- an interrupt
+pub interrupt-tells-none : (image : ImageParts) (answers : List Answer) (line : ℕ) (s : State) → TellsNone answers (interrupted image answers line s)
+interrupt-tells-none image answers line s = entry-tells-none answers (entry_of Interrupt line s) _ refl
 
 -- the answers of entries one behind another
-answers-append : (xs ys : List Entry) → answers_of (xs ++ ys) ≡ answers_of xs ++ answers_of ys
+pub answers-append : (xs ys : List Entry) → answers_of (xs ++ ys) ≡ answers_of xs ++ answers_of ys
 answers-append [] ys = refl
 answers-append (x ∷ xs) ys = rw (answers-append xs ys) (simp append_assoc refl)
-
--- a turn's entry leaves them as they were
-pub answers-stay : (entries : List Entry) (r : Turned) → answers_of (option_to_list r.entry) ≡ [] → answers_of (entries ++ option_to_list r.entry) ≡ answers_of entries
-answers-stay entries r none = answers-append entries (option_to_list r.entry) ∙ rw none (append-nil (answers_of entries))

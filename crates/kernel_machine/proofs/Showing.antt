@@ -1,10 +1,10 @@
 -- A machine that stands for a typed state shows that state's words.
 use Rattle.std.specs.Prelude.{zero, suc, slice_index}
 use Rattle.std.specs.Option.{option_map_or}
-use Rattle.std.proofs.Common.{◌≡◌, ℕ, ◌+◌, ◌-◌, ◌*◌, ◌/◌, ◌<◌, ◌≤◌, ◌==◌, Bool, true, false, if◌then◌else◌, List, [], ◌∷◌, length, map, Some, slice_get, refl, sym, ◌∙◌, ap, ap₂, arith}
+use Rattle.std.proofs.Common.{◌≡◌, ℕ, ◌+◌, ◌-◌, ◌*◌, ◌/◌, ◌<◌, ◌≤◌, ◌==◌, nat_lt, Bool, true, false, if◌then◌else◌, List, [], ◌∷◌, length, map, Some, slice_get, refl, sym, ◌∙◌, ap, ap₂, arith}
 use Rattle.std.proofs.lemmas.Bool.Decides.{nat_tests}
 use Rattle.ia32_step.specs.declared.cpu.Cpu.{Cpu}
-use Rattle.object_layout.specs.Areas.{statics_start}
+use Rattle.object_layout.specs.Areas.{statics_start, stacks_start, heap_start}
 use Rattle.device_model.specs.History.{History}
 use Rattle.device_model.specs.Devices.{StandsFor}
 use Rattle.object_layout.specs.declared.rows.FieldTy.{FieldTy}
@@ -14,10 +14,11 @@ use Rattle.tal_image.specs.Conditions.{statics_fit}
 use Rattle.tal_image.specs.Shown.{shown}
 use Rattle.typed_machine.specs.Values.{Value, Word, all_objects}
 use Rattle.typed_machine.specs.States.{State, Stack, EmptyStack, RunningStack, YieldedStack, InterruptedStack, places_of, most_values}
+use Rattle.typed_machine.specs.Reaching.{live_in}
 use Rattle.typed_machine.specs.Typing.{TypedAmong}
 use Rattle.typed_machine.specs.Words.{upper_end, stack_pointer, esp_of}
 use Rattle.typed_safety.specs.Laws.{RunsAreTyped}
-use Rattle.word_machine.specs.Memory.{MemoryView, word_of, word_at, is_mapped}
+use Rattle.word_machine.specs.Memory.{MemoryView, word_of, word_at, is_mapped, is_open}
 use Rattle.word_machine.specs.Standing.{kept_values, values_at, HoldsValues, CpuStands, MemoryStands}
 use Rattle.nucleus_calls.specs.Nucleus.{state_by, states_by}
 use Rattle.run_report.specs.Shown.{ShownStack, ShownWords, shown_stacks, shown_of}
@@ -110,10 +111,10 @@ place-inside (y ∷ ys) zero x e = omega arith
 place-inside (y ∷ ys) (suc n) x e = let later = place-inside ys n x e in omega (arith, later)
 
 -- a stack's words are those of its values
-stack-shows : (image : ImageParts) (s : State) (cpu : Cpu) (m : MemoryView) → TypedAmong image all_objects s → CpuStands s cpu → MemoryStands image all_objects s m → (n : ℕ) (stack : Stack)
+stack-shows : (image : ImageParts) (live : ℕ → Bool) (s : State) (cpu : Cpu) (m : MemoryView) → TypedAmong image all_objects s → CpuStands s cpu → MemoryStands image live s m → (n : ℕ) (stack : Stack)
     → slice_get s.stacks n ≡ Some stack
     → stack_by cpu m n (state_by (places_of s) n stack) ≡ record { state = state_by (places_of s) n stack; words = map (Word (places_of s)) (values_at s n) }
-stack-shows image s cpu m typed h memory n stack here =
+stack-shows image live s cpu m typed h memory n stack here =
     let at = esp-is image s cpu typed h n stack here in
     let inside : n < image.stacks = rw typed.count at (place-inside s.stacks n stack here) in
     let depth = depth-is n (length (values_at s n)) at.few in
@@ -122,16 +123,16 @@ stack-shows image s cpu m typed h memory n stack here =
     (ap₂ (λ a k. words_from m a ((upper_end n - k) / 4)) at.esp at.esp ∙ (ap (words_from m (stack_pointer n (length (values_at s n)))) depth ∙ words))
 
 -- and so it is with all stacks from one on
-stacks-show : (image : ImageParts) (s : State) (cpu : Cpu) (m : MemoryView) → TypedAmong image all_objects s → CpuStands s cpu → MemoryStands image all_objects s m → (n : ℕ) (stacks : List Stack)
+stacks-show : (image : ImageParts) (live : ℕ → Bool) (s : State) (cpu : Cpu) (m : MemoryView) → TypedAmong image all_objects s → CpuStands s cpu → MemoryStands image live s m → (n : ℕ) (stacks : List Stack)
     → ((k : ℕ) (stack : Stack) → slice_get stacks k ≡ Some stack → slice_get s.stacks (n + k) ≡ Some stack)
     → stacks_by cpu m n (states_by (places_of s) n stacks) ≡ shown_stacks s n stacks
 unfolding stacks_by states_by shown_stacks
-stacks-show image s cpu m typed h memory n [] there = refl
-stacks-show image s cpu m typed h memory n (stack ∷ stacks) there =
+stacks-show image live s cpu m typed h memory n [] there = refl
+stacks-show image live s cpu m typed h memory n (stack ∷ stacks) there =
     let none : n + 0 ≡ n = omega arith in
     let here : slice_get s.stacks n ≡ Some stack = rw none at (there 0 stack refl) in
-    ap₂ (λ (x : ShownStack) xs. x ∷ xs) (stack-shows image s cpu m typed h memory n stack here)
-    (stacks-show image s cpu m typed h memory (n + 1) stacks
+    ap₂ (λ (x : ShownStack) xs. x ∷ xs) (stack-shows image live s cpu m typed h memory n stack here)
+    (stacks-show image live s cpu m typed h memory (n + 1) stacks
     (λ k x e. let next : n + suc k ≡ n + 1 + k = omega arith in rw next at (there (suc k) x e)))
 
 -- ---- all that is shown
@@ -147,11 +148,11 @@ stands-shows machine s typed h =
     let all : (k : ℕ) (stack : Stack) → slice_get s.stacks k ≡ Some stack → slice_get s.stacks (0 + k) ≡ Some stack =
     λ k stack e. let none : 0 + k ≡ k = omega arith in rw none e in
     let memory = machine.nucleus.memory in
-    let stacks = stacks-show machine.image s machine.cpu memory typed h.processor h.nucleus.memory 0 s.stacks all in
+    let stacks = stacks-show machine.image (live_in machine.image s) s machine.cpu memory typed.among h.processor h.nucleus.memory 0 s.stacks all in
     let statics = words-of-values memory (places_of s) statics_start s.statics h.nucleus.memory.statics in
     shown-same (shown_by machine) (shown_of s) h.processor.regs h.processor.flags h.processor.place
     (ap (stacks_by machine.cpu memory 0) h.nucleus.stacks ∙ stacks)
-    (ap (words_from memory statics_start) (sym typed.statics.count) ∙ statics)
+    (ap (words_from memory statics_start) (sym typed.among.statics.count) ∙ statics)
     (screen-same machine.nucleus.devices s.devices h.nucleus.devices)
 
 -- the law: the state that a run comes to is typed
@@ -240,17 +241,23 @@ value-there [] k low = absurd (omega (arith, low))
 value-there (v ∷ vs) zero low = (v, refl)
 value-there (v ∷ vs) (suc k) low = value-there vs k (omega (arith, low))
 
--- where a word stands, one is mapped
-there-mapped : (m : MemoryView) (a w : ℕ) → word_of m a ≡ Some w → is_mapped m a ≡ true
-unfolding is_mapped
-there-mapped m a w e = rw e refl
+-- where a word stands below the heap, one is mapped
+there-mapped : (m : MemoryView) (a w : ℕ) → a < heap_start → word_of m a ≡ Some w → is_mapped m a ≡ true
+unfolding is_mapped is_open
+there-mapped m a w low e = let below : nat_lt a heap_start ≡ true = grind (arith, nat_tests, low) in rw (e, below) refl
+
+-- the statics stand below the heap
+static-low : (n k : ℕ) → k < n → statics_start + 4 * n ≤ stacks_start → statics_start + 4 * k < heap_start
+static-low n k low short = omega (arith, low, short)
 
 -- the words of a lawful machine's statics are there
 pub statics-there : (machine : MachineView) (index : ℕ) → Lawful machine index → (k : ℕ) → k < length machine.image.statics
     → is_mapped machine.nucleus.memory (statics_start + 4 * k) ≡ true
 statics-there machine index h k low =
-    let v = value-there h.state.statics k (rw (← h.typed.among.statics.count) at low) in
-    there-mapped machine.nucleus.memory _ _ (h.stands.nucleus.memory.statics k v.0 v.1)
+    let inside : k < length h.state.statics = rw (← h.typed.among.statics.count) at low in
+    let v = value-there h.state.statics k inside in
+    there-mapped machine.nucleus.memory _ _ (static-low (length h.state.statics) k inside h.stands.nucleus.memory.lie.short)
+    (h.stands.nucleus.memory.statics k v.0 v.1)
 
 -- the devices of a lawful machine stand for a history
 pub history-there : (machine : MachineView) (index : ℕ) → Lawful machine index → (history : History) × StandsFor machine.nucleus.devices history

@@ -1,7 +1,7 @@
 -- A turn of a machine leads on as the typed machine's turn does, from every typed state that the machine stands for.
 use Rattle.std.specs.Prelude.{IsSome}
 use Rattle.std.specs.Option.{option_to_list}
-use Rattle.std.proofs.Common.{◌≡◌, ℕ, ◌+◌, ◌-◌, ◌≤◌, Bool, true, false, List, [], ◌++◌, length, drop, Option, Some, None, nat_le, is_some, refl, sym, ◌∙◌, ap, add-one, arith}
+use Rattle.std.proofs.Common.{◌≡◌, ◌≢◌, ◌⊎◌, inl, inr, ℕ, ◌+◌, ◌-◌, ◌≤◌, Bool, true, false, List, [], ◌++◌, length, drop, Option, Some, None, nat_le, is_some, refl, sym, ◌∙◌, ap, append-nil, add-one, arith}
 use Rattle.std.proofs.lemmas.Bool.Decides.{nat_tests}
 use Rattle.ia32_code.specs.declared.instruction.Inst.{Inst}
 use Rattle.ia32_code.specs.Decoding.{decoded, instruction_of}
@@ -20,15 +20,18 @@ use Rattle.typed_machine.specs.States.{State}
 use Rattle.typed_machine.specs.Code.{inst_at}
 use Rattle.typed_machine.specs.Placing.{Answer}
 use Rattle.typed_machine.specs.Turns.{Turned, begun, events_of, line_granted, interrupted, instruction, interrupt_or, TurnOf, Run, continued, RunOf}
+use Rattle.typed_machine.specs.Reaching.{live_in}
 use Rattle.typed_machine.specs.Typing.{TypedAmong, Typed}
-use Rattle.typed_safety.specs.Laws.{WellTypedImagesKeepTyping, TurnsKeepTyping, RunsAreTyped}
+use Rattle.typed_safety.specs.Laws.{WellTypedImagesKeepTyping, RunsAreTyped}
+use Rattle.word_machine.specs.Laws.{StandingFalls}
 use Rattle.nucleus_calls.specs.Nucleus.{NucleusView, NucleusStands}
 use Rattle.nucleus_calls.specs.Turning.{StandsBefore, AtInstruction, Leads}
 use Rattle.kernel_machine.specs.Built.{IsBuilt}
 use Rattle.kernel_machine.specs.Machine.{MachineView, Stands, Follows, ComesNext, Lawful, answers_of}
-use Rattle.kernel_machine.specs.Stepping.{viewed, HasCome, TurnLeads, InTurn, MayAct, TakesTurn}
+use Rattle.kernel_machine.specs.Stepping.{viewed, HasCome, TurnLeads, InTurn, MayAct, TakesTurn, TurnLaws}
 use Rattle.kernel_machine.proofs.EffectsLead.{nucleus-retold, leads-on}
-use Rattle.kernel_machine.proofs.NoAnswers.{turn-tells-none, answers-stay}
+use Rattle.kernel_machine.proofs.NoAnswers.{interrupt-tells-none, answers-append}
+use Rattle.kernel_machine.proofs.MoreAnswers.{run_extended, run-extends}
 
 -- ---- the instruction
 
@@ -63,30 +66,32 @@ typed-retold image live s devices turns ending h =
 
 -- what the code's proofs know of a machine that has not ended, once the events of its turn have come
 pub record Begun (image : ImageParts) (events : List Event) (cpu : Cpu) (v come : NucleusView) (turns : ℕ) (ending : Option Ending) (index : ℕ) : Type 0 where
+  pub laws : TurnLaws
   pub lawful : Lawful (viewed image events cpu v turns ending) index
   pub on : ending ≡ None
   pub has_come : HasCome (events_of (turns + 1) events) v come
 
-pub begun-turn : {image : ImageParts} {events : List Event} {cpu : Cpu} {v come : NucleusView} {turns : ℕ} {ending : Option Ending} {index : ℕ}
+pub begun-turn : {image : ImageParts} {events : List Event} {cpu : Cpu} {v come : NucleusView} {turns : ℕ} {ending : Option Ending} {index : ℕ} → TurnLaws
     → Lawful (viewed image events cpu v turns ending) index → ending ≡ None → HasCome (events_of (turns + 1) events) v come → Begun image events cpu v come turns ending index
-begun-turn lawful on has-come = record { lawful = lawful; on = on; has_come = has-come }
+begun-turn laws lawful on has-come = record { laws = laws; lawful = lawful; on = on; has_come = has-come }
 
 -- the Nucleus stands for the state at which they have come
-come-stands : (image : ImageParts) (events : List Event) (v come : NucleusView) (turns : ℕ) (s : State) → HasCome (events_of (turns + 1) events) v come → turns ≡ s.turns
-    → NucleusStands image all_objects s v → NucleusStands image all_objects (begun events s) come
-come-stands image events v come turns s has-come same stands =
-    let came : NucleusStands image all_objects (record s { devices = after_events (events_of (s.turns + 1) events) s.devices }) come = rw same at (has-come image s stands) in
-    nucleus-retold image all_objects (record s { devices = after_events (events_of (s.turns + 1) events) s.devices }) come (s.turns + 1) s.ending came
+come-stands : (image : ImageParts) (live : ℕ → Bool) (events : List Event) (v come : NucleusView) (turns : ℕ) (s : State) → HasCome (events_of (turns + 1) events) v come
+    → turns ≡ s.turns → NucleusStands image live s v → NucleusStands image live (begun events s) come
+come-stands image live events v come turns s has-come same stands =
+    let came : NucleusStands image live (record s { devices = after_events (events_of (s.turns + 1) events) s.devices }) come = rw same at (has-come image live s stands) in
+    nucleus-retold image live (record s { devices = after_events (events_of (s.turns + 1) events) s.devices }) come (s.turns + 1) s.ending came
 
 module _ {image : ImageParts} {events : List Event} {cpu : Cpu} {v come : NucleusView} {turns : ℕ} {ending : Option Ending} {index : ℕ}
     (h : Begun image events cpu v come turns ending index) where
-  -- processor and Nucleus stand for it
-  pub begun-before : (s : State) → Typed image s → Stands (viewed image events cpu v turns ending) s → StandsBefore image all_objects (begun events s) s.thread.place cpu come
+  -- processor and Nucleus stand for it, among the objects that a run can come to
+  pub begun-before : (s : State) → Typed image s → Stands (viewed image events cpu v turns ending) s
+      → StandsBefore image (live_in image s) (begun events s) s.thread.place cpu come
   begun-before s typed stands = record {
     well_typed = h.lawful.well_typed;
-    typed = typed-retold image all_objects s _ _ s.ending typed.among;
+    typed = typed-retold image (live_in image s) s _ _ s.ending (h.laws.least image h.lawful.well_typed all_objects s typed.among).typed;
     processor = record { regs = stands.processor.regs; flags = stands.processor.flags; place = stands.processor.place };
-    nucleus = come-stands image events v come turns s h.has_come stands.turns stands.nucleus;
+    nucleus = come-stands image (live_in image s) events v come turns s h.has_come stands.turns stands.nucleus;
   }
 
   -- it is in the turn
@@ -95,13 +100,14 @@ module _ {image : ImageParts} {events : List Event} {cpu : Cpu} {v come : Nucleu
 
   -- the instruction of the processor's place stands at it
   begun-at : (i : Inst) (len : ℕ) → inst_at image cpu.pc ≡ Some (i, len) → (s : State) → Typed image s → Stands (viewed image events cpu v turns ending) s
-      → AtInstruction image (begun events s) i len cpu come
+      → AtInstruction image (live_in image s) (begun events s) i len cpu come
   begun-at i len here s typed stands = record { before = begun-before s typed stands; here = rw stands.processor.place at here }
 
   -- the instruction may act
   pub may-act : (i : Inst) (len : ℕ) → inst_at image cpu.pc ≡ Some (i, len) → MayAct i len cpu come
   may-act i len here =
-      (image, begun events h.lawful.state, h.lawful.built, begun-at i len here h.lawful.state h.lawful.typed h.lawful.stands)
+      let s = h.lawful.state in
+      (image, live_in image s, begun events s, h.lawful.built, begun-at i len here s h.lawful.typed h.lawful.stands)
 
   -- what `accept` tells of the line that is granted
   abbrev pub Grants : Bool → Type 0
@@ -117,76 +123,121 @@ module _ {image : ImageParts} {events : List Event} {cpu : Cpu} {v come : Nucleu
     image = refl;
     events = refl;
     turns = refl;
-    leads = λ s typed stands answers.
+    leads = λ s typed stands left.
         let before = begun-before s typed stands in
-        go s answers before (begun-now s stands) (line_granted (begun events s)) refl (grants image all_objects (begun events s) before.typed before.nucleus);
+        go (live_in image s) (begun events s) left before (begun-now s stands) (line_granted (begun events s)) refl
+        (grants image (live_in image s) (begun events s) before.typed before.nucleus);
   }
     where
-      go : (s : State) (answers : List Answer) → StandsBefore image all_objects (begun events s) s.thread.place cpu come → InTurn (turns + 1) (begun events s)
-          → (o : Option ℕ) → line_granted (begun events s) ≡ o → true ≡ is_some o
-          → TurnLeads image (turns + 1) answers entries more ran after ending (interrupt_or image answers (begun events s) o)
-      go s answers before now None line granted = absurd (cc)
-      go s answers before now (Some n) line granted =
-          rw h.on (leads-on image (turns + 1) (begun events s) answers entries more ran after _ now
-          (led image all_objects (begun events s) before now.turns n line answers))
+      go : (live : ℕ → Bool) (s : State) (left : List Answer) → StandsBefore image live s s.thread.place cpu come → InTurn (turns + 1) s
+          → (o : Option ℕ) → line_granted s ≡ o → true ≡ is_some o
+          → TurnLeads image live (turns + 1) left entries more ran after ending (λ answers. interrupt_or image answers s o)
+      go live s left before now None line granted = absurd (cc)
+      go live s left before now (Some n) line granted =
+          rw h.on (leads-on image live (turns + 1) s left entries more ran after (λ answers. interrupted image answers n s) (interrupt-tells-none image left n s) now
+          (led image live s before now.turns n line left))
 
   -- none is, and the instruction has its effect
   pub act-takes : Grants false → (i : Inst) (len : ℕ) → inst_at image cpu.pc ≡ Some (i, len) → (entries more : List Entry) (ran : Cpu) (after : NucleusView) (end : Option Ending)
-      → ((image : ImageParts) (s : State) → IsBuilt image → AtInstruction image s i len cpu come → InTurn (turns + 1) s → (answers : List Answer)
-      → TurnLeads image (turns + 1) answers entries more ran after end (instruction image answers s))
+      → ((image : ImageParts) (live : ℕ → Bool) (s : State) → IsBuilt image → AtInstruction image live s i len cpu come → InTurn (turns + 1) s → (left : List Answer)
+      → TurnLeads image live (turns + 1) left entries more ran after end (λ answers. instruction image answers s))
       → TakesTurn (viewed image events cpu v turns ending) (viewed image events ran after (turns + 1) end) entries more
   unfolding TurnOf
   act-takes grants i len here entries more ran after end led = record {
     image = refl;
     events = refl;
     turns = refl;
-    leads = λ s typed stands answers.
+    leads = λ s typed stands left.
         let before = begun-before s typed stands in
-        go s answers (begun-at i len here s typed stands) (begun-now s stands) (line_granted (begun events s))
-        (grants image all_objects (begun events s) before.typed before.nucleus);
+        go (live_in image s) (begun events s) left (begun-at i len here s typed stands) (begun-now s stands) (line_granted (begun events s))
+        (grants image (live_in image s) (begun events s) before.typed before.nucleus);
   }
     where
-      go : (s : State) (answers : List Answer) → AtInstruction image (begun events s) i len cpu come → InTurn (turns + 1) (begun events s)
-          → (o : Option ℕ) → false ≡ is_some o → TurnLeads image (turns + 1) answers entries more ran after end (interrupt_or image answers (begun events s) o)
-      go s answers at now None granted = led image (begun events s) h.lawful.built at now answers
-      go s answers at now (Some n) granted = absurd (cc)
+      go : (live : ℕ → Bool) (s : State) (left : List Answer) → AtInstruction image live s i len cpu come → InTurn (turns + 1) s
+          → (o : Option ℕ) → false ≡ is_some o → TurnLeads image live (turns + 1) left entries more ran after end (λ answers. interrupt_or image answers s o)
+      go live s left at now None granted = led image live s h.lawful.built at now left
+      go live s left at now (Some n) granted = absurd (cc)
 
 -- ---- after a turn
 
--- the state after a turn from a typed one is typed
-typed-after : TurnsKeepTyping → (image moved : ImageParts) → moved ≡ image → WellTyped image → (events : List Event) (answers : List Answer) (s : State) (r : Turned)
-    → Typed image s → TurnOf image events answers s ≡ Some r → r.left ≡ answers → Typed moved r.state
-typed-after law image moved same w events answers s r typed e left =
-    let none = rw e at (turn-tells-none image events answers s) in rw same ((rw e at (law image w events answers s typed)) (none left).0)
+-- a Nucleus that stands among objects stands among fewer
+nucleus-falls : StandingFalls → (image : ImageParts) (more live : ℕ → Bool) (s : State) (v : NucleusView) → ((i : ℕ) → live i ≡ true → more i ≡ true)
+    → NucleusStands image more s v → NucleusStands image live s v
+nucleus-falls law image more live s v fewer h =
+    record { memory = law image more live s v.memory fewer h.memory; stacks = h.stacks; starts = h.starts; devices = h.devices }
 
--- the machine stands for the state that a turn comes to
-after-stands : (before after : MachineView) (entries more : List Entry) → TakesTurn before after entries more → (s : State) → Typed before.image s → Stands before s
-    → (answers : List Answer) → (r : Turned) × (TurnOf before.image before.events answers s ≡ Some r) × Stands after r.state × (more ≡ entries ++ option_to_list r.entry)
-    × (r.left ≡ answers)
-after-stands before after entries more takes s typed stands answers =
-    let (r, is, led) = takes.leads s typed stands answers in
-    (r, is, record { processor = led.processor; nucleus = rw takes.image led.nucleus; turns = led.turns; ending = led.ending }, led.entries, led.left)
+-- what a turn from a typed state comes to: the state is typed, and the machine stands for it
+pub record TurnComesTo (before after : MachineView) (entries more : List Entry) (s : State) (left : List Answer) : Type 0 where
+  pub told : List Answer
+  pub comes_to : Turned
+  pub is : TurnOf before.image before.events (told ++ left) s ≡ Some comes_to
+  pub typed : Typed after.image comes_to.state
+  pub stands : Stands after comes_to.state
+  pub entries_are : more ≡ entries ++ option_to_list comes_to.entry
+  pub tells : answers_of (option_to_list comes_to.entry) ≡ told
+  pub others : comes_to.left ≡ left
+  pub legal : comes_to.legal ≡ true
+
+pub turn-comes-to : TurnLaws → (before after : MachineView) (entries more : List Entry) → WellTyped before.image → TakesTurn before after entries more
+    → (s : State) → Typed before.image s → Stands before s → (left : List Answer) → TurnComesTo before after entries more s left
+turn-comes-to laws before after entries more w takes s typed stands left =
+    let (told, r, is, led) = takes.leads s typed stands left in
+    record {
+      told = told;
+      comes_to = r;
+      is = is;
+      typed = rw takes.image ((rw is at (laws.typing before.image w before.events (told ++ left) s typed)) led.legal);
+      stands = record {
+        processor = led.processor;
+        nucleus = rw takes.image (nucleus told r is led.others led.legal led.nucleus);
+        turns = led.turns;
+        ending = led.ending;
+      };
+      entries_are = led.entries;
+      tells = led.tells;
+      others = led.others;
+      legal = led.legal;
+    }
+  where
+    live : ℕ → Bool
+    live = live_in before.image s
+
+    -- where no answer was taken, what a run can come to it could come to before
+    fewer : (told : List Answer) (r : Turned) → TurnOf before.image before.events (told ++ left) s ≡ Some r → r.left ≡ left → r.legal ≡ true → told ≡ []
+        → (i : ℕ) → live_in before.image r.state i ≡ true → live i ≡ true
+    fewer told r is others legal none i lives = go (laws.shrinks before.image w before.events (told ++ left) s typed r is legal i lives)
+      where
+        go : (live i ≡ true) ⊎ ((r.left ≢ told ++ left) × (i ≡ length s.store)) → live i ≡ true
+        go (inl h) = h
+        go (inr (taken, new)) = absurd (taken (others ∙ (rw none refl)))
+
+    nucleus : (told : List Answer) (r : Turned) → TurnOf before.image before.events (told ++ left) s ≡ Some r → r.left ≡ left → r.legal ≡ true
+        → ((told ≡ []) × NucleusStands before.image live r.state after.nucleus) ⊎ NucleusStands before.image (live_in before.image r.state) r.state after.nucleus
+        → NucleusStands before.image (live_in before.image r.state) r.state after.nucleus
+    nucleus told r is others legal (inl (none, h)) =
+        nucleus-falls laws.falls before.image live (live_in before.image r.state) r.state after.nucleus (fewer told r is others legal none) h
+    nucleus told r is others legal (inr h) = h
 
 -- a lawful machine is lawful after a turn
-pub turn-lawful : TurnsKeepTyping → (before after : MachineView) (entries more : List Entry) (index next : ℕ) → Lawful before index → TakesTurn before after entries more
+pub turn-lawful : TurnLaws → (before after : MachineView) (entries more : List Entry) (index next : ℕ) → Lawful before index → TakesTurn before after entries more
     → ComesNext before.events next (before.turns + 1 + 1) → Lawful after next
-turn-lawful law before after entries more index next h takes comes =
-    let (r, is, stands, added, left) = after-stands before after entries more takes h.state h.typed h.stands [] in
+turn-lawful laws before after entries more index next h takes comes =
+    let t = turn-comes-to laws before after entries more h.well_typed takes h.state h.typed h.stands [] in
     record {
       well_typed = rw takes.image h.well_typed;
       built = rw takes.image h.built;
-      state = r.state;
-      typed = typed-after law before.image after.image takes.image h.well_typed before.events [] h.state r h.typed is left;
-      stands = stands;
+      state = t.comes_to.state;
+      typed = t.typed;
+      stands = t.stands;
       next = rw (takes.events, takes.turns) comes;
     }
 
 -- at most one entry is added
-pub turn-adds : (before after : MachineView) (entries more : List Entry) (index : ℕ) → Lawful before index → TakesTurn before after entries more
+pub turn-adds : TurnLaws → (before after : MachineView) (entries more : List Entry) (index : ℕ) → Lawful before index → TakesTurn before after entries more
     → (entry : Option Entry) × (more ≡ entries ++ option_to_list entry)
-turn-adds before after entries more index h takes =
-    let (r, is, stands, added, left) = after-stands before after entries more takes h.state h.typed h.stands [] in
-    (r.entry, added)
+turn-adds laws before after entries more index h takes =
+    let t = turn-comes-to laws before after entries more h.well_typed takes h.state h.typed h.stands [] in
+    (t.comes_to.entry, t.entries_are)
 
 -- a run of a turn more
 run-more : (image : ImageParts) (events : List Event) (n : ℕ) (answers : List Answer) (r : Run) (t : Turned) → RunOf image events n answers ≡ Some r
@@ -200,23 +251,26 @@ run-same : (image moved : ImageParts) (events came : List Event) (n turns : ℕ)
 run-same image moved events came n turns answers told r images lists counts answered reached = rw (images, lists, counts, answered) reached
 
 -- a turn goes on from what the journal tells
-pub turn-follows : RunsAreTyped → (before after : MachineView) (entries more : List Entry) (index : ℕ) → Lawful before index → TakesTurn before after entries more
+pub turn-follows : TurnLaws → RunsAreTyped → (before after : MachineView) (entries more : List Entry) (index : ℕ) → Lawful before index → TakesTurn before after entries more
     → before.ending ≡ None → Follows before entries → Follows after more
-turn-follows law before after entries more index h takes on f =
+turn-follows laws law before after entries more index h takes on f =
     let off : f.run.state.ending ≡ None = sym f.stands.ending ∙ on in
     let typed = (law before.image h.well_typed before.events before.turns (answers_of entries) f.run f.legal.reached f.legal.legal).typed in
-    let (r, is, stands, added, left) = after-stands before after entries more takes f.run.state typed f.stands f.run.left in
-    let none = (rw is at (turn-tells-none before.image before.events f.run.left f.run.state)) left in
-    let same : answers_of more ≡ answers_of entries = ap answers_of (added) ∙ answers-stay entries r none.1 in
+    let t = turn-comes-to laws before after entries more h.well_typed takes f.run.state typed f.stands [] in
+    let longer : Run = run_extended t.told f.run in
+    let answers : answers_of more ≡ answers_of entries ++ t.told =
+    ap answers_of t.entries_are ∙ answers-append entries (option_to_list t.comes_to.entry) ∙ ap (λ es. answers_of entries ++ es) t.tells in
+    let left : longer.left ≡ t.told ++ [] = ap (λ es. es ++ t.told) f.legal.used ∙ sym (append-nil t.told) in
     record {
-      run = continued f.run r;
+      run = continued longer t.comes_to;
       legal = record {
-        reached = run-same before.image after.image before.events after.events (before.turns + 1) after.turns (answers_of entries) (answers_of more) (continued f.run r)
-            takes.image takes.events takes.turns same
-            (run-more before.image before.events before.turns (answers_of entries) f.run r f.legal.reached off is);
-        used = left ∙ f.legal.used;
-        legal = rw (f.legal.legal, none.0) refl;
+        reached = run-same before.image after.image before.events after.events (before.turns + 1) after.turns (answers_of entries ++ t.told) (answers_of more) (continued longer t.comes_to)
+            takes.image takes.events takes.turns answers
+            (run-more before.image before.events before.turns (answers_of entries ++ t.told) longer t.comes_to
+            (run-extends t.told before.image before.events before.turns (answers_of entries) f.run f.legal.reached) off (rw left t.is));
+        used = t.others;
+        legal = rw (f.legal.legal, t.legal) refl;
       };
-      entries_are = ap (λ es. es ++ option_to_list r.entry) f.entries_are ∙ sym added;
-      stands = stands;
+      entries_are = ap (λ es. es ++ option_to_list t.comes_to.entry) f.entries_are ∙ sym t.entries_are;
+      stands = t.stands;
     }

@@ -1,6 +1,6 @@
 -- How a machine is made of its parts, and what a turn does to it. No public promise rests on these words but by `viewed`, which
 -- says what a `Machine` means.
-use Rattle.std.specs.Prelude.{◌≡◌, ℕ, ◌+◌, List, ◌++◌, Option, Some, None}
+use Rattle.std.specs.Prelude.{◌≡◌, ◌⊎◌, ℕ, ◌+◌, Bool, true, List, [], ◌++◌, Option, Some, None}
 use Rattle.std.specs.Option.{option_to_list}
 use Rattle.ia32_code.specs.declared.instruction.Inst.{Inst}
 use Rattle.ia32_step.specs.declared.cpu.Cpu.{Cpu}
@@ -10,18 +10,20 @@ use Rattle.stack_states.specs.declared.journal_entry.Entry.{Entry}
 use Rattle.tal_image.specs.Image.{ImageParts}
 use Rattle.typed_machine.specs.declared.ending.Ending.{Ending}
 use Rattle.typed_machine.specs.declared.ending.Ending.TheVariants.{Halted, KernelFault}
-use Rattle.typed_machine.specs.Values.{all_objects}
 use Rattle.typed_machine.specs.States.{State}
 use Rattle.typed_machine.specs.Placing.{Answer}
 use Rattle.typed_machine.specs.Turns.{Turned, TurnOf}
+use Rattle.typed_machine.specs.Reaching.{live_in}
 use Rattle.typed_machine.specs.Typing.{Typed}
+use Rattle.typed_safety.specs.Laws.{TurnsKeepTyping, LiveObjectsAreLeast, ReachShrinks}
 use Rattle.word_machine.specs.Standing.{CpuStands}
+use Rattle.word_machine.specs.Laws.{StandingFalls}
 use Rattle.nucleus_calls.specs.declared.outcome.Leaving.{Leaving}
 use Rattle.nucleus_calls.specs.declared.outcome.Leaving.TheVariants as leaving
 use Rattle.nucleus_calls.specs.Nucleus.{NucleusView, NucleusStands}
 use Rattle.nucleus_calls.specs.Turning.{StandsBefore, AtInstruction}
 use Rattle.kernel_machine.specs.Built.{IsBuilt}
-use Rattle.kernel_machine.specs.Machine.{MachineView, Stands}
+use Rattle.kernel_machine.specs.Machine.{MachineView, Stands, answers_of}
 
 -- a machine of these parts, as contracts see it
 abbrev pub viewed : ImageParts → List Event → Cpu → NucleusView → ℕ → Option Ending → MachineView
@@ -33,25 +35,30 @@ viewed image events cpu nucleus turns ending =
 -- the Nucleus stands for the state with these events more
 abbrev pub HasCome : List Event → NucleusView → NucleusView → Type 0
 HasCome events before after =
-    (image : ImageParts) (s : State) → NucleusStands image all_objects s before
-    → NucleusStands image all_objects (record s { devices = after_events events s.devices }) after
+    (image : ImageParts) (live : ℕ → Bool) (s : State) → NucleusStands image live s before
+    → NucleusStands image live (record s { devices = after_events events s.devices }) after
 
 -- ---- the instruction of a turn
 
 -- Processor and Nucleus stand for the state that a turn comes to, which has so many turns and this end; the turn's entry is the
--- journal's last, and no answer is taken.
-pub record TurnStands (image : ImageParts) (turn : ℕ) (answers : List Answer) (before after : List Entry) (cpu : Cpu) (v : NucleusView) (end : Option Ending)
-    (r : Turned) : Type 0 where
+-- journal's last. The turn took the answers that the entry tells, which were legal, and left the others. Where it took none, the
+-- Nucleus stands among the objects that lived before; else among those that a run can come to.
+pub record TurnStands (image : ImageParts) (live : ℕ → Bool) (turn : ℕ) (told left : List Answer) (before after : List Entry) (cpu : Cpu) (v : NucleusView)
+    (end : Option Ending) (r : Turned) : Type 0 where
   pub processor : CpuStands r.state cpu
-  pub nucleus : NucleusStands image all_objects r.state v
+  pub nucleus : ((told ≡ []) × NucleusStands image live r.state v) ⊎ NucleusStands image (live_in image r.state) r.state v
   pub turns : turn ≡ r.state.turns
   pub ending : end ≡ r.state.ending
   pub entries : after ≡ before ++ option_to_list r.entry
-  pub left : r.left ≡ answers
+  pub tells : answers_of (option_to_list r.entry) ≡ told
+  pub others : r.left ≡ left
+  pub legal : r.legal ≡ true
 
--- the turn is defined, and they stand for what it comes to
-abbrev pub TurnLeads : ImageParts → ℕ → List Answer → List Entry → List Entry → Cpu → NucleusView → Option Ending → Option Turned → Type 0
-TurnLeads image turn answers before after cpu v end o = (r : Turned) × (o ≡ Some r) × TurnStands image turn answers before after cpu v end r
+-- With the answers that its entry tells the turn is defined, and they stand for what it comes to.
+abbrev pub TurnLeads : ImageParts → (ℕ → Bool) → ℕ → List Answer → List Entry → List Entry → Cpu → NucleusView → Option Ending → (List Answer → Option Turned)
+    → Type 0
+TurnLeads image live turn left before after cpu v end takes =
+    (told : List Answer) × (r : Turned) × (takes (told ++ left) ≡ Some r) × TurnStands image live turn told left before after cpu v end r
 
 -- a state in this turn that has not ended
 pub record InTurn (turn : ℕ) (s : State) : Type 0 where
@@ -65,11 +72,11 @@ ending_by leaving.Ended eax = Halted eax
 
 -- the running stack of a typed state may leave
 abbrev pub MayLeave : Cpu → NucleusView → Type 0
-MayLeave cpu v = (image : ImageParts) × (s : State) × StandsBefore image all_objects s s.thread.place cpu v
+MayLeave cpu v = (image : ImageParts) × (live : ℕ → Bool) × (s : State) × StandsBefore image live s s.thread.place cpu v
 
 -- a built image has such a state at the instruction
 abbrev pub MayAct : Inst → ℕ → Cpu → NucleusView → Type 0
-MayAct i len cpu v = (image : ImageParts) × (s : State) × IsBuilt image × AtInstruction image s i len cpu v
+MayAct i len cpu v = (image : ImageParts) × (live : ℕ → Bool) × (s : State) × IsBuilt image × AtInstruction image live s i len cpu v
 
 -- ---- the turn
 
@@ -79,5 +86,13 @@ pub record TakesTurn (before after : MachineView) (entries more : List Entry) : 
   pub image : after.image ≡ before.image
   pub events : after.events ≡ before.events
   pub turns : after.turns ≡ before.turns + 1
-  pub leads : (s : State) → Typed before.image s → Stands before s → (answers : List Answer)
-      → TurnLeads before.image after.turns answers entries more after.cpu after.nucleus after.ending (TurnOf before.image before.events answers s)
+  pub leads : (s : State) → Typed before.image s → Stands before s → (left : List Answer)
+      → TurnLeads before.image (live_in before.image s) after.turns left entries more after.cpu after.nucleus after.ending
+      (λ answers. TurnOf before.image before.events answers s)
+
+-- the laws of turns that a machine's turns rest on
+pub record TurnLaws : Type 0 where
+  pub typing : TurnsKeepTyping
+  pub least : LiveObjectsAreLeast
+  pub shrinks : ReachShrinks
+  pub falls : StandingFalls

@@ -1,8 +1,7 @@
 // What the instruction of a turn comes to, over the processor and the Nucleus.
-ghost use Rattle.std.specs.Prelude.{◌≡◌, ◌≢◌, ℕ, ◌≤◌, ◌+◌, List, None};
+ghost use Rattle.std.specs.Prelude.{◌≡◌, ◌≢◌, ℕ, ◌≤◌, ◌+◌, Bool, List, None};
 ghost use Rattle.ia32_code.specs.Canonical.{Canonical};
 ghost use Rattle.tal_image.specs.Image.{ImageParts};
-ghost use Rattle.typed_machine.specs.Values.{all_objects};
 ghost use Rattle.typed_machine.specs.States.{State};
 ghost use Rattle.typed_machine.specs.Placing.{Answer};
 ghost use Rattle.typed_machine.specs.Turns.{after_effect, instruction};
@@ -38,9 +37,9 @@ pub(crate) fn act(
     requires spelled { Canonical inst.now ≢ None }
     requires acts { MayAct inst.now len cpu.old nucleus.old }
     requires room { 1 ≤ journal.old.spare }
-    ensures turn { (image : ImageParts) (s : State) → IsBuilt image → AtInstruction image s inst.now len cpu.old nucleus.old → InTurn turn s
-        → (answers : List Answer)
-        → TurnLeads image turn answers journal.old.entries journal.new.entries cpu.new nucleus.new result (instruction image answers s) }
+    ensures turn { (image : ImageParts) (live : ℕ → Bool) (s : State) → IsBuilt image → AtInstruction image live s inst.now len cpu.old nucleus.old → InTurn turn s
+        → (left : List Answer)
+        → TurnLeads image live turn left journal.old.entries journal.new.entries cpu.new nucleus.new result (λ answers. instruction image answers s) }
     ensures spare { journal.old.spare ≤ journal.new.spare + 1 }
 {
     // A call has its arguments and is one of an entry that is built.
@@ -70,9 +69,10 @@ fn finish(
 ) -> Option<Ending>
     requires leaves { MayLeave cpu.old nucleus.old }
     requires room { 1 ≤ journal.old.spare }
-    ensures turn { (image : ImageParts) (s : State) → StandsBefore image all_objects s s.thread.place cpu.old nucleus.old → InTurn turn s
-        → (answers : List Answer) (next : ℕ)
-        → TurnLeads image turn answers journal.old.entries journal.new.entries cpu.new nucleus.new result (after_effect image answers next s (effect_of why)) }
+    ensures turn { (image : ImageParts) (live : ℕ → Bool) (s : State) → StandsBefore image live s s.thread.place cpu.old nucleus.old → InTurn turn s
+        → (left : List Answer) (next : ℕ)
+        → TurnLeads image live turn left journal.old.entries journal.new.entries cpu.new nucleus.new result
+        (λ answers. after_effect image answers next s (effect_of why)) }
     ensures spare { journal.old.spare ≤ journal.new.spare + 1 }
 {
     if nucleus.running() == KERNEL {

@@ -12,7 +12,7 @@ ghost use Rattle.typed_machine.specs.Code.{inst_at};
 ghost use Rattle.kernel_machine.specs.Built.{IsBuilt};
 ghost use Rattle.kernel_machine.specs.Shown.{esp_by};
 ghost use Rattle.kernel_machine.specs.Machine.{Follows, turn_of, end_of};
-ghost use Rattle.kernel_machine.specs.Stepping.{TakesTurn};
+ghost use Rattle.kernel_machine.specs.Stepping.{TakesTurn, TurnLaws};
 
 use crate::acting::act;
 use crate::events::enter_events;
@@ -33,8 +33,12 @@ use tal_checker::laws::accepted_runs;
 use tal_image::Image;
 use tal_types::ImageView;
 use typed_machine::Ending;
-use typed_safety::laws::{runs_are_typed, turns_keep_typing, well_typed_images_keep_typing};
+use typed_safety::laws::{
+    live_objects_are_least, reach_shrinks, runs_are_typed, turns_keep_typing,
+    well_typed_images_keep_typing,
+};
 use word_machine::STACK_WORDS;
+use word_machine::laws::standing_falls;
 
 const ESP: usize = 4;
 
@@ -107,6 +111,16 @@ fn turn_of(ending: Option<Ending>) -> Turn
     }
 }
 
+// The laws of turns: facts for the proofs.
+fn turns_lawful()
+    ensures { TurnLaws }
+{
+    turns_keep_typing();
+    live_objects_are_least();
+    reach_shrinks();
+    standing_falls();
+}
+
 impl Machine {
     /// A machine before its first turn: stack 0 runs at its function, with all registers 0 and all flags clear.
     ///
@@ -165,7 +179,7 @@ impl Machine {
         ensures answer { result ≡ turn_of self.new.ending }
     {
         runs_are_typed();
-        turns_keep_typing();
+        turns_lawful();
         if !self.has_ended() {
             self.step(journal);
         }
@@ -209,7 +223,7 @@ impl Machine {
         // In an accepted image an instruction stands at the place, and it is well typed.
         accepted_runs();
         well_typed_images_keep_typing();
-        turns_keep_typing();
+        turns_lawful();
         let turn = self.turns + 1;
         self.turns = turn;
         self.next_event = enter_events(&mut self.nucleus, &self.events, self.next_event, turn);

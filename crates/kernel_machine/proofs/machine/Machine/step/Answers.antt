@@ -4,13 +4,13 @@ use Rattle.kernel_machine.proofs.machine.Machine.step.Goals as goal
 
 pub returns-then-accept-clause-takes : goal.returns-then-accept-clause-takes
 returns-then-accept-clause-takes c =
-    let begun = begun-turn c.self.invariant (ap (λ v. v.ending) c.self.view_is ∙ c.requires.on) (rw c.deref.ensures.value at c.enter_events-self-inside.ensures.come) in
+    let begun = begun-turn c.turns_lawful.ensures c.self.invariant (ap (λ v. v.ending) c.self.view_is ∙ c.requires.on) (rw c.deref.ensures.value at c.enter_events-self-inside.ensures.come) in
     rw (← c.self.view_is) (accept-takes begun c.if-accept.ensures.grants _ _ _ _ c.if-accept.ensures.turn)
 
 pub invariant_of-self : goal.invariant_of-self
 invariant_of-self c =
-    let begun = begun-turn c.self.invariant (ap (λ v. v.ending) c.self.view_is ∙ c.requires.on) (rw c.deref.ensures.value at c.enter_events-self-inside.ensures.come) in
-    turn-lawful c.turns_keep_typing.ensures _ _ _ _ _ _ c.self.invariant (accept-takes begun c.if-accept.ensures.grants _ _ _ _ c.if-accept.ensures.turn)
+    let begun = begun-turn c.turns_lawful.ensures c.self.invariant (ap (λ v. v.ending) c.self.view_is ∙ c.requires.on) (rw c.deref.ensures.value at c.enter_events-self-inside.ensures.come) in
+    turn-lawful c.turns_lawful.ensures _ _ _ _ _ _ c.self.invariant (accept-takes begun c.if-accept.ensures.grants _ _ _ _ c.if-accept.ensures.turn)
     (rw c.deref.ensures.value at c.enter_events-self-inside.ensures.next)
 
 pub inst_in-inst-requires-clause-low : goal.inst_in-inst-requires-clause-low
@@ -27,22 +27,22 @@ inst_in-inst-requires-clause-whole c =
 
 pub act-self-inside-requires-clause-acts : goal.act-self-inside-requires-clause-acts
 act-self-inside-requires-clause-acts c =
-    let begun = begun-turn c.self.invariant (ap (λ v. v.ending) c.self.view_is ∙ c.requires.on) (rw c.deref.ensures.value at c.enter_events-self-inside.ensures.come) in
+    let begun = begun-turn c.turns_lawful.ensures c.self.invariant (ap (λ v. v.ending) c.self.view_is ∙ c.requires.on) (rw c.deref.ensures.value at c.enter_events-self-inside.ensures.come) in
     let none = c.if-accept.ensures.none refl in
     rw (none.0, none.1) (may-act begun _ _ (rw (none.1, c.image.ensures.value) at c.inst_in-inst.ensures.here))
 
 pub returns-clause-takes : goal.returns-clause-takes
 returns-clause-takes c =
-    let begun = begun-turn c.self.invariant (ap (λ v. v.ending) c.self.view_is ∙ c.requires.on) (rw c.deref.ensures.value at c.enter_events-self-inside.ensures.come) in
+    let begun = begun-turn c.turns_lawful.ensures c.self.invariant (ap (λ v. v.ending) c.self.view_is ∙ c.requires.on) (rw c.deref.ensures.value at c.enter_events-self-inside.ensures.come) in
     let none = c.if-accept.ensures.none refl in
     rw (← c.self.view_is) (act-takes begun c.if-accept.ensures.grants _ _ (rw (none.1, c.image.ensures.value) at c.inst_in-inst.ensures.here) _ _ _ _ _
     (rw (none.0, none.1, none.2) at c.act-self-inside.ensures.turn))
 
 pub invariant_of-self-2 : goal.invariant_of-self-2
 invariant_of-self-2 c =
-    let begun = begun-turn c.self.invariant (ap (λ v. v.ending) c.self.view_is ∙ c.requires.on) (rw c.deref.ensures.value at c.enter_events-self-inside.ensures.come) in
+    let begun = begun-turn c.turns_lawful.ensures c.self.invariant (ap (λ v. v.ending) c.self.view_is ∙ c.requires.on) (rw c.deref.ensures.value at c.enter_events-self-inside.ensures.come) in
     let none = c.if-accept.ensures.none refl in
-    turn-lawful c.turns_keep_typing.ensures _ _ _ _ _ _ c.self.invariant
+    turn-lawful c.turns_lawful.ensures _ _ _ _ _ _ c.self.invariant
     (act-takes begun c.if-accept.ensures.grants _ _ (rw (none.1, c.image.ensures.value) at c.inst_in-inst.ensures.here) _ _ _ _ _
     (rw (none.0, none.1, none.2) at c.act-self-inside.ensures.turn))
     (rw c.deref.ensures.value at c.enter_events-self-inside.ensures.next)
