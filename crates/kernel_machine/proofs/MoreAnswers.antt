@@ -1,6 +1,6 @@
 -- With more answers behind those that it has, a turn or a run takes the same ones, and leaves the others too.
 use Rattle.std.specs.Option.{option_map, option_and_then}
-use Rattle.std.proofs.Common.{◌≡◌, ℕ, zero, suc, ◌==◌, Bool, true, false, if◌then◌else◌, List, [], ◌∷◌, ◌++◌, Option, Some, None, is_some, refl, ◌∙◌}
+use Rattle.std.proofs.Common.{◌≡◌, ℕ, zero, suc, ◌==◌, Bool, true, false, if◌then◌else◌, List, [], ◌∷◌, ◌++◌, Option, Some, None, is_some, refl}
 use Rattle.ia32_code.specs.declared.instruction.Inst.{Inst}
 use Rattle.device_model.specs.declared.events.Event.{Event}
 use Rattle.stack_states.specs.declared.journal_entry.Entry.{Entry}
@@ -40,8 +40,8 @@ module _ (more : List Answer) where
   leaving-extends : (image : ImageParts) (answers : List Answer) (s : State) (ending : Ending) (kind : EntryKind) (value reply : ℕ) (b : Bool)
       → Extends more (if b then ended_by ending answers s else kernel_goes_on image answers kind value reply s)
       (if b then ended_by ending (answers ++ more) s else kernel_goes_on image (answers ++ more) kind value reply s)
-  leaving-extends image answers s ending kind value reply true = some-extends _ _ refl
-  leaving-extends image answers s ending kind value reply false = map-extends answers (Some (entry_of kind value s)) _
+  leaving-extends image answers s ending kind value reply true r e = some-extends _ _ refl r e
+  leaving-extends image answers s ending kind value reply false r e = map-extends answers (Some (entry_of kind value s)) _ r e
 
   answered-extends : (image : ImageParts) (next k : ℕ) (s : State) (shape : ObjectShape) (answers : List Answer)
       → Extends more (answered image next k s shape answers) (answered image next k s shape (answers ++ more))
@@ -82,8 +82,8 @@ module _ (more : List Answer) where
   turn-extends image events answers s = go (line_granted (begun events s))
     where
       go : (o : Option ℕ) → Extends more (interrupt_or image answers (begun events s) o) (interrupt_or image (answers ++ more) (begun events s) o)
-      go None = instruction-extends image answers (begun events s)
-      go (Some line) = map-extends answers (Some (entry_of Interrupt line (begun events s))) _
+      go None r e = instruction-extends image answers (begun events s) r e
+      go (Some line) r e = map-extends answers (Some (entry_of Interrupt line (begun events s))) _ r e
 
 -- ---- runs
 
@@ -108,10 +108,11 @@ module _ (more : List Answer) (image : ImageParts) (events : List Event) where
   pub run-extends : (n : ℕ) (answers : List Answer) (r : Run) → RunOf image events n answers ≡ Some r → RunOf image events n (answers ++ more) ≡ Some (run_extended more r)
   unfolding RunOf
   run-extends zero answers r e = let same : record { state = _; entries = []; left = answers; legal = true } ≡ r = cc in rw (← same) refl
-  run-extends (suc n) answers r e = go (λ q f. run-extends n answers q f) (RunOf image events n answers) refl e
+  run-extends (suc n) answers r e = go (RunOf image events n answers) refl (λ q f. run-extends n answers q f) e
     where
-      go : ((q : Run) → RunOf image events n answers ≡ Some q → RunOf image events n (answers ++ more) ≡ Some (run_extended more q))
-          → (o : Option Run) → RunOf image events n answers ≡ o → option_and_then (λ q. next_run image events q) o ≡ Some r
+      go : (o : Option Run) → RunOf image events n answers ≡ o
+          → ((q : Run) → RunOf image events n answers ≡ Some q → RunOf image events n (answers ++ more) ≡ Some (run_extended more q))
+          → option_and_then (λ q. next_run image events q) o ≡ Some r
           → option_and_then (λ q. next_run image events q) (RunOf image events n (answers ++ more)) ≡ Some (run_extended more r)
-      go before None f g = absurd (cc)
-      go before (Some q) f g = rw (before q f) (next-extends q r g)
+      go None f before g = absurd (cc)
+      go (Some q) f before g = rw (before q f) (next-extends q r g)

@@ -1,7 +1,7 @@
 -- A turn that takes no answer has no entry that tells one, and none that was not legal.
 use Rattle.std.specs.Prelude.{nat_le}
 use Rattle.std.specs.Option.{option_map, option_and_then, option_to_list}
-use Rattle.std.proofs.Common.{◌≡◌, ◌≤◌, ℕ, zero, suc, ◌==◌, Bool, true, false, if◌then◌else◌, List, [], ◌∷◌, ◌++◌, Option, Some, None, refl, ap, length, ◌∙◌, append_assoc, append-nil, arith}
+use Rattle.std.proofs.Common.{◌≡◌, ◌≤◌, ℕ, zero, suc, ◌==◌, Bool, true, false, if◌then◌else◌, List, [], ◌∷◌, ◌++◌, Option, Some, None, refl, ap, length, append_assoc, arith}
 use Rattle.std.proofs.lemmas.Bool.Decides.{nat_tests}
 use Rattle.ia32_code.specs.declared.instruction.Inst.{Inst}
 use Rattle.stack_states.specs.declared.journal_entry.Entry.{Entry}

@@ -1,10 +1,10 @@
 -- A machine that stands for a typed state shows that state's words.
 use Rattle.std.specs.Prelude.{zero, suc, slice_index}
 use Rattle.std.specs.Option.{option_map_or}
-use Rattle.std.proofs.Common.{◌≡◌, ℕ, ◌+◌, ◌-◌, ◌*◌, ◌/◌, ◌<◌, ◌≤◌, ◌==◌, nat_lt, Bool, true, false, if◌then◌else◌, List, [], ◌∷◌, length, map, Some, slice_get, refl, sym, ◌∙◌, ap, ap₂, arith}
+use Rattle.std.proofs.Common.{◌≡◌, ℕ, ◌+◌, ◌-◌, ◌*◌, ◌/◌, ◌<◌, ◌≤◌, ◌==◌, Bool, true, false, if◌then◌else◌, List, [], ◌∷◌, length, map, nat_lt, Some, slice_get, refl, sym, ◌∙◌, ap, ap₂, arith}
 use Rattle.std.proofs.lemmas.Bool.Decides.{nat_tests}
 use Rattle.ia32_step.specs.declared.cpu.Cpu.{Cpu}
-use Rattle.object_layout.specs.Areas.{statics_start, stacks_start, heap_start}
+use Rattle.object_layout.specs.Areas.{heap_start, statics_start}
 use Rattle.device_model.specs.History.{History}
 use Rattle.device_model.specs.Devices.{StandsFor}
 use Rattle.object_layout.specs.declared.rows.FieldTy.{FieldTy}
@@ -15,10 +15,10 @@ use Rattle.tal_image.specs.Shown.{shown}
 use Rattle.typed_machine.specs.Values.{Value, Word, all_objects}
 use Rattle.typed_machine.specs.States.{State, Stack, EmptyStack, RunningStack, YieldedStack, InterruptedStack, places_of, most_values}
 use Rattle.typed_machine.specs.Reaching.{live_in}
-use Rattle.typed_machine.specs.Typing.{TypedAmong}
+use Rattle.typed_machine.specs.Typing.{TypedAmong, Typed}
 use Rattle.typed_machine.specs.Words.{upper_end, stack_pointer, esp_of}
 use Rattle.typed_safety.specs.Laws.{RunsAreTyped}
-use Rattle.word_machine.specs.Memory.{MemoryView, word_of, word_at, is_mapped, is_open}
+use Rattle.word_machine.specs.Memory.{MemoryView, word_of, word_at, is_open, is_mapped}
 use Rattle.word_machine.specs.Standing.{kept_values, values_at, HoldsValues, CpuStands, MemoryStands}
 use Rattle.nucleus_calls.specs.Nucleus.{state_by, states_by}
 use Rattle.run_report.specs.Shown.{ShownStack, ShownWords, shown_stacks, shown_of}
@@ -142,7 +142,7 @@ shown-same : (a b : ShownWords) → a.regs ≡ b.regs → a.flags ≡ b.flags �
 shown-same a b regs flags place stacks statics cells = λ i. record { regs = regs i; flags = flags i; place = place i; stacks = stacks i; statics = statics i; cells = cells i }
 
 -- a machine shows the words of each typed state that it stands for
-stands-shows : (machine : MachineView) (s : State) → TypedAmong machine.image all_objects s → Stands machine s → shown_by machine ≡ shown_of s
+stands-shows : (machine : MachineView) (s : State) → Typed machine.image s → Stands machine s → shown_by machine ≡ shown_of s
 unfolding shown_of
 stands-shows machine s typed h =
     let all : (k : ℕ) (stack : Stack) → slice_get s.stacks k ≡ Some stack → slice_get s.stacks (0 + k) ≡ Some stack =
@@ -158,7 +158,7 @@ stands-shows machine s typed h =
 -- the law: the state that a run comes to is typed
 pub follows-shows : RunsAreTyped → MachinesShowTheirRuns
 follows-shows law machine entries w f =
-    stands-shows machine f.run.state (law machine.image w machine.events machine.turns _ f.run f.legal.reached f.legal.legal).typed.among f.stands
+    stands-shows machine f.run.state (law machine.image w machine.events machine.turns _ f.run f.legal.reached f.legal.legal).typed f.stands
 
 -- ---- what is looked up of a machine
 
@@ -244,20 +244,16 @@ value-there (v ∷ vs) (suc k) low = value-there vs k (omega (arith, low))
 -- where a word stands below the heap, one is mapped
 there-mapped : (m : MemoryView) (a w : ℕ) → a < heap_start → word_of m a ≡ Some w → is_mapped m a ≡ true
 unfolding is_mapped is_open
-there-mapped m a w low e = let below : nat_lt a heap_start ≡ true = grind (arith, nat_tests, low) in rw (e, below) refl
-
--- the statics stand below the heap
-static-low : (n k : ℕ) → k < n → statics_start + 4 * n ≤ stacks_start → statics_start + 4 * k < heap_start
-static-low n k low short = omega (arith, low, short)
+there-mapped m a w low e = let below : nat_lt a heap_start ≡ true = grind (arith, nat_tests) in rw (e, below) refl
 
 -- the words of a lawful machine's statics are there
 pub statics-there : (machine : MachineView) (index : ℕ) → Lawful machine index → (k : ℕ) → k < length machine.image.statics
     → is_mapped machine.nucleus.memory (statics_start + 4 * k) ≡ true
 statics-there machine index h k low =
-    let inside : k < length h.state.statics = rw (← h.typed.among.statics.count) at low in
-    let v = value-there h.state.statics k inside in
-    there-mapped machine.nucleus.memory _ _ (static-low (length h.state.statics) k inside h.stands.nucleus.memory.lie.short)
-    (h.stands.nucleus.memory.statics k v.0 v.1)
+    let v = value-there h.state.statics k (rw (← h.typed.among.statics.count) at low) in
+    let short = h.stands.nucleus.memory.lie.short in
+    let count = h.typed.among.statics.count in
+    there-mapped machine.nucleus.memory _ _ (omega (arith, short, count, low)) (h.stands.nucleus.memory.statics k v.0 v.1)
 
 -- the devices of a lawful machine stand for a history
 pub history-there : (machine : MachineView) (index : ℕ) → Lawful machine index → (history : History) × StandsFor machine.nucleus.devices history

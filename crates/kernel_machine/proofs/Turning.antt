@@ -1,5 +1,5 @@
 -- A turn of a machine leads on as the typed machine's turn does, from every typed state that the machine stands for.
-use Rattle.std.specs.Prelude.{IsSome}
+use Rattle.std.specs.Prelude.{IsSome, ◌&&◌}
 use Rattle.std.specs.Option.{option_to_list}
 use Rattle.std.proofs.Common.{◌≡◌, ◌≢◌, ◌⊎◌, inl, inr, ℕ, ◌+◌, ◌-◌, ◌≤◌, Bool, true, false, List, [], ◌++◌, length, drop, Option, Some, None, nat_le, is_some, refl, sym, ◌∙◌, ap, append-nil, add-one, arith}
 use Rattle.std.proofs.lemmas.Bool.Decides.{nat_tests}
@@ -250,6 +250,11 @@ run-same : (image moved : ImageParts) (events came : List Event) (n turns : ℕ)
     → RunOf image events n answers ≡ Some r → RunOf moved came turns told ≡ Some r
 run-same image moved events came n turns answers told r images lists counts answered reached = rw (images, lists, counts, answered) reached
 
+-- what was legal so far and in the turn is legal
+both-legal : (a b : Bool) → a ≡ true → b ≡ true → (a && b) ≡ true
+both-legal true b e f = f
+both-legal false b e f = absurd (cc)
+
 -- a turn goes on from what the journal tells
 pub turn-follows : TurnLaws → RunsAreTyped → (before after : MachineView) (entries more : List Entry) (index : ℕ) → Lawful before index → TakesTurn before after entries more
     → before.ending ≡ None → Follows before entries → Follows after more
@@ -269,7 +274,7 @@ turn-follows laws law before after entries more index h takes on f =
             (run-more before.image before.events before.turns (answers_of entries ++ t.told) longer t.comes_to
             (run-extends t.told before.image before.events before.turns (answers_of entries) f.run f.legal.reached) off (rw left t.is));
         used = t.others;
-        legal = rw (f.legal.legal, t.legal) refl;
+        legal = both-legal f.run.legal t.comes_to.legal f.legal.legal t.legal;
       };
       entries_are = ap (λ es. es ++ option_to_list t.comes_to.entry) f.entries_are ∙ sym t.entries_are;
       stands = t.stands;
