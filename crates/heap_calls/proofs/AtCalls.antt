@@ -206,7 +206,7 @@ module _ {image : ImageParts} {live : ℕ → Bool} {s : State} {t : Ty} {next e
   roots-stand exact refer = record {
     formed = f.formed;
     typed = f.whole;
-    refer = refer image s next t f.whole f.awaited_whole;
+    refer = refer image s next f.whole_type f.whole f.awaited_whole;
     stands = λ i o e behind here. object-stands i o (f.lives i e) behind here;
     lists = rw (f.marked, f.rows, f.pointer) (exact image live t next s m.statics m.stacks kept call-stands).listed;
     size = f.memory.blocks.size;

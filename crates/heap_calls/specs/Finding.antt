@@ -20,13 +20,15 @@ use Rattle.root_words.specs.DataArea.{data_marks}
 use Rattle.root_words.specs.Standing.{states_by}
 
 -- The marks, the rows and the classes are the image's. The memory and what is kept of stacks stand for a typed state among
--- objects that live, at a call that comes back to `next` with a value of type t; what the state's roots reach lives.
+-- objects that live, at a call that comes back to `next` with a value of type t, and of some type among all objects; what the state's
+-- roots reach lives.
 pub record CallFinds (image : ImageParts) (live : ℕ → Bool) (s : State) (t : Ty) (next esp : ℕ) (m : MemoryView) (marks : List Bool) (table : List RowAt)
     (shapes : ShapesView) (kept : List StackState) : Type 0 where
   pub formed : Formed image
   pub whole : TypedAmong image all_objects s
   pub typed : TypedAmong image live s
-  pub awaited_whole : Awaits (scope_of image all_objects s) t next s.values
+  pub whole_type : Ty
+  pub awaited_whole : Awaits (scope_of image all_objects s) whole_type next s.values
   pub awaited : Awaits (scope_of image live s) t next s.values
   pub lives : (i : ℕ) → Reach (shown image).shapes s.store (Roots image next s) i ≡ true → live i ≡ true
   pub memory : MemoryStands image live s m
