@@ -1,6 +1,6 @@
 -- A call finds in the processor's registers the numbers that its entry asks for.
 use Rattle.std.specs.Prelude.{slice_index}
-use Rattle.std.proofs.Common.{◌≡◌, ℕ, Bool, true, false, List, Option, Some, None, slice_get, refl, sym, ap, ◌∙◌}
+use Rattle.std.proofs.Common.{◌≡◌, ℕ, Bool, true, List, Some, refl, sym, ◌∙◌}
 use Rattle.ia32_code.specs.declared.instruction.Reg.TheVariants.{Eax, Ecx}
 use Rattle.ia32_step.specs.declared.cpu.Cpu.{Cpu}
 use Rattle.tal_types.specs.declared.types.Ty.{Ty}
@@ -9,7 +9,7 @@ use Rattle.tal_types.specs.Shown.{ShownImage}
 use Rattle.tal_flow.specs.declared.calls.Arguments.{Arguments}
 use Rattle.tal_flow.specs.declared.calls.Arguments.TheVariants.{Table, DescriptorAndNumber, Nothing, OneNumber, TwoNumbers}
 use Rattle.tal_flow.specs.declared.calls.Called.TheVariants.{Gives}
-use Rattle.tal_flow.specs.Calls.{nucleus_arguments, entry_gives}
+use Rattle.tal_flow.specs.Calls.{entry_gives}
 use Rattle.tal_image.specs.Image.{ImageParts}
 use Rattle.typed_machine.specs.Values.{Value, Number, Null, Ref, Code, Ret, Tab, Desc, ObjectShape, Word, fits_among}
 use Rattle.typed_machine.specs.States.{State, places_of, at_place}

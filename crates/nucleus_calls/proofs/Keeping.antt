@@ -1,5 +1,5 @@
 -- What every Nucleus keeps stays where a stack goes on.
-use Rattle.std.proofs.Common.{◌≡◌, ◌<◌, ◌≤◌, ◌+◌, ◌*◌, ◌⊎◌, inl, inr, ℕ, true, List, length, slice_set, length-set, ◌∙◌, sym, arith}
+use Rattle.std.proofs.Common.{◌≡◌, inl, inr, ℕ, true, List, length, slice_set, length-set, ◌∙◌, sym}
 use Rattle.heap_words.specs.Blocks.{IsObjectWord}
 use Rattle.free_index.specs.Lists.{FreeLists}
 use Rattle.ia32_step.specs.declared.cpu.Cpu.{Cpu}
@@ -8,7 +8,6 @@ use Rattle.stack_states.specs.declared.stack_state.StackState.TheVariants.{Empty
 use Rattle.stack_states.specs.StackTable.{current_of}
 use Rattle.stack_states.specs.StackTable as table
 use Rattle.device_model.specs.Devices.{DevicesView}
-use Rattle.typed_machine.specs.Words.{stack_pointer}
 use Rattle.word_machine.specs.Memory.{MemoryView, is_mapped}
 use Rattle.word_machine.specs.Laws.{HeapWritten}
 use Rattle.nucleus_calls.specs.Nucleus.{NucleusView, IsKept}

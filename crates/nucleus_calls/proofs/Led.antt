@@ -1,13 +1,12 @@
 -- Where leaving, yields, replies and interrupts lead processor and Nucleus: as the turn leads the state.
 use Rattle.std.specs.Prelude.{slice_index}
-use Rattle.std.specs.Option.{option_map, option_and_then, option_to_list}
-use Rattle.std.proofs.Common.{◌≡◌, ◌≢◌, ◌<◌, ◌==◌, ℕ, ◌+◌, Bool, true, false, if◌then◌else◌, List, [], ◌∷◌, ◌++◌, length, Option, Some, None, slice_get, inl, inr, refl, sym, ap, ◌∙◌, arith}
+use Rattle.std.specs.Option.{option_map}
+use Rattle.std.proofs.Common.{◌≡◌, ◌≢◌, ◌==◌, ℕ, ◌+◌, Bool, false, List, [], ◌∷◌, ◌++◌, length, Option, Some, slice_get, inl, inr, refl, sym, ap, ◌∙◌, arith}
 use Rattle.std.proofs.lemmas.Bool.Decides.{nat_tests}
 use Rattle.ia32_step.specs.declared.cpu.Cpu.{Cpu}
-use Rattle.stack_states.specs.declared.flag_bits.FlagBits.{FlagBits}
 use Rattle.stack_states.specs.declared.journal_entry.Entry.{Entry}
 use Rattle.stack_states.specs.declared.journal_entry.EntryKind.{EntryKind}
-use Rattle.stack_states.specs.declared.journal_entry.EntryKind.TheVariants.{Call, Yield, Interrupt, Fault, Ended}
+use Rattle.stack_states.specs.declared.journal_entry.EntryKind.TheVariants.{Call, Yield, Interrupt}
 use Rattle.stack_states.specs.declared.stack_state.StackState.{StackState}
 use Rattle.stack_states.specs.declared.stack_state.StackState.TheVariants.{Empty, Yielded, Interrupted}
 use Rattle.stack_states.specs.StackTable.{OneRuns, current_of}
@@ -15,24 +14,23 @@ use Rattle.stack_states.specs.StackTable as table
 use Rattle.device_model.specs.History.{History, Granted}
 use Rattle.device_model.specs.Devices.{DevicesView, StandsFor}
 use Rattle.tal_image.specs.Image.{ImageParts}
-use Rattle.tal_checker.specs.WellTyped.{WellTyped}
 use Rattle.typed_machine.specs.Values.{Number}
-use Rattle.typed_machine.specs.States.{State, EmptyStack, YieldedStack, InterruptedStack, places_of, fresh_thread, at_place}
-use Rattle.typed_machine.specs.Effects.{Faults, Calls, Ends}
-use Rattle.typed_machine.specs.Switches.{runs, switched}
-use Rattle.typed_machine.specs.Replies.{ReplyView, Replies, YieldsTo, Reply}
+use Rattle.typed_machine.specs.States.{State, EmptyStack, YieldedStack, InterruptedStack, fresh_thread}
+use Rattle.typed_machine.specs.Effects.{Calls}
+use Rattle.typed_machine.specs.Switches.{runs}
+use Rattle.typed_machine.specs.Replies.{YieldsTo, Reply}
 use Rattle.typed_machine.specs.Placing.{Answer}
-use Rattle.typed_machine.specs.Turns.{Turned, turned, entry_of, kernel_goes_on, interrupted, faulted, returned, replied, after_effect}
+use Rattle.typed_machine.specs.Turns.{turned, entry_of, kernel_goes_on, interrupted, after_effect}
 use Rattle.typed_machine.specs.Typing.{TypedAmong}
-use Rattle.typed_machine.specs.Words.{stack_pointer, esp_of, register_words}
+use Rattle.typed_machine.specs.Words.{stack_pointer}
 use Rattle.word_machine.specs.Memory.{MemoryView}
-use Rattle.word_machine.specs.Standing.{values_at, kept_values, CpuStands, MemoryStands}
+use Rattle.word_machine.specs.Standing.{values_at, kept_values}
 use Rattle.word_machine.specs.Laws.{EmptyStacksAreFree}
 use Rattle.nucleus_calls.specs.declared.outcome.Leaving.{Leaving}
 use Rattle.nucleus_calls.specs.declared.outcome.Leaving.TheVariants as leaving
-use Rattle.nucleus_calls.specs.Nucleus.{NucleusView, state_by, NucleusStands}
-use Rattle.nucleus_calls.specs.Turning.{StandsBefore, StandsAfter, Leads, effect_of}
-use Rattle.nucleus_calls.specs.Calling.{fresh_cpu, GoesOn, KeepsCaller, RepliesAt, kind_of, value_of, reply_of}
+use Rattle.nucleus_calls.specs.Nucleus.{NucleusView, NucleusStands}
+use Rattle.nucleus_calls.specs.Turning.{StandsBefore, Leads, effect_of}
+use Rattle.nucleus_calls.specs.Calling.{fresh_cpu, GoesOn, RepliesAt, kind_of, value_of, reply_of}
 use Rattle.nucleus_calls.proofs.Restacked.{restacked}
 use Rattle.nucleus_calls.proofs.Switched.{current-is, fresh-stands, SwitchStands, switch-stands}
 

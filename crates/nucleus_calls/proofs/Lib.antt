@@ -10,3 +10,4 @@ pub mod Starting
 pub mod Replied
 pub mod KeptParts
 pub mod Stepping
+pub mod HeapReplies

@@ -1,17 +1,17 @@
 -- What each entry replies at once, on the Nucleus's parts as in the state.
-use Rattle.std.specs.Prelude.{◌%◌, ◌^◌, ◌/◌, IsTrue, unwrap_or}
+use Rattle.std.specs.Prelude.{◌%◌, ◌^◌, unwrap_or}
 use Rattle.std.specs.Option.{option_map, option_map_or}
-use Rattle.std.proofs.Common.{◌≡◌, ◌≢◌, ◌<◌, ◌≤◌, ◌==◌, ◌&&◌, ◌||◌, not, nat_lt, nat_le, ℕ, zero, suc, ◌+◌, ◌*◌, Bool, true, false, if◌then◌else◌, List, [], ◌∷◌, ◌++◌, length, Option, Some, None, is_some, slice_get, slice_set, ◌⊎◌, inl, inr, refl, sym, ap, ◌∙◌, arith}
+use Rattle.std.proofs.Common.{◌≡◌, ◌≢◌, ◌<◌, ◌≤◌, ◌==◌, ◌&&◌, ◌||◌, not, nat_lt, nat_le, ℕ, zero, suc, Bool, true, false, if◌then◌else◌, List, [], ◌∷◌, ◌++◌, length, Option, Some, None, is_some, slice_get, slice_set, ◌⊎◌, inl, inr, refl, sym, ap, ◌∙◌, arith}
 use Rattle.std.proofs.lemmas.Bool.Decides.{nat_tests}
 use Rattle.std.proofs.lemmas.Bool.{cases_eq}
-use Rattle.std.proofs.lemmas.Option.{slice_get_within, slice_get_past}
-use Rattle.ia32_code.specs.declared.instruction.Reg.TheVariants.{Eax, Ecx}
+use Rattle.std.proofs.lemmas.Option.{slice_get_within}
+use Rattle.ia32_code.specs.declared.instruction.Reg.TheVariants.{Eax}
 use Rattle.stack_states.specs.declared.stack_state.StackState.{StackState}
 use Rattle.stack_states.specs.declared.stack_state.StackState.TheVariants.{Empty}
 use Rattle.stack_states.specs.StackTable.{OneRuns, current_of}
 use Rattle.device_model.specs.declared.screen.TheConstants.{CELLS}
 use Rattle.device_model.specs.LineBits.{any_below}
-use Rattle.device_model.specs.History.{History, Wrote, Took, Drew, waiting, port_gives}
+use Rattle.device_model.specs.History.{History, Wrote, Took, Drew, waiting}
 use Rattle.device_model.specs.Devices.{DevicesView, StandsFor}
 use Rattle.device_model.specs.ItemByItem.{is_served}
 use Rattle.tal_flow.specs.declared.calls.Arguments.TheVariants.{OneNumber, TwoNumbers}
@@ -20,12 +20,12 @@ use Rattle.tal_image.specs.Image.{ImageParts}
 use Rattle.typed_machine.specs.Values.{Value, Number}
 use Rattle.typed_machine.specs.States.{State, Stack, EmptyStack, RunningStack, YieldedStack, InterruptedStack, places_of}
 use Rattle.typed_machine.specs.Operands.{number_in}
-use Rattle.typed_machine.specs.Replies.{ReplyView, Replies, YieldsTo, Reply, is_stack, is_application, yield_to, state_number, get_stack_state, emptied, reset_stack, current_stack, happened, vga_text_write, code_taken, try_read_keyboard, count_items, start_timer, send_eoi}
+use Rattle.typed_machine.specs.Replies.{ReplyView, Replies, YieldsTo, Reply, yield_to, state_number, get_stack_state, emptied, reset_stack, current_stack, vga_text_write, try_read_keyboard, count_items, start_timer, send_eoi}
 use Rattle.typed_machine.specs.Typing.{TypedAmong}
 use Rattle.typed_machine.specs.Words.{stack_pointer}
 use Rattle.word_machine.specs.Standing.{HoldsValues, values_at, kept_values}
-use Rattle.nucleus_calls.specs.Nucleus.{NucleusView, state_by, states_by, NucleusStands}
-use Rattle.nucleus_calls.specs.Calling.{number_of, yield_refusal, KeepsCaller, RepliesAt, AsksOf}
+use Rattle.nucleus_calls.specs.Nucleus.{NucleusView, state_by, NucleusStands}
+use Rattle.nucleus_calls.specs.Calling.{number_of, yield_refusal, RepliesAt, AsksOf}
 use Rattle.nucleus_calls.proofs.Tables.{set-here, set-elsewhere, states-get, states-set, StackThere}
 use Rattle.nucleus_calls.proofs.Restacked.{restacked}
 use Rattle.nucleus_calls.proofs.Switched.{current-is, there-is}

@@ -1,23 +1,22 @@
 -- The Nucleus of an image before its first turn.
-use Rattle.std.specs.Prelude.{replicate, ◌%◌}
-use Rattle.std.proofs.Common.{◌≡◌, ◌<◌, ◌≤◌, ◌+◌, ◌*◌, ◌-◌, ℕ, zero, suc, Bool, true, List, [], ◌∷◌, length, Option, Some, slice_get, ◌++◌, ◌⊎◌, inl, inr, length-append, refl, sym, ap, ◌∙◌, arith}
+use Rattle.std.specs.Prelude.{replicate}
+use Rattle.std.proofs.Common.{◌≡◌, ◌<◌, ◌≤◌, ◌+◌, ◌-◌, ℕ, zero, suc, Bool, List, [], ◌∷◌, length, Option, Some, slice_get, ◌++◌, ◌⊎◌, inl, inr, length-append, refl, sym, ap, ◌∙◌, arith}
 use Rattle.std.specs.Option.{option_map_or}
 use Rattle.std.proofs.lemmas.Bool.{cases_lt}
 use Rattle.std.proofs.lemmas.Option.{get_or_from_slice_get}
 use Rattle.tal_types.specs.declared.views.Span.{Span}
 use Rattle.free_index.specs.Lists.{FreeLists}
-use Rattle.object_layout.specs.Areas.{stacks_start}
 use Rattle.stack_states.specs.declared.stack_state.StackState.{StackState}
 use Rattle.stack_states.specs.declared.stack_state.StackState.TheVariants.{Empty, Running}
 use Rattle.device_model.specs.Devices.{DevicesView, StandsFor}
 use Rattle.tal_image.specs.Image.{ImageParts}
 use Rattle.tal_image.specs.Shown.{function_in}
 use Rattle.typed_machine.specs.Values.{all_objects}
-use Rattle.typed_machine.specs.States.{EmptyStack, places_of, first_state, entry_place}
+use Rattle.typed_machine.specs.States.{EmptyStack, first_state, entry_place}
 use Rattle.root_words.specs.DataArea.{data_marks}
-use Rattle.word_machine.specs.Memory.{MemoryView, is_mapped}
+use Rattle.word_machine.specs.Memory.{MemoryView}
 use Rattle.word_machine.specs.Standing.{MemoryStands}
-use Rattle.nucleus_calls.specs.Nucleus.{NucleusView, states_by, NucleusStands, IsKept}
+use Rattle.nucleus_calls.specs.Nucleus.{states_by, NucleusStands, IsKept}
 
 -- stacks that have not started
 none-started : (places : List ℕ) (n count : ℕ) → replicate count Empty ≡ states_by places n (replicate count EmptyStack)

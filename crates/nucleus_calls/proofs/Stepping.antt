@@ -1,5 +1,5 @@
 -- An instruction that runs on the Nucleus's memory leads processor and Nucleus as it leads the state.
-use Rattle.std.proofs.Common.{◌≡◌, ◌<◌, ◌≤◌, ◌+◌, ◌*◌, ℕ, Bool, Option, Some, None, length, refl, sym, ◌∙◌}
+use Rattle.std.proofs.Common.{◌≡◌, ℕ, Bool, Option, Some, None, sym}
 use Rattle.ia32_code.specs.declared.instruction.Inst.{Inst}
 use Rattle.ia32_step.specs.declared.cpu.Cpu.{Cpu}
 use Rattle.stack_states.specs.StackTable.{OneRuns, current_of}

@@ -1,8 +1,7 @@
 -- One stack is put away and another goes on: on words as in the state.
 use Rattle.std.specs.Option.{option_map_or}
-use Rattle.std.proofs.Common.{◌≡◌, ◌≢◌, ◌<◌, ◌≤◌, ◌==◌, ◌⊎◌, inl, inr, ◌+◌, ◌*◌, ℕ, zero, suc, Bool, true, false, if◌then◌else◌, List, [], ◌∷◌, length, Option, Some, None, slice_get, slice_set, refl, sym, ap, ◌∙◌, arith, length-set}
+use Rattle.std.proofs.Common.{◌≡◌, ◌≢◌, ◌<◌, ◌==◌, ◌⊎◌, inl, inr, ℕ, zero, suc, Bool, true, false, if◌then◌else◌, List, [], ◌∷◌, length, Option, Some, slice_get, slice_set, refl, sym, ap, ◌∙◌, arith}
 use Rattle.std.proofs.lemmas.Bool.Decides.{nat_tests}
-use Rattle.std.proofs.lemmas.Bool.{cases_eq}
 use Rattle.std.proofs.lemmas.Option.{slice_get_within}
 use Rattle.ia32_step.specs.declared.cpu.Cpu.{Cpu}
 use Rattle.stack_states.specs.declared.stack_state.StackState.{StackState}
@@ -17,7 +16,7 @@ use Rattle.typed_machine.specs.States.{State, Thread, Stack, EmptyStack, Running
 use Rattle.typed_machine.specs.Switches.{runs, handed_over, switched}
 use Rattle.typed_machine.specs.Typing.{TypedAmong}
 use Rattle.typed_machine.specs.Words.{stack_pointer, esp_of}
-use Rattle.word_machine.specs.Memory.{MemoryView, word_of}
+use Rattle.word_machine.specs.Memory.{MemoryView}
 use Rattle.word_machine.specs.Standing.{HoldsValues, kept_values, values_at, CpuStands, MemoryStands}
 use Rattle.word_machine.specs.Laws.{Written, EmptyStacksAreFree}
 use Rattle.nucleus_calls.specs.Nucleus.{NucleusView, state_by, states_by, NucleusStands}

@@ -8,3 +8,5 @@ pub mod Turning
 pub mod Calling
 -- The law of calls.
 pub mod Laws
+-- Calls of the entries that touch the heap.
+pub mod HeapEntries

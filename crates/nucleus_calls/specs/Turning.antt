@@ -1,5 +1,5 @@
 -- Where instructions and turns lead from each typed state that the words stand for.
-use Rattle.std.specs.Prelude.{◌≡◌, ℕ, ◌+◌, Bool, List, ◌++◌, Option, Some, None}
+use Rattle.std.specs.Prelude.{◌≡◌, ℕ, Bool, List, ◌++◌, Option, Some, None}
 use Rattle.std.specs.Option.{option_to_list}
 use Rattle.ia32_code.specs.declared.instruction.Inst.{Inst}
 use Rattle.ia32_step.specs.declared.cpu.Cpu.{Cpu}

@@ -1,7 +1,7 @@
 // The Nucleus: what runs below the typed code of an image, in its own turns or within one.
 //
-// A `Nucleus` owns the memory, the stacks and the devices. `call` does what an entry of the Nucleus does that touches no heap
-// (entries 3 to 10); `due` lets an event enter, `accept` takes an interrupt, and `leave` ends an application. The `Journal` holds
+// A `Nucleus` owns the memory, the stacks and the devices, with the lists of the heap's free blocks. `call` does what an entry of
+// the Nucleus does that touches no heap (entries 3 to 10), and `call_heap` what the others do (0 to 2); `due` lets an event enter, `accept` takes an interrupt, and `leave` ends an application. The `Journal` holds
 // what a run did, and the room that its turns need.
 //
 // `NucleusStands` (in specs/) says that the Nucleus stands for a state of the typed machine. `call`, `accept` and `leave` lead it
@@ -9,6 +9,7 @@
 #![tactic(auto)]
 
 mod calls;
+mod heap_entries;
 mod journal;
 pub mod laws;
 mod nucleus;

@@ -1,6 +1,4 @@
-use Rattle.std.specs.Prelude.{slice_index}
-use Rattle.std.proofs.Common.{◌≡◌, ◌∙◌, sym}
-use Rattle.stack_states.specs.declared.stack_state.StackState.TheVariants.{Yielded}
+use Rattle.std.proofs.Common.{◌∙◌, sym}
 use Rattle.nucleus_calls.proofs.Asked.{called-asks}
 use Rattle.nucleus_calls.proofs.Keeping.{kept-after, handed-count}
 use Rattle.nucleus_calls.proofs.Led.{yield-leads, reply-leads}

@@ -1,6 +1,5 @@
-use Rattle.std.proofs.Common.{◌≤◌, ◌≡◌, ℕ, Bool, length, arith}
+use Rattle.std.proofs.Common.{◌≤◌, arith}
 use Rattle.std.proofs.lemmas.Bool.Decides.{nat_tests}
-use Rattle.typed_machine.specs.States.{first_state}
 use Rattle.nucleus_calls.proofs.Starting.{first-stands, first-kept}
 use Rattle.nucleus_calls.proofs.nucleus.Nucleus.new.Goals as goal
 
