@@ -53,6 +53,7 @@ nucleus-retold image live s v turns ending h =
       stacks = h.stacks;
       starts = h.starts;
       devices = h.devices;
+      marks = h.marks;
     }
 
 -- ---- what a step came to

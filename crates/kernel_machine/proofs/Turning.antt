@@ -164,7 +164,7 @@ module _ {image : ImageParts} {events : List Event} {cpu : Cpu} {v come : Nucleu
 nucleus-falls : StandingFalls → (image : ImageParts) (more live : ℕ → Bool) (s : State) (v : NucleusView) → ((i : ℕ) → live i ≡ true → more i ≡ true)
     → NucleusStands image more s v → NucleusStands image live s v
 nucleus-falls law image more live s v fewer h =
-    record { memory = law image more live s v.memory fewer h.memory; stacks = h.stacks; starts = h.starts; devices = h.devices }
+    record { memory = law image more live s v.memory fewer h.memory; stacks = h.stacks; starts = h.starts; devices = h.devices; marks = h.marks }
 
 -- what a turn from a typed state comes to: the state is typed, and the machine stands for it
 pub record TurnComesTo (before after : MachineView) (entries more : List Entry) (s : State) (left : List Answer) : Type 0 where
