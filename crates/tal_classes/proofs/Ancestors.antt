@@ -57,7 +57,7 @@ named_at m rows c k first h =
     let ps = map (λ (y : UnitClass). y.row.parent) rows in
     let lt : c < length ps = omega (arith, slice_get_within rows c k h, length-map rows (λ (y : UnitClass). y.row.parent)) in
     named-parent (λ (y : ClassNames). y.parent) m.members (ps ++ first.0) c k.row.parent first.1
-        (front-get ps first.0 c lt ∙ slice_get-map (λ (y : UnitClass). y.row.parent) rows c ∙ ap (option_map (λ (y : UnitClass). y.row.parent)) h)
+    (front-get ps first.0 c lt ∙ slice_get-map (λ (y : UnitClass). y.row.parent) rows c ∙ ap (option_map (λ (y : UnitClass). y.row.parent)) h)
 
 lineage_step : (n : ℕ) (ms : List ClassNames) (c : ℕ) (x : ClassNames) → slice_get ms c ≡ Some x → ancestry_within (suc n) ms (Some c) ≡ x ∷ ancestry_within n ms x.parent
 unfolding ancestry_within
@@ -92,7 +92,7 @@ same_depth m functions rows first h laws (suc n) c lt short =
     let k = there rows c lt in
     let x = named_at m rows c k.0 first k.1 in
     depth_step m functions rows h laws n c lt short k.0 k.1 x.0 (lineage_step n m.members c x.0 x.1 ∙ ap (λ p. x.0 ∷ ancestry_within n m.members p) x.2)
-        (λ q l s. same_depth m functions rows first h laws n q l s) k.0.row.parent refl
+    (λ q l s. same_depth m functions rows first h laws n q l s) k.0.row.parent refl
 
 -- ---- the fields by the rows
 

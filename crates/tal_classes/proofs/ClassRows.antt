@@ -56,7 +56,7 @@ inherited_sigs : (functions : List FunctionPart) (rows : List UnitClass) (p : �
 unfolding inherited_methods signatures signatures_of Methods fun_row sig_at
 inherited_sigs functions rows p k h =
     ap (λ (o : Option ClassRow). map (sig_at functions) (option_map_or (λ (row : ClassRow). row.methods) o []))
-        (slice_get-map (λ (x : UnitClass). x.row) rows p ∙ ap (option_map (λ (x : UnitClass). x.row)) h)
+    (slice_get-map (λ (x : UnitClass). x.row) rows p ∙ ap (option_map (λ (x : UnitClass). x.row)) h)
 
 -- ---- methods
 
@@ -72,13 +72,15 @@ methods_kept : (functions : List FunctionPart) → length functions ≤ 16384 �
     → EachAfter (λ (ss : List ℕ) f. drop 1 ss) (λ later ss f. IsMethod functions ss f) slots ms
 unfolding method_fits
 methods_kept functions few slots [] more h is = tt
-methods_kept functions few [] (f ∷ ms) more h is =
-    (record { word = let lt : f < length functions = h.0 in omega (arith, lt, few); condition_20 = let lt : f < length functions = h.0 in grind (arith, nat_tests, lt) },
-     methods_kept functions few [] ms (map (sig_at functions) ms) h.1 refl)
+methods_kept functions few [] (f ∷ ms) more h is = (
+  record { word = let lt : f < length functions = h.0 in omega (arith, lt, few); condition_20 = let lt : f < length functions = h.0 in grind (arith, nat_tests, lt) },
+  methods_kept functions few [] ms (map (sig_at functions) ms) h.1 refl,
+)
 methods_kept functions few (s ∷ slots) (f ∷ ms) more h is =
-    let lt : f < length functions = h.0 in
-    (record { word = omega (arith, lt, few); condition_20 = method_there functions f s lt (same-head _ _ _ _ is) },
-     methods_kept functions few slots ms more h.1 (same-tail _ _ _ _ is))
+    let lt : f < length functions = h.0 in (
+      record { word = omega (arith, lt, few); condition_20 = method_there functions f s lt (same-head _ _ _ _ is) },
+      methods_kept functions few slots ms more h.1 (same-tail _ _ _ _ is),
+    )
 
 -- ---- the class above
 
@@ -161,7 +163,7 @@ is_class m t functions rows parent c declared first h laws few fits k same =
     let slots = methods_above m functions rows parent fits in
     let kept : map (sig_at functions) c.methods ≡ inherited_methods (view_of functions rows) (parent_number parent) ++ k.more = k.kept ∙ ap (λ xs. xs ++ k.more) (sym slots) in
     let long : length (inherited_methods (view_of functions rows) (parent_number parent)) ≤ length c.methods =
-        omega (arith, ap length kept, length-append (inherited_methods (view_of functions rows) (parent_number parent)) k.more, length-map c.methods (sig_at functions)) in
+    omega (arith, ap length kept, length-append (inherited_methods (view_of functions rows) (parent_number parent)) k.more, length-map c.methods (sig_at functions)) in
     record {
       parent_word = parent_word m rows parent few fits;
       condition_16 = above_fits m functions rows parent first h laws fits;
@@ -208,7 +210,7 @@ unfolding field_count
 count_more zero rows c = omega arith
 count_more (suc n) rows c =
     less_or (λ k. length k.row.fields + field_count n rows k.row.parent) (λ k. length k.row.fields + field_count (suc n) rows k.row.parent) (option_and_then (slice_get rows) c)
-        (λ k. let more = count_more n rows k.row.parent in omega (arith, more))
+    (λ k. let more = count_more n rows k.row.parent in omega (arith, more))
 
 below_parent : (m : Names) (rows : List UnitClass) (parent : Option ℕ) → FitsBelow m rows parent → (q : ℕ) → parent ≡ Some q → q < length rows
 below_parent m rows None f q e = absurd (none-some _ e)
@@ -222,13 +224,13 @@ few_with : (m : Names) (rows : List UnitClass) (new : UnitClass) (parent : Optio
 few_with m rows new parent h few fits is own c = ⊎_elim
     (λ (lt : c < length rows). let same = count_stable rows new h 8 c lt in omega (arith, same, few c))
     (λ (ge : length rows ≤ c). ⊎_elim
-        (λ (at : c ≡ length rows).
-            let here : slice_get (rows ++ new ∷ []) c ≡ Some new = ap (slice_get (rows ++ new ∷ [])) at ∙ last-get rows new in
-            let step = count_step 7 (rows ++ new ∷ []) c new here in
-            let above = ap (field_count 7 (rows ++ new ∷ [])) is ∙ count_same rows new 7 parent (λ q e. count_stable rows new h 7 q (below_parent m rows parent fits q e)) in
-            omega (arith, step, above, count_more 7 rows parent, own))
-        (λ (past : length rows < c). omega (arith, count_past 8 (rows ++ new ∷ []) c (omega (arith, length-append rows (new ∷ []), past))))
-        (here_or_past (length rows) c ge))
+    (λ (at : c ≡ length rows).
+    let here : slice_get (rows ++ new ∷ []) c ≡ Some new = ap (slice_get (rows ++ new ∷ [])) at ∙ last-get rows new in
+    let step = count_step 7 (rows ++ new ∷ []) c new here in
+    let above = ap (field_count 7 (rows ++ new ∷ [])) is ∙ count_same rows new 7 parent (λ q e. count_stable rows new h 7 q (below_parent m rows parent fits q e)) in
+    omega (arith, step, above, count_more 7 rows parent, own))
+    (λ (past : length rows < c). omega (arith, count_past 8 (rows ++ new ∷ []) c (omega (arith, length-append rows (new ∷ []), past))))
+    (here_or_past (length rows) c ge))
     (cases_lt c (length rows))
 
 -- a class more
@@ -264,9 +266,9 @@ pub row_kept : (m : Names) (t : Tables) (functions : List FunctionPart) (names :
 unfolding class_row
 row_kept m t functions names rows parent behind name ext row laws known declared first h few fits mention made =
     let one : (f g : ℕ) → f < length functions → g < length functions → slice_index_or m.function_sigs f [] ≡ slice_index_or m.function_sigs g [] → sig_at functions f ≡ sig_at functions g
-        = λ f g a b e. one_row_sig functions f g (declared.one_sig f g a b e) in
+    = λ f g a b e. one_row_sig functions f g (declared.one_sig f g a b e) in
     let taken = lines_kept m t functions (sig_at functions) (methods_of rows parent) (begun rows parent) behind row known one declared.count (begins_open m t functions names rows parent h fits) made in
     let is : row ≡ record { parent = parent; fields = taken.last.fields; methods = taken.last.methods }
-        = taken.row ∙ ap (λ p. record { parent = p; fields = taken.last.fields; methods = taken.last.methods }) taken.parent in
+    = taken.row ∙ ap (λ p. record { parent = p; fields = taken.last.fields; methods = taken.last.methods }) taken.parent in
     let class = subst (IsClass t functions (bare rows)) (sym is) (is_class m t functions rows parent taken.last declared first h.earlier laws few fits taken.open_class taken.inherited) in
     (ap (λ (r : ClassRow). r.parent) is, with_class_kept m t functions names rows parent taken.last name ext row h fits mention taken.open_class taken.inherited is class)

@@ -53,6 +53,7 @@ field_steps {A} (Some x) false false of held h = (x, refl, refl, last (of x) h)
     value : Result FieldTy ℕ → Option FieldTy
     value (Ok y) = Some y
     value (Err code) = None
+
     last : (o : Option FieldTy) → need_value o 14 (λ y. Ok y) ≡ Ok held → o ≡ Some held
     last None g = absurd (cc)
     last (Some y) g = ap value g
@@ -82,9 +83,11 @@ method_steps (Some s) (Some g) false fits slot l h = last (fits g) refl h
     function_in : Result MethodLine ℕ → ℕ
     function_in (Ok k) = k.function
     function_in (Err code) = g
+
     slot_in : Result MethodLine ℕ → Option ℕ
     slot_in (Ok k) = k.slot
     slot_in (Err code) = slot
+
     last : (b : Bool) → fits g ≡ b → unless (not b) 14 (Ok (record { slot = slot; function = g })) ≡ Ok l → (Some g ≡ Some l.function) × (fits l.function ≡ true) × (l.slot ≡ slot)
     last false is e = absurd (cc)
     last true is e = (ap (λ r. Some (function_in r)) e, subst (λ x. fits x ≡ true) (ap function_in e) is, sym (ap slot_in e))
@@ -177,6 +180,7 @@ made_kept make P (Err code) c d each e = absurd (wrong (same_Some _ _ e))
     is_made : Result ClassSoFar ℕ → Type 0
     is_made (Ok x) = ⊥
     is_made (Err y) = Unit {0}
+
     wrong : Err code ≡ Ok d → ⊥
     wrong g = subst is_made g tt
 

@@ -65,5 +65,6 @@ past-get (x ∷ xs) (suc k) le = past-get xs k (omega arith)
 -- heads and tails of equal lists
 pub same-head : {A : Type 0} (x y : A) (xs ys : List A) → x ∷ xs ≡ y ∷ ys → x ≡ y
 same-head {A = A} x y xs ys e = ap (λ (zs : List A). get_or zs 0 x) e
+
 pub same-tail : {A : Type 0} (x y : A) (xs ys : List A) → x ∷ xs ≡ y ∷ ys → xs ≡ ys
 same-tail {A = A} x y xs ys e = ap (λ (zs : List A). drop 1 zs) e

@@ -90,18 +90,18 @@ module _ (laws : HeapLaws) (m after : MemoryView) (formed : FormedHeap m.heap) (
   heap-one a w here words = elim (cases_lt a heap_start) [
     | inl low ↦ inl (heap-stays m after a w (written-told laws m after formed formed_after a w here words mapped) low)
     | inr high ↦ inr (
-      let there = there_in_heap m a here high in
-      let k = (a - heap_start) / 4 in
-      let object = heap-object m a here high in
-      let inside = object-inside laws m.heap formed k object in
-      let at = (is_within heap_start m.heap a there).whole in
-      record {
-        index = k;
-        word = w;
-        object = object-is-word laws m.heap formed k object;
-        inside = inside;
-        is = heap-set m after k w (rw at at (written-told laws m after formed formed_after a w here words mapped)) inside;
-      })
+        let there = there_in_heap m a here high in
+        let k = (a - heap_start) / 4 in
+        let object = heap-object m a here high in
+        let inside = object-inside laws m.heap formed k object in
+        let at = (is_within heap_start m.heap a there).whole in
+        record {
+          index = k;
+          word = w;
+          object = object-is-word laws m.heap formed k object;
+          inside = inside;
+          is = heap-set m after k w (rw at at (written-told laws m after formed formed_after a w here words mapped)) inside;
+        })
   ]
 
   -- so it is after an instruction

@@ -86,7 +86,7 @@ module _ {image : ImageParts} {live : ℕ → Bool} {s : State} {cpu : Cpu} {m :
     where
       within : length (object_values o) + 2 ≤ need (shown image).shapes o.shape → size_at m.heap (g.stand.memory.blocks.objects i o lives heap there).block ≡ need (shown image).shapes o.shape
           → (g.stand.memory.blocks.objects i o lives heap there).block + (k + 2)
-              < (g.stand.memory.blocks.objects i o lives heap there).block + size_at m.heap (g.stand.memory.blocks.objects i o lives heap there).block
+          < (g.stand.memory.blocks.objects i o lives heap there).block + size_at m.heap (g.stand.memory.blocks.objects i o lives heap there).block
       within room exact = omega (arith, room, exact, few)
 
   -- a word of an object
