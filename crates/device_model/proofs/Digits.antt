@@ -5,7 +5,8 @@ use Rattle.std.specs.List.{fold, prefix_len, take_while, AllByRecursion}
 use Rattle.std.proofs.lemmas.Bool.{cases_Bool}
 use Rattle.std.proofs.lemmas.List.{take_at, drop_at}
 use Rattle.std.proofs.lemmas.List.Sums.{fold_more}
-use Rattle.device_model.specs.EventFile.{is_digit, value, IsNumber}
+use Rattle.std.specs.Char.{is_ascii_digit}
+use Rattle.device_model.specs.EventFile.{value, IsNumber}
 use Rattle.device_model.specs.EventReading.{capped}
 use Rattle.device_model.proofs.Lists.{take_one_more}
 
@@ -26,48 +27,48 @@ value_more digits i number lt e =
 -- ---- digits at the front
 
 -- Digits before a text with none at its front: as many as they are,
-front_length : (digits tail : List ℕ) → AllByRecursion (λ byte. IsTrue (is_digit byte)) digits → prefix_len is_digit tail ≡ 0 → prefix_len is_digit (digits ++ tail) ≡ length digits
+front_length : (digits tail : List ℕ) → AllByRecursion (λ byte. IsTrue (is_ascii_digit byte)) digits → prefix_len is_ascii_digit tail ≡ 0 → prefix_len is_ascii_digit (digits ++ tail) ≡ length digits
 front_length [] tail all none = none
 front_length (d ∷ digits) tail all none = rw (all.0, front_length digits tail all.1 none) (omega arith)
 
 -- these digits themselves,
-front_digits : (digits tail : List ℕ) → AllByRecursion (λ byte. IsTrue (is_digit byte)) digits → prefix_len is_digit tail ≡ 0 → take_while is_digit (digits ++ tail) ≡ digits
-front_digits digits tail all none = take_at digits tail (prefix_len is_digit (digits ++ tail)) (sym (front_length digits tail all none))
+front_digits : (digits tail : List ℕ) → AllByRecursion (λ byte. IsTrue (is_ascii_digit byte)) digits → prefix_len is_ascii_digit tail ≡ 0 → take_while is_ascii_digit (digits ++ tail) ≡ digits
+front_digits digits tail all none = take_at digits tail (prefix_len is_ascii_digit (digits ++ tail)) (sym (front_length digits tail all none))
 
 -- and that text behind them.
-front_rest : (digits tail : List ℕ) → AllByRecursion (λ byte. IsTrue (is_digit byte)) digits → prefix_len is_digit tail ≡ 0
-    → drop (prefix_len is_digit (digits ++ tail)) (digits ++ tail) ≡ tail
-front_rest digits tail all none = drop_at digits tail (prefix_len is_digit (digits ++ tail)) (sym (front_length digits tail all none))
+front_rest : (digits tail : List ℕ) → AllByRecursion (λ byte. IsTrue (is_ascii_digit byte)) digits → prefix_len is_ascii_digit tail ≡ 0
+    → drop (prefix_len is_ascii_digit (digits ++ tail)) (digits ++ tail) ≡ tail
+front_rest digits tail all none = drop_at digits tail (prefix_len is_ascii_digit (digits ++ tail)) (sym (front_length digits tail all none))
 
 -- What is taken from the front are digits,
-front_all : (text : List ℕ) → AllByRecursion (λ byte. IsTrue (is_digit byte)) (take_while is_digit text)
+front_all : (text : List ℕ) → AllByRecursion (λ byte. IsTrue (is_ascii_digit byte)) (take_while is_ascii_digit text)
 front_all [] = tt
 front_all (b ∷ text) =
-    elim (cases_Bool (is_digit b)) [
-      | inl d ↦ rw (d, take_one_more (prefix_len is_digit text) b text) (d, front_all text)
+    elim (cases_Bool (is_ascii_digit b)) [
+      | inl d ↦ rw (d, take_one_more (prefix_len is_ascii_digit text) b text) (d, front_all text)
       | inr n ↦ rw n tt
     ]
 
 -- one at least where some stand there,
-front_some : (text : List ℕ) → 0 < prefix_len is_digit text → take_while is_digit text ≢ []
+front_some : (text : List ℕ) → 0 < prefix_len is_ascii_digit text → take_while is_ascii_digit text ≢ []
 front_some [] lt e = omega (arith, lt)
 front_some (b ∷ text) lt e =
-    elim (cases_Bool (is_digit b)) [
-      | inl d ↦ let p : prefix_len is_digit (b ∷ text) ≡ 1 + prefix_len is_digit text = rw d refl in
-          let t : take (1 + prefix_len is_digit text) (b ∷ text) ≡ [] = ap (λ n. take n (b ∷ text)) (sym p) ∙ e in
-          let u : b ∷ take (prefix_len is_digit text) text ≡ [] = sym (take_one_more (prefix_len is_digit text) b text) ∙ t in cc
-      | inr n ↦ let p : prefix_len is_digit (b ∷ text) ≡ 0 = rw n refl in omega (arith, p, lt)
+    elim (cases_Bool (is_ascii_digit b)) [
+      | inl d ↦ let p : prefix_len is_ascii_digit (b ∷ text) ≡ 1 + prefix_len is_ascii_digit text = rw d refl in
+          let t : take (1 + prefix_len is_ascii_digit text) (b ∷ text) ≡ [] = ap (λ n. take n (b ∷ text)) (sym p) ∙ e in
+          let u : b ∷ take (prefix_len is_ascii_digit text) text ≡ [] = sym (take_one_more (prefix_len is_ascii_digit text) b text) ∙ t in cc
+      | inr n ↦ let p : prefix_len is_ascii_digit (b ∷ text) ≡ 0 = rw n refl in omega (arith, p, lt)
     ]
 
 -- so it is a number.
-pub front_number : (text : List ℕ) → 0 < prefix_len is_digit text → IsNumber (take_while is_digit text) (value (take_while is_digit text))
+pub front_number : (text : List ℕ) → 0 < prefix_len is_ascii_digit text → IsNumber (take_while is_ascii_digit text) (value (take_while is_ascii_digit text))
 front_number text lt = record { some = front_some text lt; digits = front_all text; spells = refl }
 
 -- The text has these digits at its front, one at least, and that tail behind them.
 pub record Front (text digits tail : List ℕ) : Type 0 where
-  pub taken : take_while is_digit text ≡ digits
-  pub begins : 0 < prefix_len is_digit text
-  pub rest : drop (prefix_len is_digit text) text ≡ tail
+  pub taken : take_while is_ascii_digit text ≡ digits
+  pub begins : 0 < prefix_len is_ascii_digit text
+  pub rest : drop (prefix_len is_ascii_digit text) text ≡ tail
 
 -- A text that is not empty has a length.
 not_nil : (text : List ℕ) → text ≢ [] → 0 < length text
@@ -75,7 +76,7 @@ not_nil [] ne = absurd (ne refl)
 not_nil (b ∷ text) ne = omega arith
 
 -- A number before a text with no digit at its front stands at the front of the whole.
-pub front_of : (text digits tail : List ℕ) (number : ℕ) → IsNumber digits number → prefix_len is_digit tail ≡ 0 → text ≡ digits ++ tail → Front text digits tail
+pub front_of : (text digits tail : List ℕ) (number : ℕ) → IsNumber digits number → prefix_len is_ascii_digit tail ≡ 0 → text ≡ digits ++ tail → Front text digits tail
 front_of text digits tail number is none parts =
     let some = not_nil digits is.some in
     rw parts (record {

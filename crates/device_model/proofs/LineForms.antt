@@ -7,7 +7,8 @@ use Rattle.std.proofs.lemmas.List.{take_at, take-append-drop, append_cancel_left
 use Rattle.std.specs.Str.{bytes_eq}
 use Rattle.std.proofs.lemmas.Slice.Eq.{bytes_eq-Decides}
 use Rattle.device_model.specs.declared.line_form.Form.TheVariants as held
-use Rattle.device_model.specs.EventFile.{LineForm, Skipped, TickLine, KeyLine, is_digit, value, IsTick, IsKey, is_skipped, HasForm}
+use Rattle.std.specs.Char.{is_ascii_digit}
+use Rattle.device_model.specs.EventFile.{LineForm, Skipped, TickLine, KeyLine, value, IsTick, IsKey, is_skipped, HasForm}
 use Rattle.device_model.specs.EventReading.{TakesNumber, TakesForm}
 use Rattle.device_model.proofs.Digits.{Front, front_number, front_of, same_value}
 
@@ -54,14 +55,14 @@ key_apart rest e more same = true≢false (sym ((bytes_eq-Decides (take 5 rest) 
 -- ---- what is read has the form
 
 -- A text is its digits at the front and the rest.
-parts_of : (line : List ℕ) (number : ℕ) (rest : List ℕ) → TakesNumber line number rest → line ≡ take_while is_digit line ++ rest
-parts_of line number rest t = sym (take-append-drop (prefix_len is_digit line) line) ∙ ap (λ r. take_while is_digit line ++ r) (sym t.is_rest)
+parts_of : (line : List ℕ) (number : ℕ) (rest : List ℕ) → TakesNumber line number rest → line ≡ take_while is_ascii_digit line ++ rest
+parts_of line number rest t = sym (take-append-drop (prefix_len is_ascii_digit line) line) ∙ ap (λ r. take_while is_ascii_digit line ++ r) (sym t.is_rest)
 
 -- A number and the word of a tick are a tick.
 pub reads_tick : (line : List ℕ) (turn : ℕ) (rest : List ℕ) → TakesNumber line turn rest → rest ≡ codes " tick" → TakesForm line (held.Tick turn)
 reads_tick line turn rest t word = record {
-  form = TickLine (value (take_while is_digit line));
-  has = record { digits = take_while is_digit line; number = front_number line t.begins; parts = parts_of line turn rest t ∙ ap (λ r. take_while is_digit line ++ r) word };
+  form = TickLine (value (take_while is_ascii_digit line));
+  has = record { digits = take_while is_ascii_digit line; number = front_number line t.begins; parts = parts_of line turn rest t ∙ ap (λ r. take_while is_ascii_digit line ++ r) word };
   is_taken = ap TickLine t.is_number;
 }
 
@@ -69,14 +70,14 @@ reads_tick line turn rest t word = record {
 pub reads_key : (line : List ℕ) (turn code : ℕ) (rest more after : List ℕ) → TakesNumber line turn rest → rest ≡ codes " key " ++ more
     → TakesNumber more code after → after ≡ [] → TakesForm line (held.Key turn code)
 reads_key line turn code rest more after t word u none = record {
-  form = KeyLine (value (take_while is_digit line)) (value (take_while is_digit more));
+  form = KeyLine (value (take_while is_ascii_digit line)) (value (take_while is_ascii_digit more));
   has = record {
-    digits = take_while is_digit line;
-    more = take_while is_digit more;
+    digits = take_while is_ascii_digit line;
+    more = take_while is_ascii_digit more;
     number = front_number line t.begins;
     code_number = front_number more u.begins;
-    parts = parts_of line turn rest t ∙ ap (λ r. take_while is_digit line ++ r) (word
-        ∙ ap (λ m. codes " key " ++ m) (parts_of more code after u ∙ ap (λ r. take_while is_digit more ++ r) none ∙ append-nil (take_while is_digit more)));
+    parts = parts_of line turn rest t ∙ ap (λ r. take_while is_ascii_digit line ++ r) (word
+        ∙ ap (λ m. codes " key " ++ m) (parts_of more code after u ∙ ap (λ r. take_while is_ascii_digit more ++ r) none ∙ append-nil (take_while is_ascii_digit more)));
   };
   is_taken = rw (t.is_number, u.is_number) refl;
 }
@@ -84,7 +85,7 @@ reads_key line turn code rest more after t word u none = record {
 -- ---- what is not read has no form
 
 -- No digit stands at the front.
-pub no_digits : (line : List ℕ) → is_skipped line ≡ false → prefix_len is_digit line ≡ 0 → (form : LineForm) → HasForm line form → ⊥
+pub no_digits : (line : List ℕ) → is_skipped line ≡ false → prefix_len is_ascii_digit line ≡ 0 → (form : LineForm) → HasForm line form → ⊥
 no_digits line s none Skipped has = true≢false (sym has ∙ s)
 no_digits line s none (TickLine turn) has = omega (arith, (tick_front line turn has).begins, none)
 no_digits line s none (KeyLine turn code) has = omega (arith, (key_front line turn code has).begins, none)
@@ -103,11 +104,11 @@ same_more line turn rest more other code t word k = append_cancel_left (codes " 
 
 -- The word of a key is followed by no digit.
 pub no_code : (line : List ℕ) (turn : ℕ) (rest more : List ℕ) → is_skipped line ≡ false → TakesNumber line turn rest → rest ≢ codes " tick"
-    → rest ≡ codes " key " ++ more → prefix_len is_digit more ≡ 0 → (form : LineForm) → HasForm line form → ⊥
+    → rest ≡ codes " key " ++ more → prefix_len is_ascii_digit more ≡ 0 → (form : LineForm) → HasForm line form → ⊥
 no_code line turn rest more s t tick word none Skipped has = true≢false (sym has ∙ s)
 no_code line turn rest more s t tick word none (TickLine other) has = tick (t.is_rest ∙ (tick_front line other has).rest)
 no_code line turn rest more s t tick word none (KeyLine other code) has =
-    omega (arith, (code_front line other code has).begins, ap (prefix_len is_digit) (same_more line turn rest more other code t word has), none)
+    omega (arith, (code_front line other code has).begins, ap (prefix_len is_ascii_digit) (same_more line turn rest more other code t word has), none)
 
 -- More follows the code.
 pub no_end : (line : List ℕ) (turn code : ℕ) (rest more after : List ℕ) → is_skipped line ≡ false → TakesNumber line turn rest → rest ≢ codes " tick"
@@ -115,14 +116,14 @@ pub no_end : (line : List ℕ) (turn code : ℕ) (rest more after : List ℕ) �
 no_end line turn code rest more after s t tick word u some Skipped has = true≢false (sym has ∙ s)
 no_end line turn code rest more after s t tick word u some (TickLine other) has = tick (t.is_rest ∙ (tick_front line other has).rest)
 no_end line turn code rest more after s t tick word u some (KeyLine other number) has =
-    some (u.is_rest ∙ (ap (λ m. drop (prefix_len is_digit m) m) (same_more line turn rest more other number t word has) ∙ (code_front line other number has).rest))
+    some (u.is_rest ∙ (ap (λ m. drop (prefix_len is_ascii_digit m) m) (same_more line turn rest more other number t word has) ∙ (code_front line other number has).rest))
 
 -- ---- a line has one form at most
 
 -- A line that begins with a digit is not skipped.
-digits_no_skip : (line : List ℕ) → 0 < prefix_len is_digit line → is_skipped line ≡ true → ⊥
+digits_no_skip : (line : List ℕ) → 0 < prefix_len is_ascii_digit line → is_skipped line ≡ true → ⊥
 digits_no_skip [] lt s = omega (arith, lt)
-digits_no_skip (b ∷ line) lt s = let e : b ≡ 35 = eqb-true b 35 s in let p : prefix_len is_digit (b ∷ line) ≡ 0 = rw e refl in omega (arith, p, lt)
+digits_no_skip (b ∷ line) lt s = let e : b ≡ 35 = eqb-true b 35 s in let p : prefix_len is_ascii_digit (b ∷ line) ≡ 0 = rw e refl in omega (arith, p, lt)
 
 -- The word of a tick does not begin as that of a key.
 tick_no_key : (more : List ℕ) → codes " tick" ≡ codes " key " ++ more → ⊥

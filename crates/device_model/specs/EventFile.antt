@@ -1,5 +1,6 @@
 -- Event files: the lines, what each says, the list of events, and the first fault.
 use Rattle.std.specs.Prelude.{◌≡◌, ◌≢◌, ℕ, ◌+◌, ◌-◌, ◌*◌, ◌<◌, ◌≤◌, List, [], ◌∷◌, ◌++◌, length, Bool, true, ◌==◌, ◌&&◌, nat_le, IsTrue, if◌then◌else◌, codes, Option, Some, None, IsSome}
+use Rattle.std.specs.Char.{is_ascii_digit}
 use Rattle.std.specs.Option.{option_to_list}
 use Rattle.std.specs.List.{fold, AllByRecursion}
 use Rattle.device_model.specs.declared.events.Event.{Event}
@@ -22,10 +23,6 @@ lines_of (byte ∷ bytes) = if byte == 10 then [] ∷ lines_of bytes else with_f
 
 -- ---- numbers
 
--- '0' to '9'
-abbrev pub is_digit : ℕ → Bool
-is_digit byte = nat_le 48 byte && nat_le byte 57
-
 -- the number that decimal digits spell
 unfoldable pub value : List ℕ → ℕ
 value digits = fold (λ n digit. n * 10 + (digit - 48)) 0 digits
@@ -33,7 +30,7 @@ value digits = fold (λ n digit. n * 10 + (digit - 48)) 0 digits
 -- one or more decimal digits, and their number
 pub record IsNumber (text : List ℕ) (number : ℕ) : Type 0 where
   pub some : text ≢ []
-  pub digits : AllByRecursion (λ byte. IsTrue (is_digit byte)) text
+  pub digits : AllByRecursion (λ byte. IsTrue (is_ascii_digit byte)) text
   pub spells : number ≡ value text
 
 -- ---- what a line says

@@ -7,7 +7,8 @@ use Rattle.device_model.specs.declared.line_form.Form.{Form}
 use Rattle.device_model.specs.declared.line_form.Form.TheVariants as held
 use Rattle.device_model.specs.declared.events.EventFault.{EventFault}
 use Rattle.device_model.specs.declared.events.EventFault.TheVariants.{Syntax, Range, TooMany, NoMemory}
-use Rattle.device_model.specs.EventFile.{LineForm, Skipped, TickLine, KeyLine, is_digit, value, HasForm, LineLeaves, BreaksSyntax, BreaksRange, BreaksRoom}
+use Rattle.std.specs.Char.{is_ascii_digit}
+use Rattle.device_model.specs.EventFile.{LineForm, Skipped, TickLine, KeyLine, value, HasForm, LineLeaves, BreaksSyntax, BreaksRange, BreaksRoom}
 
 -- a number as 32 bits hold it: a larger one is the greatest
 abbrev pub capped : ℕ → ℕ
@@ -31,9 +32,9 @@ CodeFits form = Unit {0}
 
 -- the digits at the front as a number, and what follows
 pub record TakesNumber (text : List ℕ) (number : ℕ) (rest : List ℕ) : Type 0 where
-  pub begins : 0 < prefix_len is_digit text
-  pub is_number : number ≡ capped (value (take_while is_digit text))
-  pub is_rest : rest ≡ drop (prefix_len is_digit text) text
+  pub begins : 0 < prefix_len is_ascii_digit text
+  pub is_number : number ≡ capped (value (take_while is_ascii_digit text))
+  pub is_rest : rest ≡ drop (prefix_len is_ascii_digit text) text
 
 -- the line's form as the code holds it
 pub record TakesForm (line : List ℕ) (taken : Form) : Type 0 where

@@ -1,5 +1,6 @@
 // The form of one line of an event file.
 ghost use Rattle.std.specs.Prelude.{◌≡◌, ◌<◌, ℕ, List, MatchOption};
+ghost use Rattle.std.specs.Char.{is_ascii_digit};
 ghost use Rattle.std.specs.List.{prefix_len};
 ghost use Rattle.device_model.specs.EventFile.{LineForm, value, HasForm};
 ghost use Rattle.device_model.specs.EventFile as spec;
@@ -33,18 +34,12 @@ fn value_of(digits: &[u8]) -> u32
     value
 }
 
-fn is_digit(byte: u8) -> bool
-    ensures { result ≡ spec.is_digit byte }
-{
-    (b'0'..=b'9').contains(&byte)
-}
-
 // How many digits stand at the front.
 fn count_digits(text: &[u8]) -> usize
-    ensures { result ≡ prefix_len spec.is_digit text.now }
+    ensures { result ≡ prefix_len is_ascii_digit text.now }
 {
     for (count, byte) in text.iter().enumerate() {
-        if !is_digit(*byte) {
+        if !byte.is_ascii_digit() {
             return count;
         }
     }
@@ -53,7 +48,7 @@ fn count_digits(text: &[u8]) -> usize
 
 // The number at the front, and what follows.
 fn number_at_front(text: &[u8]) -> Option<(u32, &[u8])>
-    ensures { MatchOption result (prefix_len spec.is_digit text.now ≡ 0) (λ n. TakesNumber text.now n.0 n.1.now) }
+    ensures { MatchOption result (prefix_len is_ascii_digit text.now ≡ 0) (λ n. TakesNumber text.now n.0 n.1.now) }
 {
     let count = count_digits(text);
     if count == 0 {

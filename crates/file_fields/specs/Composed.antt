@@ -162,8 +162,8 @@ module _ {A B : Type 0} {g : Grammar A} {Is : A → Type 0} {text : A → List �
       record { value = k.value; is = k.is; same = e.1; bytes = k.bytes [] (ap fields_text e.0) ∙ append-nil (text k.value) }
 
 -- what follows from something, without what that was made of: a long proof stays small where each step sees no further than the last
-pub given : {A B : Type 0} → A → (A → B) → B
-given x f = f x
+pub supposing : {A B : Type 0} → A → (A → B) → B
+supposing x f = f x
 
 -- one thing and the others
 pub and_then : {A B : Type 0} → A → B → A × B
@@ -186,8 +186,8 @@ module _ {S A : Type 0} {row : ℕ → S → Grammar A} (step : S → A → S) {
 
       back : (fs : List Field) (xs : List A) → Sound (many (suc n) row step kept) fs (done xs) → AreRows step Is (suc n) kept xs × (fields_text fs ≡ flat_map text xs)
       back fs xs s =
-          given (take_part (means n kept) _ fs xs s) (λ x.
-          given (take_last (others (step kept x.value)) (λ ys. x.value ∷ ys) x.rest xs x.more) (λ more.
+          supposing (take_part (means n kept) _ fs xs s) (λ x.
+          supposing (take_last (others (step kept x.value)) (λ ys. x.value ∷ ys) x.rest xs x.more) (λ more.
           let long : length (x.value ∷ more.value) ≡ suc n = ap (λ (k : ℕ). suc k) more.is.0 in
           let one = subst (λ (z : ℕ). Is z kept x.value) (sym more.is.0) x.is in
           subst (λ (z : List A). AreRows step Is (suc n) kept z × (fields_text fs ≡ flat_map text z)) more.same

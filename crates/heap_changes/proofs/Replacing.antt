@@ -25,7 +25,7 @@ use Rattle.typed_machine.specs.States.{State, most_values, stack_bytes, places_o
 use Rattle.typed_machine.specs.Typing.{TypedAmong, StoreFits, scope_of}
 use Rattle.typed_machine.specs.Words.{stack_pointer, upper_end, head_values, object_values}
 use Rattle.typed_heap.specs.Standing.{ObjectStands, HeapStands}
-use Rattle.word_machine.specs.Memory.{MemoryView, word_in, word_of, is_open, is_mapped}
+use Rattle.word_machine.specs.Memory.{MemoryView, word_in, word_of, heap_allows, is_mapped}
 use Rattle.word_machine.specs.Standing.{HoldsValues, values_at, end_of, IsInside, ObjectsLie, StandsInBlock, BlocksStand, MemoryStands}
 use Rattle.heap_changes.specs.Laws.{with_objects, with_heap, HeapHolds, HeapIsReplaced}
 use Rattle.heap_changes.proofs.Bounds.{table-low, descriptor-low, few-stacks}
@@ -40,7 +40,7 @@ low-kept m words a l = let t : nat_le heap_start a ≡ false = grind (arith, nat
 
 -- and what is mapped there is so
 pub low-mapped : (m : MemoryView) (words : List ℕ) (a : ℕ) → a < heap_start → is_mapped m a ≡ true → is_mapped (with_heap words m) a ≡ true
-unfolding is_mapped is_open
+unfolding is_mapped heap_allows
 low-mapped m words a l h =
     let t : nat_lt a heap_start ≡ true = grind (arith, nat_tests) in
     rw (t, low-kept m words a l) (rw t at h)

@@ -23,7 +23,7 @@ use Rattle.word_machine.specs.Standing.{values_at, ObjectsLie}
 use Rattle.nucleus_calls.specs.declared.outcome.Leaving.{Leaving}
 use Rattle.nucleus_calls.specs.declared.outcome.Leaving.TheVariants as leaving
 use Rattle.nucleus_calls.specs.Nucleus.{NucleusView, NucleusStands}
-use Rattle.nucleus_calls.specs.Turning.{StandsBefore, SameTurn, AtInstruction, BothStand, Stepped, Leads, effect_of}
+use Rattle.nucleus_calls.specs.Turning.{StandsBefore, SameTurn, AtInstruction, BothStand, Stepped, Leads, leaving_effect}
 use Rattle.nucleus_calls.specs.Laws.{CallsNameEntries}
 use Rattle.kernel_machine.specs.Stepping.{TurnLeads, InTurn, ending_by, MayAct}
 use Rattle.kernel_machine.proofs.NoAnswers.{TellsNone, effect-tells-none}
@@ -83,7 +83,7 @@ step_of leaving.Ended = step.Ends
 
 -- one at which it leaves
 stepped-leaves : (why : Leaving) (cpu : Cpu) (v : NucleusView) (image : ImageParts) (live : ℕ → Bool) (s : State) (o : Option EffectView) → Stepped (step_of why) cpu v image live s o
-    → (o ≡ Some (effect_of why)) × BothStand image live s cpu v
+    → (o ≡ Some (leaving_effect why)) × BothStand image live s cpu v
 stepped-leaves why cpu v image live s None h = absurd h
 stepped-leaves (leaving.Fault vector) cpu v image live s (Some (Moves t)) h = absurd (let e = h.0 in cc)
 stepped-leaves (leaving.Fault vector) cpu v image live s (Some (Faults n)) h = let e = h.0 in let same : n ≡ vector = cc in (rw same refl, h.1)
@@ -156,19 +156,19 @@ moves-lead image live turn s i len cpu ran v after h now stepped left entries =
 
 -- the effect is the same wherever the next instruction stands
 leaving-anywhere : (image : ImageParts) (answers : List Answer) (next other : ℕ) (s : State) (why : Leaving)
-    → after_effect image answers next s (effect_of why) ≡ after_effect image answers other s (effect_of why)
+    → after_effect image answers next s (leaving_effect why) ≡ after_effect image answers other s (leaving_effect why)
 leaving-anywhere image answers next other s (leaving.Fault vector) = refl
 leaving-anywhere image answers next other s leaving.Ended = refl
 
 -- the kernel's end
 kernel-ends : (image : ImageParts) (answers : List Answer) (next : ℕ) (s : State) (why : Leaving) → s.current ≡ 0
-    → after_effect image answers next s (effect_of why) ≡ Some (turned answers None (record s { ending = Some (ending_by why (Word (places_of s) (s.thread.regs Eax))) }))
+    → after_effect image answers next s (leaving_effect why) ≡ Some (turned answers None (record s { ending = Some (ending_by why (Word (places_of s) (s.thread.regs Eax))) }))
 kernel-ends image answers next s (leaving.Fault vector) current = rw current refl
 kernel-ends image answers next s leaving.Ended current = rw current refl
 
 pub kernel-leads : (image : ImageParts) (live : ℕ → Bool) (turn : ℕ) (s : State) (cpu : Cpu) (v : NucleusView) (why : Leaving) → StandsBefore image live s s.thread.place cpu v
     → InTurn turn s → s.current ≡ 0 → (left : List Answer) (next : ℕ) (entries : List Entry)
-    → TurnLeads image live turn left entries entries cpu v (Some (ending_by why (slice_index cpu.regs 0))) (λ answers. after_effect image answers next s (effect_of why))
+    → TurnLeads image live turn left entries entries cpu v (Some (ending_by why (slice_index cpu.regs 0))) (λ answers. after_effect image answers next s (leaving_effect why))
 kernel-leads image live turn s cpu v why h now current left next entries = (
   [],
   turned left None (record s { ending = Some (ending_by why (Word (places_of s) (s.thread.regs Eax))) }),
@@ -187,12 +187,12 @@ kernel-leads image live turn s cpu v why h now current left next entries = (
 
 -- an application's
 pub application-leads : (image : ImageParts) (live : ℕ → Bool) (turn : ℕ) (s : State) (why : Leaving) (place : ℕ) (ran : Cpu) (after : NucleusView) → InTurn turn s
-    → (left : List Answer) (entries more : List Entry) → Leads image live s left entries more ran after (after_effect image left place s (effect_of why))
-    → (next : ℕ) → TurnLeads image live turn left entries more ran after None (λ answers. after_effect image answers next s (effect_of why))
+    → (left : List Answer) (entries more : List Entry) → Leads image live s left entries more ran after (after_effect image left place s (leaving_effect why))
+    → (next : ℕ) → TurnLeads image live turn left entries more ran after None (λ answers. after_effect image answers next s (leaving_effect why))
 application-leads image live turn s why place ran after now left entries more led next =
     let (told, r, is, stands) =
-    leads-on image live turn s left entries more ran after (λ answers. after_effect image answers place s (effect_of why))
-    (effect-tells-none image left place s (effect_of why)) now led in
+    leads-on image live turn s left entries more ran after (λ answers. after_effect image answers place s (leaving_effect why))
+    (effect-tells-none image left place s (leaving_effect why)) now led in
     (told, r, leaving-anywhere image (told ++ left) next place s why ∙ is, stands)
 
 -- where a step says that the running stack leaves, processor and Nucleus stand as before
@@ -205,11 +205,11 @@ leaves-before image live s i len cpu ran v after why h stepped =
 pub leaving-leads : (image : ImageParts) (live : ℕ → Bool) (turn : ℕ) (s : State) (i : Inst) (len : ℕ) (cpu stood ran : Cpu) (v between after : NucleusView) (why : Leaving)
     → AtInstruction image live s i len cpu v → Stepped (step_of why) stood between image live s (Effect image s i len)
     → (left : List Answer) (entries more : List Entry) (ending : Option Ending)
-    → ((next : ℕ) → TurnLeads image live turn left entries more ran after ending (λ answers. after_effect image answers next s (effect_of why)))
+    → ((next : ℕ) → TurnLeads image live turn left entries more ran after ending (λ answers. after_effect image answers next s (leaving_effect why)))
     → TurnLeads image live turn left entries more ran after ending (λ answers. instruction image answers s)
 leaving-leads image live turn s i len cpu stood ran v between after why h stepped left entries more ending led =
     let (effect, both) = stepped-leaves why stood between image live s (Effect image s i len) stepped in
-    effect-leads image live turn s i len cpu ran v after h (effect_of why) effect left entries more ending (led (next_address s.thread.place len))
+    effect-leads image live turn s i len cpu ran v after h (leaving_effect why) effect left entries more ending (led (next_address s.thread.place len))
 
 -- ---- a call of the Nucleus
 

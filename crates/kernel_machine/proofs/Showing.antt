@@ -18,7 +18,7 @@ use Rattle.typed_machine.specs.Reaching.{live_in}
 use Rattle.typed_machine.specs.Typing.{TypedAmong, Typed}
 use Rattle.typed_machine.specs.Words.{upper_end, stack_pointer, esp_of}
 use Rattle.typed_safety.specs.Laws.{RunsAreTyped}
-use Rattle.word_machine.specs.Memory.{MemoryView, word_of, word_at, is_open, is_mapped}
+use Rattle.word_machine.specs.Memory.{MemoryView, word_of, memory_word, heap_allows, is_mapped}
 use Rattle.word_machine.specs.Standing.{kept_values, values_at, HoldsValues, CpuStands, MemoryStands}
 use Rattle.nucleus_calls.specs.Nucleus.{state_by, states_by}
 use Rattle.run_report.specs.Shown.{ShownStack, ShownWords, shown_stacks, shown_of}
@@ -30,8 +30,8 @@ use Rattle.kernel_machine.proofs.Cells.{screen-same}
 -- ---- words one after another
 
 -- a word that stands at an address
-word-there : (m : MemoryView) (a w : ℕ) → word_of m a ≡ Some w → word_at m a ≡ w
-unfolding word_at
+word-there : (m : MemoryView) (a w : ℕ) → word_of m a ≡ Some w → memory_word m a ≡ w
+unfolding memory_word
 word-there m a w e = rw e refl
 
 -- each word of a list stands where it belongs
@@ -243,7 +243,7 @@ value-there (v ∷ vs) (suc k) low = value-there vs k (omega (arith, low))
 
 -- where a word stands below the heap, one is mapped
 there-mapped : (m : MemoryView) (a w : ℕ) → a < heap_start → word_of m a ≡ Some w → is_mapped m a ≡ true
-unfolding is_mapped is_open
+unfolding is_mapped heap_allows
 there-mapped m a w low e = let below : nat_lt a heap_start ≡ true = grind (arith, nat_tests) in rw (e, below) refl
 
 -- the words of a lawful machine's statics are there

@@ -5,7 +5,7 @@ ghost use Rattle.tal_image.specs.Image.{ImageParts};
 ghost use Rattle.typed_machine.specs.States.{State};
 ghost use Rattle.typed_machine.specs.Placing.{Answer};
 ghost use Rattle.typed_machine.specs.Turns.{after_effect, instruction};
-ghost use Rattle.nucleus_calls.specs.Turning.{StandsBefore, AtInstruction, effect_of};
+ghost use Rattle.nucleus_calls.specs.Turning.{StandsBefore, AtInstruction, leaving_effect};
 ghost use Rattle.kernel_machine.specs.Built.{IsBuilt};
 ghost use Rattle.kernel_machine.specs.Stepping.{TurnLeads, InTurn, MayLeave, MayAct, ending_by};
 
@@ -72,7 +72,7 @@ fn finish(
     ensures turn { (image : ImageParts) (live : ℕ → Bool) (s : State) → StandsBefore image live s s.thread.place cpu.old nucleus.old → InTurn turn s
         → (left : List Answer) (next : ℕ)
         → TurnLeads image live turn left journal.old.entries journal.new.entries cpu.new nucleus.new result
-        (λ answers. after_effect image answers next s (effect_of why)) }
+        (λ answers. after_effect image answers next s (leaving_effect why)) }
     ensures spare { journal.old.spare ≤ journal.new.spare + 1 }
 {
     if nucleus.running() == KERNEL {

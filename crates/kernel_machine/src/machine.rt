@@ -11,7 +11,7 @@ ghost use Rattle.typed_machine.specs.States.{entry_place};
 ghost use Rattle.typed_machine.specs.Code.{inst_at};
 ghost use Rattle.kernel_machine.specs.Built.{IsBuilt};
 ghost use Rattle.kernel_machine.specs.Shown.{esp_by};
-ghost use Rattle.kernel_machine.specs.Machine.{Follows, turn_of, end_of};
+ghost use Rattle.kernel_machine.specs.Machine.{Follows, turn_of, run_answer};
 ghost use Rattle.kernel_machine.specs.Stepping.{TakesTurn, TurnLaws};
 
 use crate::acting::act;
@@ -202,7 +202,7 @@ impl Machine {
 
     /// The end, or `Turns` where there is none yet. It is never `NoMemory`.
     pub fn end(&self) -> RunEnd
-        ensures value { result ≡ end_of self.now.ending }
+        ensures value { result ≡ run_answer self.now.ending }
         ensures real { result ≢ RunEnd.NoMemory }
     {
         match self.ending {

@@ -35,7 +35,7 @@ use Rattle.word_machine.specs.Standing.{values_at, CpuStands, MemoryStands}
 use Rattle.heap_changes.specs.Laws.{StatesKeepWords}
 use Rattle.heap_calls.specs.Finding.{CallFinds}
 use Rattle.heap_calls.specs.Telling.{IsRooted, CollectionTold, AllocationTold}
-use Rattle.nucleus_calls.specs.Nucleus.{NucleusView, NucleusStands, IsKept}
+use Rattle.nucleus_calls.specs.Nucleus.{NucleusView, NucleusStands, IsNucleus}
 use Rattle.nucleus_calls.specs.Calling.{fresh_cpu}
 use Rattle.nucleus_calls.specs.HeapEntries.{AtHeapCall, LeadsAnswered, HeapReplied}
 use Rattle.nucleus_calls.proofs.Restacked.{restacked}
@@ -196,7 +196,7 @@ module _ (image : ImageParts) (s : State) (next k : ℕ) (shapes : ShapesView) (
 
 -- each stack still has all of its words where the memory stands
 pub kept-standing : (image : ImageParts) (live over : ℕ → Bool) (s t : State) (v : NucleusView) (memory : MemoryView) (index : List ℕ) → TypedAmong image live s → NucleusStands image live s v
-    → IsKept v → MemoryStands image over t memory → FreeLists index memory.heap → IsKept (with_memory v memory index)
+    → IsNucleus v → MemoryStands image over t memory → FreeLists index memory.heap → IsNucleus (with_memory v memory index)
 kept-standing image live over s t v memory index typed stands kept m lists = record {
   room = λ a low high aligned. m.room a low (rw (count-is typed stands) at high) aligned;
   starts = kept.starts;
@@ -373,16 +373,16 @@ module _ (laws : HeapLaws) (image : ImageParts) (s : State) (next k : ℕ) (shap
       (subst (λ place. AllocationTold image place s n.0 result memory) h.before.processor.place (told f.0 n.0 f.1 (sym (is ∙ n.1.named)) (n.1.elements ∙ sym long))))
 
   -- each stack still has all of its words
-  pub kept-collected : (few : k < 3) → (w : NucleusView) → w ≡ v → IsKept w → (word : ℕ) (memory : MemoryView) (index : List ℕ) → ((t : Ty) → Found w t → CollectionTold image cpu.pc s word memory) → FreeLists index memory.heap
-      → IsKept (with_memory w memory index)
+  pub kept-collected : (few : k < 3) → (w : NucleusView) → w ≡ v → IsNucleus w → (word : ℕ) (memory : MemoryView) (index : List ℕ) → ((t : Ty) → Found w t → CollectionTold image cpu.pc s word memory) → FreeLists index memory.heap
+      → IsNucleus (with_memory w memory index)
   kept-collected few w e kept word memory index told lists =
       let f = found few w e in
       kept-standing image (live_in image s) (λ i. false) s s w memory index h.before.typed (subst (NucleusStands image (live_in image s) s) (sym e) h.before.nucleus) kept ((told f.0 f.1).stands (λ i. false) (λ i l. absurd (false≢true l))) lists
 
-  pub kept-answered : (few : k < 3) → (formed : FormedImagesTell) (back : (shapes : ShapesView) (shape : Shape) → length shapes.classes ≤ 1024 → IsShape shapes shape → shape_named (shape_word shape) ≡ shape) → k < 2 → (w : NucleusView) → w ≡ v → IsKept w
+  pub kept-answered : (few : k < 3) → (formed : FormedImagesTell) (back : (shapes : ShapesView) (shape : Shape) → length shapes.classes ≤ 1024 → IsShape shapes shape → shape_named (shape_word shape) ≡ shape) → k < 2 → (w : NucleusView) → w ≡ v → IsNucleus w
       → (shape : Shape) → shape ≡ shape_named (slice_index cpu.regs 0) → (elements : ℕ) → elements ≡ (if k == 0 then 0 else slice_index cpu.regs 1)
       → (result : Option ℕ) (memory : MemoryView) (index : List ℕ) → ((t : Ty) (asked : ObjectShape) → Found w t → shape_in asked ≡ shape → elements_in asked ≡ elements → AllocationTold image cpu.pc s asked result memory)
-      → FreeLists index memory.heap → IsKept (with_memory w memory index)
+      → FreeLists index memory.heap → IsNucleus (with_memory w memory index)
   kept-answered few formed back fewer w e kept shape is elements long result memory index told lists =
       let f = found few w e in
       let n = names-shape formed back fewer in

@@ -10,7 +10,7 @@ use Rattle.stack_states.specs.StackTable as table
 use Rattle.device_model.specs.Devices.{DevicesView}
 use Rattle.word_machine.specs.Memory.{MemoryView, is_mapped}
 use Rattle.word_machine.specs.Laws.{HeapWritten}
-use Rattle.nucleus_calls.specs.Nucleus.{NucleusView, IsKept}
+use Rattle.nucleus_calls.specs.Nucleus.{NucleusView, IsNucleus}
 use Rattle.nucleus_calls.specs.Calling.{GoesOn}
 use Rattle.nucleus_calls.proofs.Led.{with_parts}
 
@@ -39,7 +39,7 @@ heap-kept law heads start n reply (Interrupted regs flags pc) m cpu after (is, u
 
 -- as many stacks, and what is mapped
 pub kept-after : WritesKeepLists → (v : NucleusView) (start n reply : ℕ) (was : StackState) (cpu : Cpu) (after : MemoryView) (stacks : List StackState) (devices : DevicesView)
-    → IsKept v → GoesOn start n reply was v.memory cpu after → length stacks ≡ length v.stacks → IsKept (with_parts v after stacks devices)
+    → IsNucleus v → GoesOn start n reply was v.memory cpu after → length stacks ≡ length v.stacks → IsNucleus (with_parts v after stacks devices)
 kept-after law v start n reply was cpu after stacks devices kept went same = record {
   room = λ a low high aligned. mapped-kept start n reply was v.memory cpu after went a (kept.room a low (rw same at high) aligned);
   starts = kept.starts ∙ sym same;

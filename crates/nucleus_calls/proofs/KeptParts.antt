@@ -36,7 +36,7 @@ use Rattle.typed_machine.specs.States.{State, Thread, Known, places_of, with_reg
 use Rattle.typed_machine.specs.Switches.{runs}
 use Rattle.typed_machine.specs.Operands.{Spot, AtStatic, AtSlot, AtValue, spot_of, operand_value, is_number, word_among, may_hold, type_there, provided, write_spot, write_operand}
 use Rattle.typed_machine.specs.Words.{words_of}
-use Rattle.typed_machine.specs.Effects.{EffectView, Moves, Faults, Calls, Ends, goes_on, settled, fault_or, computes, sets_flags, compares, tests, moves, addresses, is_full, pushes, pops, drops, arguments_fit, has_arguments, entered, calls_entry, entry_or, calls_to, calls_value, returns_from, jumps, branches, form_effect, Effect}
+use Rattle.typed_machine.specs.Effects.{EffectView, Moves, Faults, Calls, Ends, goes_on, settled, fault_or, computes, sets_flags, compares, tests, moves, addresses, is_full, pushes, pops, drops, values_fit, has_arguments, entered, calls_entry, numbered_entry_or, calls_to, calls_value, returns_from, jumps, branches, form_effect, Effect}
 use Rattle.nucleus_calls.specs.Laws.{entry_called, CallsNameEntries}
 
 -- what the stacks do, where objects lie, what happened to the devices, the turns and the end are as before
@@ -204,10 +204,10 @@ drops-keep s i next (Some n) = thread-keeps s _ _ _
 
 -- a function is called
 called-keeps : (v : ShownImage) (s : State) (next address : ℕ) (o : Option Sig)
-    → EffectKeeps s (option_and_then (λ sig. if arguments_fit v s sig then Some (pushes address (Ret next) (entered next s)) else None) o)
+    → EffectKeeps s (option_and_then (λ sig. if values_fit v s sig then Some (pushes address (Ret next) (entered next s)) else None) o)
 called-keeps v s next address None = tt
 called-keeps v s next address (Some sig) =
-    tested-keeps s (arguments_fit v s sig) _ (pushes-keep s (entered next s) address (Ret next) (runs-keeps s s _ _ (unchanged s)))
+    tested-keeps s (values_fit v s sig) _ (pushes-keep s (entered next s) address (Ret next) (runs-keeps s s _ _ (unchanged s)))
 
 value-calls-keep : (v : ShownImage) (s : State) (next : ℕ) (o : Option Value) → EffectKeeps s (calls_value v s next o)
 value-calls-keep v s next (Some (Code a)) = called-keeps v s next a _
@@ -243,7 +243,7 @@ leaves called s (Some (Calls k)) h = absurd h
 leaves called s (Some Ends) h = tt
 
 -- an entry of the Nucleus is called, or else a function
-entry-leaves : (s : State) (o : Option EffectView) (called : Option ℕ) → EffectKeeps s o → EffectLeaves called s (entry_or s o called)
+entry-leaves : (s : State) (o : Option EffectView) (called : Option ℕ) → EffectKeeps s o → EffectLeaves called s (numbered_entry_or s o called)
 entry-leaves s o None h = leaves None s o h
 entry-leaves s o (Some k) h = go (slice_get nucleus_arguments k)
   where

@@ -29,7 +29,7 @@ use Rattle.word_machine.specs.Laws.{EmptyStacksAreFree}
 use Rattle.nucleus_calls.specs.declared.outcome.Leaving.{Leaving}
 use Rattle.nucleus_calls.specs.declared.outcome.Leaving.TheVariants as leaving
 use Rattle.nucleus_calls.specs.Nucleus.{NucleusView, NucleusStands}
-use Rattle.nucleus_calls.specs.Turning.{StandsBefore, Leads, effect_of}
+use Rattle.nucleus_calls.specs.Turning.{StandsBefore, Leads, leaving_effect}
 use Rattle.nucleus_calls.specs.Calling.{fresh_cpu, GoesOn, RepliesAt, kind_of, value_of, reply_of}
 use Rattle.nucleus_calls.proofs.Restacked.{restacked}
 use Rattle.nucleus_calls.proofs.Switched.{current-is, fresh-stands, SwitchStands, switch-stands}
@@ -59,7 +59,7 @@ switch-leads image live s answers before entry made o cpu v same sw = (
 
 -- what the turn comes to
 leaving-turn : (image : ImageParts) (answers : List Answer) (next : ℕ) (s : State) (why : Leaving) → s.current ≢ 0
-    → after_effect image answers next s (effect_of why) ≡ kernel_goes_on image answers (kind_of why) (value_of why) (reply_of why s.current) s
+    → after_effect image answers next s (leaving_effect why) ≡ kernel_goes_on image answers (kind_of why) (value_of why) (reply_of why s.current) s
 leaving-turn image answers next s (leaving.Fault vector) other = let e : (s.current == 0) ≡ false = grind (arith, nat_tests) in rw e refl
 leaving-turn image answers next s leaving.Ended other = let e : (s.current == 0) ≡ false = grind (arith, nat_tests) in rw e refl
 
@@ -68,7 +68,7 @@ pub leave-leads : EmptyStacksAreFree → (image : ImageParts) (live : ℕ → Bo
     → (why : Leaving) (ran : Cpu) (after : MemoryView) → GoesOn start 0 (reply_of why (current_of v.stacks)) was v.memory ran after
     → (turn : ℕ) → s.turns ≡ turn → (before : List Entry) (answers : List Answer)
     → Leads image live s answers before (before ++ entry_at turn (current_of v.stacks) (kind_of why) (value_of why) ∷ []) ran
-    (with_parts v after (table.handed_over v.stacks Empty 0) v.devices) (after_effect image answers next s (effect_of why))
+    (with_parts v after (table.handed_over v.stacks Empty 0) v.devices) (after_effect image answers next s (leaving_effect why))
 unfolding kept_values
 leave-leads law image live s next cpu v h one application was waits start starts why ran after went turn turns before answers =
     let current = current-is h.typed h.nucleus one in

@@ -16,7 +16,7 @@ use Rattle.typed_machine.specs.States.{EmptyStack, first_state, entry_place}
 use Rattle.root_words.specs.DataArea.{data_marks}
 use Rattle.word_machine.specs.Memory.{MemoryView}
 use Rattle.word_machine.specs.Standing.{MemoryStands}
-use Rattle.nucleus_calls.specs.Nucleus.{states_by, NucleusStands, IsKept}
+use Rattle.nucleus_calls.specs.Nucleus.{states_by, NucleusStands, IsNucleus}
 
 -- stacks that have not started
 none-started : (places : List ℕ) (n count : ℕ) → replicate count Empty ≡ states_by places n (replicate count EmptyStack)
@@ -43,7 +43,7 @@ replicate-count (suc count) x = ap suc (replicate-count count x)
 
 pub first-kept : (image : ImageParts) (m : MemoryView) (starts : List ℕ) (devices : DevicesView) (index : List ℕ) (marks : List Bool) → ((live : ℕ → Bool) → MemoryStands image live (first_state image) m)
     → length starts ≡ image.stacks → 1 ≤ image.stacks → FreeLists index m.heap
-    → IsKept (record { memory = m; stacks = Running ∷ replicate (image.stacks - 1) Empty; starts = starts; devices = devices; index = index; marks = marks })
+    → IsNucleus (record { memory = m; stacks = Running ∷ replicate (image.stacks - 1) Empty; starts = starts; devices = devices; index = index; marks = marks })
 first-kept image m starts devices index marks memory count some lists =
     let rest = replicate-count (image.stacks - 1) Empty in
     let same : length (Running ∷ replicate (image.stacks - 1) Empty) ≡ image.stacks = omega arith in

@@ -11,7 +11,7 @@ use Rattle.word_machine.specs.Memory.{MemoryView}
 use Rattle.word_machine.specs.Laws.{HeapWritten}
 use Rattle.word_machine.specs.Standing.{MemoryStands, WordsStand}
 use Rattle.word_machine.specs.Following.{StandsAt, Runs, Came}
-use Rattle.nucleus_calls.specs.Nucleus.{NucleusView, NucleusStands, IsKept}
+use Rattle.nucleus_calls.specs.Nucleus.{NucleusView, NucleusStands, IsNucleus}
 use Rattle.nucleus_calls.specs.Turning.{AtInstruction, MayStep, BothStand, Stepped}
 use Rattle.nucleus_calls.proofs.KeptParts.{KeepsRest, EffectLeaves, effect-leaves}
 use Rattle.nucleus_calls.proofs.Switched.{count-is, current-is}
@@ -92,8 +92,8 @@ came-memory image live s r ran after (Some (Calls k)) (is, words) = (s, words.me
 came-memory image live s r ran after (Some Ends) (is, words) = (s, words.memory)
 
 -- so each stack has all of its words
-pub step-kept : WritesKeepLists → (i : Inst) (len : ℕ) (cpu : Cpu) (v : NucleusView) (r : Step) (ran : Cpu) (after : MemoryView) → IsKept v → OneRuns v.stacks
-    → MayStep i len cpu v → Advances i len (current_of v.stacks) cpu v.memory r ran after → HeapWritten v.memory.heap after.heap → IsKept (with_parts v after v.stacks v.devices)
+pub step-kept : WritesKeepLists → (i : Inst) (len : ℕ) (cpu : Cpu) (v : NucleusView) (r : Step) (ran : Cpu) (after : MemoryView) → IsNucleus v → OneRuns v.stacks
+    → MayStep i len cpu v → Advances i len (current_of v.stacks) cpu v.memory r ran after → HeapWritten v.memory.heap after.heap → IsNucleus (with_parts v after v.stacks v.devices)
 step-kept law i len cpu v r ran after kept one (image, live, s, h) advances written =
     let t = came-memory image live s r ran after _ (advances image live s (words-stand image live s i len cpu v h) (sym (current-is h.before.typed h.before.nucleus one))) in
     let count = count-is h.before.typed h.before.nucleus in

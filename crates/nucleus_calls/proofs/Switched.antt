@@ -13,12 +13,12 @@ use Rattle.tal_checker.specs.WellTyped.{WellTyped}
 use Rattle.tal_types.specs.Contexts.{same}
 use Rattle.typed_machine.specs.Values.{Value, Number, Ret, Word}
 use Rattle.typed_machine.specs.States.{State, Thread, Stack, EmptyStack, RunningStack, YieldedStack, InterruptedStack, places_of, fresh_thread, entry_place}
-use Rattle.typed_machine.specs.Switches.{runs, handed_over, switched}
+use Rattle.typed_machine.specs.Switches.{runs, put_away, switched}
 use Rattle.typed_machine.specs.Typing.{TypedAmong}
 use Rattle.typed_machine.specs.Words.{stack_pointer, esp_of}
 use Rattle.word_machine.specs.Memory.{MemoryView}
 use Rattle.word_machine.specs.Standing.{HoldsValues, kept_values, values_at, CpuStands, MemoryStands}
-use Rattle.word_machine.specs.Laws.{Written, EmptyStacksAreFree}
+use Rattle.word_machine.specs.Laws.{WordChanges, EmptyStacksAreFree}
 use Rattle.nucleus_calls.specs.Nucleus.{NucleusView, state_by, states_by, NucleusStands}
 use Rattle.nucleus_calls.specs.Turning.{SameTurn}
 use Rattle.nucleus_calls.specs.Calling.{fresh_cpu, GoesOn}
@@ -37,7 +37,7 @@ KeepsValues s left = (kept_values left ≡ s.values) ⊎ (kept_values left ≡ [
 
 -- the state in which stack `to` runs with a thread and values, and the one that ran is put away
 abbrev next_state : State → Stack → ℕ → Thread → List Value → State
-next_state s left to thread values = handed_over left to (runs thread values s)
+next_state s left to thread values = put_away left to (runs thread values s)
 
 module _ {image : ImageParts} {live : ℕ → Bool} {s : State} {v : NucleusView} (typed : TypedAmong image live s) (stands : NucleusStands image live s v) where
   -- there are as many stacks as the image has
@@ -153,7 +153,7 @@ switch-stands law image live s v well_typed typed stands one to differs was wait
         → SwitchStands image live s (switched image to (Number reply) left s) cpu
         (record { memory = after; stacks = table.handed_over v.stacks (state_by (places_of s) s.current left) to; starts = v.starts; devices = v.devices; index = v.index; marks = v.marks })
     go EmptyStack here (is, put) = record {
-      state = handed_over left to (runs (fresh_thread (Number 0) (entry_place image to)) (Ret 0 ∷ []) s);
+      state = put_away left to (runs (fresh_thread (Number 0) (entry_place image to)) (Ret 0 ∷ []) s);
       is = rw here refl;
       same_turn = record { turns = refl; ending = refl };
       processor = rw (is, start-is) (fresh-stands _ 0 _ _ refl refl);
@@ -161,20 +161,20 @@ switch-stands law image live s v well_typed typed stands one to differs was wait
           (law image live s v.memory well_typed typed stands.memory to here 0 after put.written) (end-word put.written);
     }
       where
-        end-word : Written v.memory after (stack_pointer to 1) 0 → HoldsValues after (places_of s) (stack_pointer to 1) (Ret 0 ∷ [])
+        end-word : WordChanges v.memory after (stack_pointer to 1) 0 → HoldsValues after (places_of s) (stack_pointer to 1) (Ret 0 ∷ [])
         end-word written zero w e =
             let same : Ret 0 ≡ w = cc in rw (← same) (written-there v.memory after (stack_pointer to 1) 0 _ written (omega arith))
         end-word written (suc k) w e = absurd (cc)
     go RunningStack here went = absurd went
     go (YieldedStack place values) here (is, unchanged) = record {
-      state = handed_over left to (runs (fresh_thread (Number reply) place) values s);
+      state = put_away left to (runs (fresh_thread (Number reply) place) values s);
       is = rw here refl;
       same_turn = record { turns = refl; ending = refl };
       processor = rw is (fresh-stands _ reply _ _ refl refl);
       nucleus = rw unchanged (moved typed stands to other inside left keeps current v.memory _ values stands.memory (holds _ here));
     }
     go (InterruptedStack thread values) here (is, unchanged) = record {
-      state = handed_over left to (runs thread values s);
+      state = put_away left to (runs thread values s);
       is = rw here refl;
       same_turn = record { turns = refl; ending = refl };
       processor = rw is (record { regs = refl; flags = refl; place = refl });

@@ -17,7 +17,7 @@ use Rattle.typed_machine.specs.Words.{stack_pointer}
 use Rattle.typed_machine.specs.Typing.{TypedAmong}
 use Rattle.typed_machine.specs.Replies.{ReplyView, Replies}
 use Rattle.word_machine.specs.Memory.{MemoryView}
-use Rattle.word_machine.specs.Laws.{IsPut}
+use Rattle.word_machine.specs.Laws.{WriteLeaves}
 use Rattle.nucleus_calls.specs.declared.outcome.Leaving.{Leaving}
 use Rattle.nucleus_calls.specs.declared.outcome.Leaving.TheVariants as leaving
 use Rattle.nucleus_calls.specs.Nucleus.{NucleusView, NucleusStands}
@@ -30,7 +30,7 @@ fresh_cpu eax esp place = record { regs = eax ∷ 0 ∷ 0 ∷ 0 ∷ esp ∷ 0 �
 -- Stack n, which did not run, goes on: an empty one at its start, with 0 as its only word; a yielded one after its call, with the
 -- reply in EAX; an interrupted one as it was.
 abbrev pub GoesOn : ℕ → ℕ → ℕ → StackState → MemoryView → Cpu → MemoryView → Type 0
-GoesOn start n reply Empty before cpu after = (cpu ≡ fresh_cpu 0 (stack_pointer n 1) start) × IsPut before after (stack_pointer n 1) 0
+GoesOn start n reply Empty before cpu after = (cpu ≡ fresh_cpu 0 (stack_pointer n 1) start) × WriteLeaves before after (stack_pointer n 1) 0
 GoesOn start n reply Running before cpu after = ⊥
 GoesOn start n reply (Yielded sp pc) before cpu after = (cpu ≡ fresh_cpu reply sp pc) × (after ≡ before)
 GoesOn start n reply (Interrupted regs flags pc) before cpu after = (cpu ≡ record { regs = regs; flags = flags; pc = pc }) × (after ≡ before)

@@ -33,7 +33,7 @@ pub record NucleusStands (image : ImageParts) (live : ℕ → Bool) (s : State) 
 
 -- What every Nucleus keeps: each stack has all of its words, and an address at which it starts; and the index stands for the free
 -- blocks of the heap.
-pub record IsKept (v : NucleusView) : Type 0 where
+pub record IsNucleus (v : NucleusView) : Type 0 where
   pub room : (a : ℕ) → stacks_start ≤ a → a < stacks_start + stack_bytes * length v.stacks → a % 4 ≡ 0 → is_mapped v.memory a ≡ true
   pub starts : length v.starts ≡ length v.stacks
   pub lists : FreeLists v.index v.memory.heap

@@ -73,6 +73,6 @@ abbrev pub Leads : ImageParts → (ℕ → Bool) → State → List Answer → L
 Leads image live s answers before after cpu v o = (r : Turned) × (o ≡ Some r) × StandsAfter image live s answers before after cpu v r
 
 -- why an application leaves, as an effect
-abbrev pub effect_of : Leaving → EffectView
-effect_of (leaving.Fault vector) = Faults vector
-effect_of leaving.Ended = Ends
+abbrev pub leaving_effect : Leaving → EffectView
+leaving_effect (leaving.Fault vector) = Faults vector
+leaving_effect leaving.Ended = Ends

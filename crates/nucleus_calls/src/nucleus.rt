@@ -8,7 +8,7 @@ ghost use Rattle.typed_machine.specs.Placing.{Answer};
 ghost use Rattle.typed_machine.specs.Turns.{after_effect, interrupted, line_granted};
 ghost use Rattle.typed_machine.specs.Typing.{TypedAmong};
 ghost use Rattle.nucleus_calls.specs.Nucleus.{NucleusStands};
-ghost use Rattle.nucleus_calls.specs.Turning.{StandsBefore, Leads, effect_of};
+ghost use Rattle.nucleus_calls.specs.Turning.{StandsBefore, Leads, leaving_effect};
 ghost use Rattle.nucleus_calls.specs.Calling.{kind_of, value_of, reply_of};
 
 use crate::journal::Journal;
@@ -50,13 +50,13 @@ pub struct Nucleus {
 }
 
 impl Model for Nucleus {
-    ghost use Rattle.nucleus_calls.specs.Nucleus.{NucleusView, IsKept};
+    ghost use Rattle.nucleus_calls.specs.Nucleus.{NucleusView, IsNucleus};
 
     ghost Value = { NucleusView };
 
     ghost view = { λ n. record { memory = n.memory; stacks = n.stacks; starts = n.starts.items; devices = n.devices; index = n.index; marks = n.marks } };
 
-    ghost invariant = { λ n. IsKept (record { memory = n.memory; stacks = n.stacks; starts = n.starts.items; devices = n.devices; index = n.index; marks = n.marks }) };
+    ghost invariant = { λ n. IsNucleus (record { memory = n.memory; stacks = n.stacks; starts = n.starts.items; devices = n.devices; index = n.index; marks = n.marks }) };
 }
 
 // Where each stack of the image starts.
@@ -207,7 +207,7 @@ impl Nucleus {
         requires room { 1 ≤ journal.old.spare }
         ensures turn { (image : ImageParts) (live : ℕ → Bool) (s : State) (next : ℕ) → StandsBefore image live s next cpu.old self.old → s.turns ≡ turn
             → (answers : List Answer)
-            → Leads image live s answers journal.old.entries journal.new.entries cpu.new self.new (after_effect image answers next s (effect_of why)) }
+            → Leads image live s answers journal.old.entries journal.new.entries cpu.new self.new (after_effect image answers next s (leaving_effect why)) }
         ensures spare { journal.new.spare + 1 ≡ journal.old.spare }
     {
         empty_stacks_are_free();

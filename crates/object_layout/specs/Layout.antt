@@ -13,8 +13,8 @@ abbrev pub kept_rows : Inside → ShapesView
 kept_rows a = record { classes = map (λ (c : LaidClass). c.row) a.classes.items; kinds = a.kinds.items; funs = a.funs.items; sigs = a.sigs }
 
 -- the rows that a table is made of
-abbrev pub given : Rows → ShapesView
-given r = record { classes = r.classes.now; kinds = r.kinds.now; funs = r.funs.now; sigs = r.sigs }
+abbrev pub given_rows : Rows → ShapesView
+given_rows r = record { classes = r.classes.now; kinds = r.kinds.now; funs = r.funs.now; sigs = r.sigs }
 
 -- row c is kept, with its lineage and its fields
 pub record IsLaid (s : ShapesView) (c : ℕ) (laid : LaidClass) : Type 0 where

@@ -41,12 +41,12 @@ pub(crate) struct Inherited<'a> {
 impl Rows<'_> {
     ghost use Rattle.object_layout.specs.Classes.{fun_row, signatures_of};
     ghost use Rattle.object_layout.specs.Faults.{is_type, is_front, has_earlier_parent, class_fault, kind_fault, first_below};
-    ghost use Rattle.object_layout.specs.Layout.{given, IsLaid, IsLaidBefore, IsInherited};
+    ghost use Rattle.object_layout.specs.Layout.{given_rows, IsLaid, IsLaidBefore, IsInherited};
 
     /// Whether the class, kind or signature that a type names is there.
     #[tactic(auto, unfolding(crate::specs::Faults::is_type))]
     fn is_type(&self, t: FieldTy) -> bool
-        ensures { result ≡ is_type (given self.now) t }
+        ensures { result ≡ is_type (given_rows self.now) t }
     {
         match t {
             FieldTy::Num => true,
@@ -58,7 +58,7 @@ impl Rows<'_> {
 
     /// Whether all that the types of fields name is there.
     fn has_types(&self, fields: &[FieldTy]) -> bool
-        ensures { result ≡ list_all (is_type (given self.now)) fields.now }
+        ensures { result ≡ list_all (is_type (given_rows self.now)) fields.now }
     {
         fields.iter().all(|t| self.is_type(*t))
     }
@@ -72,7 +72,7 @@ impl Rows<'_> {
 
     /// Whether all that a row names is there.
     fn has_indexes(&self, row: &ClassRow) -> bool
-        ensures { result ≡ (list_all (is_type (given self.now)) row.now.fields && list_all (λ f. nat_lt f (length self.now.funs.now)) row.now.methods) }
+        ensures { result ≡ (list_all (is_type (given_rows self.now)) row.now.fields && list_all (λ f. nat_lt f (length self.now.funs.now)) row.now.methods) }
     {
         self.has_types(row.fields.items()) && self.has_functions(row.methods.items())
     }
@@ -81,7 +81,7 @@ impl Rows<'_> {
     #[tactic(auto, unfolding(crate::specs::Classes::fun_row))]
     fn signature(&self, f: u32) -> u32
         requires { f < length self.now.funs.now }
-        ensures { result ≡ (fun_row (given self.now) f).sig }
+        ensures { result ≡ (fun_row (given_rows self.now) f).sig }
     {
         self.funs[f as usize].sig
     }
@@ -90,7 +90,7 @@ impl Rows<'_> {
     fn keeps(&self, inherited: &[u32], methods: &[u32]) -> bool
         requires inherited { All (λ f. f < length self.now.funs.now) inherited.now }
         requires methods { All (λ f. f < length self.now.funs.now) methods.now }
-        ensures { let s = given self.now in result ≡ is_front (signatures_of s inherited.now) (signatures_of s methods.now) }
+        ensures { let s = given_rows self.now in result ≡ is_front (signatures_of s inherited.now) (signatures_of s methods.now) }
     {
         if inherited.len() > methods.len() {
             return false;
@@ -113,9 +113,9 @@ impl Rows<'_> {
 
     /// What class `c` takes over from its parent; none where that is not an earlier class.
     fn inherited<'b>(&self, laid: &'b [LaidClass], c: usize) -> Option<Inherited<'b>>
-        requires before { IsLaidBefore (given self.now) laid.now c }
+        requires before { IsLaidBefore (given_rows self.now) laid.now c }
         requires there { c < length self.now.classes.now }
-        ensures { MatchOption result (has_earlier_parent (given self.now) c ≡ false) (IsInherited (given self.now) c) }
+        ensures { MatchOption result (has_earlier_parent (given_rows self.now) c ≡ false) (IsInherited (given_rows self.now) c) }
     {
         match self.row(c).parent {
             None => Some(Inherited {
@@ -141,10 +141,10 @@ impl Rows<'_> {
 
     /// The first fault of class row `c`, whose parent is an earlier class.
     fn class_fault(&self, above: Inherited<'_>, c: usize) -> Option<ShapeFault>
-        requires above { IsInherited (given self.now) c above }
+        requires above { IsInherited (given_rows self.now) c above }
         requires there { c < length self.now.classes.now }
         requires few { c ≤ 1024 }
-        ensures { result ≡ class_fault (given self.now) c }
+        ensures { result ≡ class_fault (given_rows self.now) c }
     {
         let row = c as u32;
         let class = self.row(c);
@@ -163,10 +163,10 @@ impl Rows<'_> {
 
     /// Class row `c`, which has no fault, laid out.
     fn laid_out(&self, alloc: Global, above: Inherited<'_>, c: usize) -> Result<LaidClass, NoMemory>
-        requires above { IsInherited (given self.now) c above }
+        requires above { IsInherited (given_rows self.now) c above }
         requires there { c < length self.now.classes.now }
-        requires sound { class_fault (given self.now) c ≡ None }
-        ensures { IfOk result (IsLaid (given self.now) c) }
+        requires sound { class_fault (given_rows self.now) c ≡ None }
+        ensures { IfOk result (IsLaid (given_rows self.now) c) }
     {
         let row = self.row(c);
         let mut lineage = above.lineage;
@@ -181,11 +181,11 @@ impl Rows<'_> {
 
     /// Class row `c` laid out behind the rows before it, or its first fault.
     fn next(&self, alloc: Global, laid: &[LaidClass], c: usize) -> Result<LaidClass, ShapeFault>
-        requires before { IsLaidBefore (given self.now) laid.now c }
+        requires before { IsLaidBefore (given_rows self.now) laid.now c }
         requires there { c < length self.now.classes.now }
         requires few { c ≤ 1024 }
-        ensures ok { IfOk result (λ class. (class_fault (given self.now) c ≡ None) × IsLaid (given self.now) c class) }
-        ensures err { IfErr result (λ fault. (fault ≡ ShapeFault.NoMemory) ⊎ (class_fault (given self.now) c ≡ Some fault)) }
+        ensures ok { IfOk result (λ class. (class_fault (given_rows self.now) c ≡ None) × IsLaid (given_rows self.now) c class) }
+        ensures err { IfErr result (λ fault. (fault ≡ ShapeFault.NoMemory) ⊎ (class_fault (given_rows self.now) c ≡ Some fault)) }
     {
         let Some(above) = self.inherited(laid, c) else {
             return Err(ShapeFault::BadParent { row: c as u32 });
@@ -198,9 +198,9 @@ impl Rows<'_> {
 
     /// The class rows, laid out, or the first fault of the first bad one.
     pub(crate) fn laid_classes(&self, alloc: Global) -> Result<Vec<LaidClass>, ShapeFault>
-        ensures ok { IfOk result (λ laid. IsLaidBefore (given self.now) laid.items (length self.now.classes.now)) }
+        ensures ok { IfOk result (λ laid. IsLaidBefore (given_rows self.now) laid.items (length self.now.classes.now)) }
         ensures err { IfErr result (λ fault. (fault ≡ ShapeFault.NoMemory)
-            ⊎ (first_below (length self.now.classes.now) (class_fault (given self.now)) ≡ Some fault)) }
+            ⊎ (first_below (length self.now.classes.now) (class_fault (given_rows self.now)) ≡ Some fault)) }
     {
         let mut laid = Vec::new(alloc);
         for c in 0..self.classes.len() {
@@ -215,7 +215,7 @@ impl Rows<'_> {
     fn kind_fault(&self, k: usize) -> Option<ShapeFault>
         requires there { k < length self.now.kinds.now }
         requires few { k ≤ 256 }
-        ensures { result ≡ kind_fault (given self.now) k }
+        ensures { result ≡ kind_fault (given_rows self.now) k }
     {
         let row = k as u32;
         if k >= 256 {
@@ -229,7 +229,7 @@ impl Rows<'_> {
 
     /// The first fault of the first bad kind row.
     pub(crate) fn kinds_fault(&self) -> Option<ShapeFault>
-        ensures { result ≡ first_below (length self.now.kinds.now) (kind_fault (given self.now)) }
+        ensures { result ≡ first_below (length self.now.kinds.now) (kind_fault (given_rows self.now)) }
     {
         for k in 0..self.kinds.len() {
             if let Some(fault) = self.kind_fault(k) {

@@ -15,9 +15,9 @@ happened_text Fault value = codes " fault " ++ decimal value
 happened_text Ended value = codes " ended"
 
 -- the line of an entry: the turn, the stack that ran at its start, and what happened to it
-abbrev pub entry_line : Entry → List ℕ
-entry_line e = decimal e.turn ++ codes " " ++ decimal e.stack ++ happened_text e.kind e.value ++ codes "\n"
+abbrev pub journal_line : Entry → List ℕ
+journal_line e = decimal e.turn ++ codes " " ++ decimal e.stack ++ happened_text e.kind e.value ++ codes "\n"
 
 -- the lines of all entries, in their order
 unfoldable pub JournalText : List Entry → List ℕ
-JournalText entries = flat_map entry_line entries
+JournalText entries = flat_map journal_line entries

@@ -1,6 +1,6 @@
 // The text of a journal.
 ghost use Rattle.std.specs.Prelude.{◌≡◌, ◌++◌, IfOk, OnOk, decimal};
-ghost use Rattle.run_report.specs.JournalLines.{JournalText, happened_text, entry_line};
+ghost use Rattle.run_report.specs.JournalLines.{JournalText, happened_text, journal_line};
 
 use crate::number_text::{push_decimal, push_spaced};
 use no_memory::NoMemory;
@@ -34,7 +34,7 @@ fn push_happened(out: &mut Vec<u8>, kind: EntryKind, value: u32) -> Result<(), A
 
 // Appends the line of an entry.
 fn push_entry(out: &mut Vec<u8>, entry: Entry) -> Result<(), AllocError>
-    ensures { OnOk result (out.new.items ≡ out.old.items ++ entry_line entry) }
+    ensures { OnOk result (out.new.items ≡ out.old.items ++ journal_line entry) }
 {
     push_decimal(out, entry.turn as usize)?;
     push_about(out, b" ", entry.stack as u32)?;

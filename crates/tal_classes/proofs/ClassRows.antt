@@ -22,7 +22,7 @@ use Rattle.tal_names.specs.LookUps.{depth}
 use Rattle.tal_rows.specs.Lines.{parent_row_fits}
 use Rattle.unit_files.specs.declared.parts.UnitClass.{UnitClass}
 use Rattle.unit_files.specs.Formed.{IsMention, IsUnitClass, with_unit_class}
-use Rattle.tal_classes.specs.Members.{ClassSoFar, field_count, methods_of, begun, class_row}
+use Rattle.tal_classes.specs.Members.{ClassSoFar, field_count, methods_of, class_begins, class_row}
 use Rattle.tal_classes.specs.Formed.{TypesKnown, AreDeclared, AreFirst, FitsBelow, AreClasses, function_sig}
 use Rattle.tal_classes.proofs.Rows.{each_after-push, after, there, last-or, front-get, last-get, same-head, same-tail}
 use Rattle.tal_classes.proofs.OpenClasses.{IsOpen, lines_kept}
@@ -132,7 +132,7 @@ methods_above m functions rows (Some p) fits =
 
 -- a class below another one is open before its lines
 begins_open : (m : Names) (t : Tables) (functions : List FunctionPart) (names : ℕ) (rows : List UnitClass) (parent : Option ℕ) → AreClasses names t functions rows → FitsBelow m rows parent
-    → IsOpen t functions (sig_at functions) (methods_of rows parent) (begun rows parent)
+    → IsOpen t functions (sig_at functions) (methods_of rows parent) (class_begins rows parent)
 unfolding methods_of
 begins_open m t functions names rows None h fits =
     record { fields = tt; few_fields = omega (arith, count_end 8 rows); methods = tt; few_methods = omega arith; more = []; kept = refl }
@@ -267,7 +267,7 @@ unfolding class_row
 row_kept m t functions names rows parent behind name ext row laws known declared first h few fits mention made =
     let one : (f g : ℕ) → f < length functions → g < length functions → slice_index_or m.function_sigs f [] ≡ slice_index_or m.function_sigs g [] → sig_at functions f ≡ sig_at functions g
     = λ f g a b e. one_row_sig functions f g (declared.one_sig f g a b e) in
-    let taken = lines_kept m t functions (sig_at functions) (methods_of rows parent) (begun rows parent) behind row known one declared.count (begins_open m t functions names rows parent h fits) made in
+    let taken = lines_kept m t functions (sig_at functions) (methods_of rows parent) (class_begins rows parent) behind row known one declared.count (begins_open m t functions names rows parent h fits) made in
     let is : row ≡ record { parent = parent; fields = taken.last.fields; methods = taken.last.methods }
     = taken.row ∙ ap (λ p. record { parent = p; fields = taken.last.fields; methods = taken.last.methods }) taken.parent in
     let class = subst (IsClass t functions (bare rows)) (sym is) (is_class m t functions rows parent taken.last declared first h.earlier laws few fits taken.open_class taken.inherited) in

@@ -27,7 +27,7 @@ use Rattle.tal_names.specs.NameSets.{number_of_name, is_named}
 use Rattle.tal_rows.specs.Trials.{need_value, unless}
 use Rattle.tal_rows.specs.Lines.{field_type}
 use Rattle.tal_classes.specs.declared.class.MethodLine.{MethodLine}
-use Rattle.tal_classes.specs.Members.{ClassSoFar, field_line, method_line, has_sig, slot_fits, with_slot, with_field, with_method, inherits_field, inherited_slot, take_member, take_members, then_made, goes_on, row_of}
+use Rattle.tal_classes.specs.Members.{ClassSoFar, field_line, method_line, has_sig, slot_takes, with_slot, with_field, with_method, inherits_field, inherited_slot, take_member, take_members, then_made, class_goes_on, row_of}
 use Rattle.tal_classes.specs.Formed.{TypesKnown}
 use Rattle.tal_classes.proofs.Rows.{each-push, each-set, each-at}
 
@@ -115,9 +115,9 @@ field_kept m t functions sig slots c n text held known k h =
 
 slot_kept : (m : Names) (t : Tables) (functions : List FunctionPart) (sig : ℕ → ℕ) (slots : List ℕ) (c : ClassSoFar) (n s : List ℕ) (function : ℕ) (slot : Option ℕ)
     → ((f g : ℕ) → f < length functions → g < length functions → slice_index_or m.function_sigs f [] ≡ slice_index_or m.function_sigs g [] → sig f ≡ sig g)
-    → IsOpen t functions sig slots c → function < length functions → has_sig m function s ≡ true → slot_fits m c.methods slot s ≡ true
+    → IsOpen t functions sig slots c → function < length functions → has_sig m function s ≡ true → slot_takes m c.methods slot s ≡ true
     → IsOpen t functions sig slots (with_method c n (record { slot = slot; function = function }))
-unfolding has_sig slot_fits with_slot
+unfolding has_sig slot_takes with_slot
 slot_kept m t functions sig slots c n s function None one k lt has fits =
     let small : length c.methods < 53 = grind (arith, nat_tests, fits) in
     record {
@@ -150,10 +150,10 @@ method_kept : (m : Names) (t : Tables) (functions : List FunctionPart) (sig : �
 unfolding method_line
 method_kept m t functions sig slots c n s f l one count k h =
     let slot = inherited_slot m c.parent n in
-    let a = method_steps (number_of_name m.sigs s) (number_of_name m.functions f) (is_named c.method_names n) (λ function. has_sig m function s && slot_fits m c.methods slot s) slot l h in
-    let b = and_parts (has_sig m l.function s) (slot_fits m c.methods slot s) a.1 in
+    let a = method_steps (number_of_name m.sigs s) (number_of_name m.functions f) (is_named c.method_names n) (λ function. has_sig m function s && slot_takes m c.methods slot s) slot l h in
+    let b = and_parts (has_sig m l.function s) (slot_takes m c.methods slot s) a.1 in
     let lt : l.function < length functions = omega (arith, count, (position-Some (bytes_eq f) m.functions l.function [] a.0).0) in
-    slot_kept m t functions sig slots c n s l.function l.slot one k lt b.0 (subst (λ o. slot_fits m c.methods o s ≡ true) (sym a.2) b.1)
+    slot_kept m t functions sig slots c n s l.function l.slot one k lt b.0 (subst (λ o. slot_takes m c.methods o s ≡ true) (sym a.2) b.1)
 
 -- a class, and what its lines before it have kept
 pub record IsTaken (t : Tables) (functions : List FunctionPart) (sig : ℕ → ℕ) (slots : List ℕ) (c : ClassSoFar) (made : ClassRow) : Type 0 where
@@ -232,7 +232,7 @@ lines_kept m t functions sig slots c (l ∷ ls) row known one count k e =
     go (λ d k' h. lines_kept m t functions sig slots d ls row known one count k' h) (take_member m c l.form) refl e
   where
     go : ((d : ClassSoFar) → IsOpen t functions sig slots d → take_members m d ls ≡ Ok row → IsTaken t functions sig slots d row)
-        → (o : Option (Result ClassSoFar ℕ)) → take_member m c l.form ≡ o → goes_on (λ taken. take_members m taken ls) c l.number o ≡ Ok row → IsTaken t functions sig slots c row
+        → (o : Option (Result ClassSoFar ℕ)) → take_member m c l.form ≡ o → class_goes_on (λ taken. take_members m taken ls) c l.number o ≡ Ok row → IsTaken t functions sig slots c row
     go more None is h = row_taken t functions sig slots c row k h
     go more (Some (Err code)) is h = absurd (not_row _ row h)
     go more (Some (Ok d)) is h =

@@ -46,8 +46,8 @@ unfoldable pub methods_of : List UnitClass → Option ℕ → List ℕ
 methods_of rows c = option_map_or (λ (k : UnitClass). k.row.methods) (option_and_then (slice_get rows) c) []
 
 -- a class below this one, before its own lines; a class has seven above it at most
-abbrev pub begun : List UnitClass → Option ℕ → ClassSoFar
-begun rows parent = record { parent = parent; fields = []; methods = methods_of rows parent; inherited = field_count 8 rows parent; field_names = []; method_names = [] }
+abbrev pub class_begins : List UnitClass → Option ℕ → ClassSoFar
+class_begins rows parent = record { parent = parent; fields = []; methods = methods_of rows parent; inherited = field_count 8 rows parent; field_names = []; method_names = [] }
 
 -- the classes above have the field
 unfoldable pub inherits_field : Names → Option ℕ → List ℕ → Bool
@@ -71,16 +71,16 @@ unfoldable pub has_sig : Names → ℕ → List ℕ → Bool
 has_sig m function s = bytes_eq (slice_index_or m.function_sigs function []) s
 
 -- an inherited slot keeps the name of its signature; without one there is room for another, 53 at most
-unfoldable pub slot_fits : Names → List ℕ → Option ℕ → List ℕ → Bool
-slot_fits m methods None s = nat_lt (length methods) 53
-slot_fits m methods (Some slot) s = has_sig m (slice_index_or methods slot 0) s
+unfoldable pub slot_takes : Names → List ℕ → Option ℕ → List ℕ → Bool
+slot_takes m methods None s = nat_lt (length methods) 53
+slot_takes m methods (Some slot) s = has_sig m (slice_index_or methods slot 0) s
 
 -- A method: its signature and its function are declared; no line of the class gave the name; the function is of the signature,
 -- and the slot fits.
 unfoldable pub method_line : Names → ClassSoFar → List ℕ → List ℕ → List ℕ → Result MethodLine ℕ
 method_line m c n s f =
     need_value (number_of_name m.sigs s) 11 (λ sig. need_value (number_of_name m.functions f) 11 (λ function. unless (is_named c.method_names n) 12
-    (unless (not (has_sig m function s && slot_fits m c.methods (inherited_slot m c.parent n) s)) 14
+    (unless (not (has_sig m function s && slot_takes m c.methods (inherited_slot m c.parent n) s)) 14
     (Ok (record { slot = inherited_slot m c.parent n; function = function })))))
 
 -- the class with a field more
@@ -114,16 +114,16 @@ abbrev pub row_of : ClassSoFar → ClassRow
 row_of c = record { parent = c.parent; fields = c.fields; methods = c.methods }
 
 -- the class goes on, has a fault at a line, or ends
-abbrev pub goes_on : (ClassSoFar → Result ClassRow AsmFault) → ClassSoFar → ℕ → Option (Result ClassSoFar ℕ) → Result ClassRow AsmFault
-goes_on more c line None = Ok (row_of c)
-goes_on more c line (Some (Err code)) = Err (record { line = line; code = code })
-goes_on more c line (Some (Ok taken)) = more taken
+abbrev pub class_goes_on : (ClassSoFar → Result ClassRow AsmFault) → ClassSoFar → ℕ → Option (Result ClassSoFar ℕ) → Result ClassRow AsmFault
+class_goes_on more c line None = Ok (row_of c)
+class_goes_on more c line (Some (Err code)) = Err (record { line = line; code = code })
+class_goes_on more c line (Some (Ok taken)) = more taken
 
 -- the row that a class has with the lines up to its end, or its first fault
 unfoldable pub take_members : Names → ClassSoFar → List TextLine → Result ClassRow AsmFault
 take_members m c [] = Ok (row_of c)
-take_members m c (l ∷ ls) = goes_on (λ taken. take_members m taken ls) c l.number (take_member m c l.form)
+take_members m c (l ∷ ls) = class_goes_on (λ taken. take_members m taken ls) c l.number (take_member m c l.form)
 
 -- the row of a class below another one, with these rows before it and these lines behind its first
 unfoldable pub class_row : Names → List UnitClass → Option ℕ → List TextLine → Result ClassRow AsmFault
-class_row m rows parent behind = take_members m (begun rows parent) behind
+class_row m rows parent behind = take_members m (class_begins rows parent) behind

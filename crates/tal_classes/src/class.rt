@@ -4,7 +4,7 @@ ghost use Rattle.std.specs.Prelude.{◌≡◌, ◌≤◌, ◌*◌, ◌^◌, [], 
 ghost use Rattle.std.specs.Option.{option_and_then, option_copied};
 ghost use Rattle.std.specs.Prelude.{slice_get};
 ghost use Rattle.tal_names.specs.Declarations.{names_shown};
-ghost use Rattle.tal_classes.specs.Members.{so_far, field_count, methods_of, begun, inherits_field, inherited_slot, field_line, has_sig, slot_fits, method_line, with_field, with_slot, with_method, row_of};
+ghost use Rattle.tal_classes.specs.Members.{so_far, field_count, methods_of, class_begins, inherits_field, inherited_slot, field_line, has_sig, slot_takes, method_line, with_field, with_slot, with_method, row_of};
 
 use no_memory::NoMemory;
 use object_layout::{ClassRow, FieldList, FieldTy, MethodList};
@@ -127,7 +127,7 @@ impl OpenClass {
         rows: &[UnitClass],
         parent: Option<u32>,
     ) -> Result<OpenClass, NoMemory>
-        ensures { IfOk result (λ class. so_far class ≡ begun rows.now parent) }
+        ensures { IfOk result (λ class. so_far class ≡ class_begins rows.now parent) }
     {
         Ok(OpenClass {
             parent,
@@ -165,9 +165,9 @@ impl OpenClass {
     }
 
     // Whether a method of the signature fits its slot.
-    #[tactic(auto, unfolding(crate::specs::Members::slot_fits))]
+    #[tactic(auto, unfolding(crate::specs::Members::slot_takes))]
     fn slot_fits(&self, names: &ModuleNames, slot: Option<u64>, sig: &Name) -> bool
-        ensures { result ≡ slot_fits (names_shown names.now) self.now.methods.items slot sig.now }
+        ensures { result ≡ slot_takes (names_shown names.now) self.now.methods.items slot sig.now }
     {
         match slot {
             Some(place) => {

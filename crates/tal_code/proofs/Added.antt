@@ -32,7 +32,7 @@ use Rattle.unit_files.specs.Formed.{IsUnitMark, IsFixUp}
 use Rattle.tal_code.specs.declared.holes.HolePlace.{HolePlace}
 use Rattle.tal_code.specs.declared.holes.HoledCode.{HoledCode}
 use Rattle.tal_code.specs.Holes.{spelling_for, spelled_as, hole_place, with_places, holed_code, open_bytes}
-use Rattle.tal_code.specs.Functions.{UnitCodeView, marks_of, fixups_of, with_inst, has_room, most_marks, most_fixups, unless_fault, line_code, inst_line}
+use Rattle.tal_code.specs.Functions.{UnitCodeView, instruction_marks, fixups_of, with_inst, has_room, most_marks, most_fixups, unless_fault, line_code, inst_line}
 use Rattle.tal_code.specs.Formed.{tables_named, NumbersFit}
 use Rattle.tal_code.proofs.Spellings.{some_is_one, filled_for}
 use Rattle.tal_code.proofs.OpenWords.{AnyFits, EndsStay, IsAt, placed_at}
@@ -289,8 +289,8 @@ fixup_is m before more next offset p place filled read fits at few named word =
 marks_up : (m : Names) (before more : List Spelled) (next : Spelling) (offset high : ℕ) (sense : Option Sense) → Filled next → ReadBack
     → Each (λ (s : Spelled). 0 < length s.text) before → offset ≡ length (code_bytes before) → high < 2 ^ 32 → offset + 1 ≤ high
     → IfSome sense (λ x. SenseNamed m x × ((is_null_tag x.tag || is_some (word_offset AtEnd next)) ≡ true)) → (is_some sense ≡ true → marked_number (meaning next) ≡ Some 0)
-    → Rises (λ (x : UnitMark). x.offset) (MarkIs m (before ++ spelled_by next ∷ more)) offset high (marks_of offset sense)
-unfolding marks_of
+    → Rises (λ (x : UnitMark). x.offset) (MarkIs m (before ++ spelled_by next ∷ more)) offset high (instruction_marks offset sense)
+unfolding instruction_marks
 marks_up m before more next offset high None filled read some at few up named zero = omega (arith, up)
 marks_up m before more next offset high (Some x) filled read some at few up named zero =
     (omega arith, mark_is m before more next offset x filled read some at (omega (arith, few, up)) named.0 (zero refl) named.1, up)
@@ -361,7 +361,7 @@ with_code m u i c x laws filled kept room =
       is_spelled = (some, spells);
       code = ap (λ b. u.code ++ b) o.bytes;
       blocks = refl;
-      new_marks = marks_of (length u.code) i.sense;
+      new_marks = instruction_marks (length u.code) i.sense;
       marks = refl;
       new_fixups = fixups_of (length u.code) c.near ++ fixups_of (length u.code) c.far;
       fixups = append_assoc u.fixups (fixups_of (length u.code) c.near) (fixups_of (length u.code) c.far);

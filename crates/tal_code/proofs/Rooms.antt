@@ -15,7 +15,7 @@ use Rattle.unit_files.specs.declared.parts.UnitMark.{UnitMark}
 use Rattle.unit_files.specs.declared.parts.FixUp.{FixUp}
 use Rattle.tal_code.specs.declared.holes.HoledCode.{HoledCode}
 use Rattle.tal_code.specs.Holes.{open_bytes}
-use Rattle.tal_code.specs.Functions.{UnitCodeView, marks_of, fixups_of, with_inst, has_room, most_blocks, most_marks, most_fixups}
+use Rattle.tal_code.specs.Functions.{UnitCodeView, instruction_marks, fixups_of, with_inst, has_room, most_blocks, most_marks, most_fixups}
 
 -- A test of three is each of them.
 pub three : (a b c : Bool) → (a && b && c) ≡ true → (a ≡ true) × (b ≡ true) × (c ≡ true)
@@ -53,7 +53,7 @@ no_fault i a b c e = choose i.faults.unknown (is_misplaced i) a b c i.faults.ran
 
 -- What an instruction adds keeps the limits where there is room for it.
 pub grown : (u : UnitCodeView) (s : Option Sense) (c : HoledCode) (offset : ℕ) (code : List ℕ) (marks : List UnitMark) (some all : List FixUp)
-    → offset ≡ length u.code → code ≡ u.code ++ open_bytes c → marks ≡ u.marks ++ marks_of offset s
+    → offset ≡ length u.code → code ≡ u.code ++ open_bytes c → marks ≡ u.marks ++ instruction_marks offset s
     → some ≡ u.fixups ++ fixups_of offset c.near → all ≡ some ++ fixups_of offset c.far → has_room (with_inst u s (Some c)) ≡ true
     → (length code ≤ most_code) × (length marks ≤ most_marks) × (length all ≤ most_fixups)
 unfolding with_inst

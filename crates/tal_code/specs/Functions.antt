@@ -49,9 +49,9 @@ most_fixups = 262144
 -- ---- an instruction
 
 -- the mark of an instruction at an offset, and the fix-up of a hole of it
-unfoldable pub marks_of : ℕ → Option Sense → List UnitMark
-marks_of offset None = []
-marks_of offset (Some s) = record { offset = offset; tag = s.tag; index = s.index } ∷ []
+unfoldable pub instruction_marks : ℕ → Option Sense → List UnitMark
+instruction_marks offset None = []
+instruction_marks offset (Some s) = record { offset = offset; tag = s.tag; index = s.index } ∷ []
 
 unfoldable pub fixups_of : ℕ → Option HolePlace → List FixUp
 fixups_of offset None = []
@@ -63,7 +63,7 @@ with_inst u s None = u
 with_inst u s (Some c) = record {
   code = u.code ++ open_bytes c;
   blocks = u.blocks;
-  marks = u.marks ++ marks_of (length u.code) s;
+  marks = u.marks ++ instruction_marks (length u.code) s;
   fixups = u.fixups ++ fixups_of (length u.code) c.near ++ fixups_of (length u.code) c.far;
 }
 

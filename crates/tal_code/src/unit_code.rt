@@ -2,7 +2,7 @@
 ghost use Rattle.std.specs.Prelude.{◌≡◌, ℕ, ◌≤◌, ◌+◌, ◌++◌, true, length, Some, take, drop, IfOk, IfSome, OnOk};
 ghost use Rattle.tal_image.specs.Conditions.{most_code};
 ghost use Rattle.tal_code.specs.Holes.{zeroed_hole, open_bytes, PlacesWithin};
-ghost use Rattle.tal_code.specs.Functions.{no_code, most_blocks, marks_of, fixups_of, with_inst, with_block, has_room};
+ghost use Rattle.tal_code.specs.Functions.{no_code, most_blocks, instruction_marks, fixups_of, with_inst, with_block, has_room};
 
 use crate::holes::{HolePlace, HoledCode};
 use no_memory::NoMemory;
@@ -72,9 +72,9 @@ fn push_open(code: &mut Vec<u8>, holed: &HoledCode) -> Result<(), NoMemory>
 }
 
 // Puts the mark of an instruction last, if it has one.
-#[tactic(auto, unfolding(crate::specs::Functions::marks_of))]
+#[tactic(auto, unfolding(crate::specs::Functions::instruction_marks))]
 fn push_mark(marks: &mut Vec<UnitMark>, offset: u32, sense: Option<Sense>) -> Result<(), NoMemory>
-    ensures { OnOk result (marks.new.items ≡ marks.old.items ++ marks_of offset sense) }
+    ensures { OnOk result (marks.new.items ≡ marks.old.items ++ instruction_marks offset sense) }
 {
     if let Some(sense) = sense {
         marks.push(UnitMark {
@@ -116,9 +116,9 @@ fn open_length(holed: &HoledCode) -> usize
 }
 
 // How many marks an instruction has.
-#[tactic(auto, unfolding(crate::specs::Functions::marks_of))]
+#[tactic(auto, unfolding(crate::specs::Functions::instruction_marks))]
 fn mark_count(sense: Option<Sense>) -> usize
-    ensures marks { (offset : ℕ) → length (marks_of offset sense) ≡ result }
+    ensures marks { (offset : ℕ) → length (instruction_marks offset sense) ≡ result }
     ensures few { result ≤ 1 }
 {
     match sense {

@@ -77,7 +77,7 @@ pub record IsClass (t : Tables) (functions : List FunctionPart) (classes : List 
   pub methods : EachAfter (λ (slots : List ℕ) f. drop 1 slots) (λ later slots f. IsMethod functions slots f) (inherited_methods (class_view functions classes) (parent_number c.parent)) c.methods
 
 -- a data array, where the statics and the data arrays before it take so many words
-pub record IsArray (t : Tables) (kinds : List KindRow) (used : ℕ) (a : ArrayPart) : Type 0 where
+pub record ArrayFits (t : Tables) (kinds : List KindRow) (used : ℕ) (a : ArrayPart) : Type 0 where
   pub kind_word : IsWord a.kind
   pub condition_21 : kind_fits t a.kind ≡ true
   pub size_word : IsWord a.size
@@ -145,7 +145,7 @@ pub record Formed (i : ImageParts) : Type 0 where
   pub kinds : Each (λ (k : KindRow). IsFieldType (tables i) k.element) i.kinds
   pub statics : Each (IsFieldType (tables i)) i.statics
   -- conditions 21 and 22
-  pub arrays : EachAfter with_array (λ later used a. IsArray (tables i) i.kinds used a) (length i.statics) i.arrays
+  pub arrays : EachAfter with_array (λ later used a. ArrayFits (tables i) i.kinds used a) (length i.statics) i.arrays
   -- condition 23
   pub bodies : List (List Spelled)
   pub condition_23 : AreBodies i.functions bodies

@@ -1,7 +1,7 @@
 -- A reader reads exactly the sentences of a language, and refuses the first token after which no sentence can follow.
 use Rattle.std.proofs.Common.{◌≡◌, List, [], ◌∷◌, ◌++◌, Result, Ok, Err, refl, sym, ap, subst, ◌∙◌, append_assoc}
 use Rattle.text_tokens.specs.Token.{Lexeme}
-use Rattle.tal_syntax.specs.Reading.{Read, ◌>>=◌, pure, both, reads}
+use Rattle.tal_syntax.specs.Reading.{Read, ◌>>?◌, pure, both, reads}
 use Rattle.tal_syntax.specs.Sentences.{◌⊕◌}
 
 -- the same answer, whatever follows the refused token
@@ -70,11 +70,11 @@ Both S T x = S x.0 ⊕ T x.1
 module _ {A B : Type 0} (p : Read A) (q : Read B) (S : A → List Lexeme → Type 0) (T : B → List Lexeme → Type 0) (lp : Lawful p S) (lq : Lawful q T) where
   -- the second reader's answer, with the first value
   abbrev behind : A → Result (B × List Lexeme) (List Lexeme) → Result ((A × B) × List Lexeme) (List Lexeme)
-  behind x r = ◌>>=◌ {A = B × List Lexeme} {B = (A × B) × List Lexeme} r (λ y. Ok ((x, y.0), y.1))
+  behind x r = ◌>>?◌ {A = B × List Lexeme} {B = (A × B) × List Lexeme} r (λ y. Ok ((x, y.0), y.1))
 
   -- both answers
   abbrev joined : Result (A × List Lexeme) (List Lexeme) → Result ((A × B) × List Lexeme) (List Lexeme)
-  joined r = ◌>>=◌ {A = A × List Lexeme} {B = (A × B) × List Lexeme} r (λ x. behind x.0 (q x.1))
+  joined r = ◌>>?◌ {A = A × List Lexeme} {B = (A × B) × List Lexeme} r (λ x. behind x.0 (q x.1))
 
   second_took : (ts : List Lexeme) (a : A) (us : List Lexeme) (z : A × B) (rest : List Lexeme) (r : Result (B × List Lexeme) (List Lexeme)) → Took S ts a us → q us ≡ r → behind a r ≡ Ok (z, rest) → Took (Both S T) ts z rest
   second_took ts a us z rest (Ok y) one e h =
@@ -162,7 +162,7 @@ pub record Made {A B : Type 0} (make : A → B) (S : A → List Lexeme → Type 
 module _ {A B : Type 0} (make : A → B) (p : Read A) (S : A → List Lexeme → Type 0) (lp : Lawful p S) where
   -- the answer with the value made
   abbrev made : Result (A × List Lexeme) (List Lexeme) → Result (B × List Lexeme) (List Lexeme)
-  made r = ◌>>=◌ {A = A × List Lexeme} {B = B × List Lexeme} r (λ x. Ok (make x.0, x.1))
+  made r = ◌>>?◌ {A = A × List Lexeme} {B = B × List Lexeme} r (λ x. Ok (make x.0, x.1))
 
   made_took : (ts : List Lexeme) (y : B) (rest : List Lexeme) (r : Result (A × List Lexeme) (List Lexeme)) → p ts ≡ r → made r ≡ Ok (y, rest) → Took (Made make S) ts y rest
   made_took ts y rest (Ok x) e h =

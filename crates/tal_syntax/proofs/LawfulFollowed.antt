@@ -1,7 +1,7 @@
 -- A reader with another one behind it, where what the first takes goes by the next token.
 use Rattle.std.proofs.Common.{◌≡◌, ℕ, Bool, true, false, List, [], ◌∷◌, ◌++◌, Option, Some, None, Result, Ok, refl, sym, ap, ◌∙◌}
 use Rattle.text_tokens.specs.Token.{Lexeme}
-use Rattle.tal_syntax.specs.Reading.{Read, ◌>>=◌, both, choose, is_mark, if_mark}
+use Rattle.tal_syntax.specs.Reading.{Read, ◌>>?◌, both, choose, is_mark, if_mark}
 use Rattle.tal_syntax.proofs.Lawful.{Lawful, Lives, Stuck, Both}
 use Rattle.tal_syntax.proofs.LawfulChoices.{Chosen, Lawful-choose, goes, stays, law_of}
 
@@ -26,7 +26,7 @@ Lawful-as p q S same l = record {
 
 -- the second reader behind the answer of the first
 abbrev followed : {A B : Type 0} → Read B → Result (A × List Lexeme) (List Lexeme) → Result ((A × B) × List Lexeme) (List Lexeme)
-followed {A} {B} q r = ◌>>=◌ {A = A × List Lexeme} {B = (A × B) × List Lexeme} r (λ x. ◌>>=◌ {A = B × List Lexeme} {B = (A × B) × List Lexeme} (q x.1) (λ y. Ok ((x.0, y.0), y.1)))
+followed {A} {B} q r = ◌>>?◌ {A = A × List Lexeme} {B = (A × B) × List Lexeme} r (λ x. ◌>>?◌ {A = B × List Lexeme} {B = (A × B) × List Lexeme} (q x.1) (λ y. Ok ((x.0, y.0), y.1)))
 
 -- the reader that is picked, with the second behind it
 abbrev behind : {A B : Type 0} → Read B → Option (Read A) → Option (Read (A × B))

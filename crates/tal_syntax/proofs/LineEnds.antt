@@ -2,7 +2,8 @@
 use Rattle.std.proofs.Common.{◌≡◌, ℕ, zero, suc, ◌+◌, Bool, true, false, cond, drop, List, [], ◌∷◌, ◌++◌, Option, Some, None, refl, sym, ap, ◌∙◌, append_assoc}
 use Rattle.std.specs.Prelude.{ℤ, pos, neg_ℤ, nat_le, ◌==◌, ◌&&◌}
 use Rattle.std.specs.List.{take_while}
-use Rattle.text_tokens.specs.Bytes.{is_blank, is_letter, is_digit, is_name_byte, is_mark_byte, is_allowed}
+use Rattle.std.specs.Char.{is_ascii_digit}
+use Rattle.text_tokens.specs.Bytes.{is_blank, is_letter, is_name_byte, is_mark_byte, is_allowed}
 use Rattle.text_tokens.specs.Token.{Lexeme, Key, Register, Mnemonic, Name, Number, Bad, EndOfLine, PlacedLexeme, lexemes_of}
 use Rattle.text_tokens.specs.Lexing.{placed, tokens_from, line_tokens}
 use Rattle.text_tokens.specs.Pieces.{PieceView, piece_in, piece_at, token_of, glues}
@@ -69,7 +70,7 @@ piece_plain mode b bytes =
     either (is_blank b) _ _ tt
     (either (b == 59) _ _ tt
     (either (is_letter b) _ _ (token_plain (take_while is_name_byte bytes))
-    (either (is_digit b) _ _ (signed_plain false (unsigned bytes).value)
+    (either (is_ascii_digit b) _ _ (signed_plain false (unsigned bytes).value)
     (either (b == 45 && glues mode bytes) _ _ (signed_plain true (unsigned (drop 1 bytes)).value)
     (either (is_mark_byte b) _ _ tt tt)))))
 

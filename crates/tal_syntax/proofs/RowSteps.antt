@@ -5,16 +5,16 @@ use Rattle.std.proofs.lemmas.Bool.{eqb-true}
 use Rattle.std.proofs.lemmas.Bool.Decides.{nat_tests}
 use lib.Dec.{eqb}
 use Rattle.text_tokens.specs.Token.{Lexeme, Mark}
-use Rattle.tal_syntax.specs.Reading.{Read, ◌>>=◌, GivesSame, GivesVia, pure, both, reads, cons, if_mark, mark_at, more_at}
+use Rattle.tal_syntax.specs.Reading.{Read, ◌>>?◌, GivesSame, GivesVia, pure, both, reads, cons, if_mark, mark_at, more_at}
 use Rattle.tal_syntax.specs.declared.tokens_read.Stop.{Stop}
 use Rattle.tal_syntax.specs.declared.tokens_read.Stop.TheVariants.{Refused, Memory}
 
 -- rows that were read before those of a reader
 abbrev pub with_front : {A : Type 0} → List A → Result (List A × List Lexeme) (List Lexeme) → Result (List A × List Lexeme) (List Lexeme)
-with_front front read = read >>= λ x. Ok (front ++ x.0, x.1)
+with_front front read = read >>? λ x. Ok (front ++ x.0, x.1)
 
 -- a row goes to the front
-regroup : {A : Type 0} (front : List A) (x : A) (read : Result (List A × List Lexeme) (List Lexeme)) → with_front front (read >>= λ xs. Ok (x ∷ xs.0, xs.1)) ≡ with_front (front ++ x ∷ []) read
+regroup : {A : Type 0} (front : List A) (x : A) (read : Result (List A × List Lexeme) (List Lexeme)) → with_front front (read >>? λ xs. Ok (x ∷ xs.0, xs.1)) ≡ with_front (front ++ x ∷ []) read
 regroup {A} front x (Ok y) = ap (λ (l : List A). Ok (l, y.1)) (sym (append_assoc front (x ∷ []) y.0))
 regroup front x (Err e) = refl
 
@@ -24,17 +24,17 @@ err_via view Refused part total left h f = f h
 err_via view Memory part total left h f = tt
 
 -- the first row
-pub begun : {A : Type 0} (x : A) (read : Result (List A × List Lexeme) (List Lexeme)) → with_front (x ∷ []) read ≡ (read >>= λ xs. Ok (x ∷ xs.0, xs.1))
+pub begun : {A : Type 0} (x : A) (read : Result (List A × List Lexeme) (List Lexeme)) → with_front (x ∷ []) read ≡ (read >>? λ xs. Ok (x ∷ xs.0, xs.1))
 begun x (Ok y) = refl
 begun x (Err e) = refl
 
 -- making a list of a pair is putting the row before the others
-made : {A : Type 0} (x : A) (read : Result (List A × List Lexeme) (List Lexeme)) → ◌>>=◌ {A = (A × List A) × List Lexeme} {B = List A × List Lexeme} (◌>>=◌ {A = List A × List Lexeme} {B = (A × List A) × List Lexeme} read (λ y. Ok ((x, y.0), y.1))) (λ z. Ok (cons z.0, z.1)) ≡ (read >>= λ xs. Ok (x ∷ xs.0, xs.1))
+made : {A : Type 0} (x : A) (read : Result (List A × List Lexeme) (List Lexeme)) → ◌>>?◌ {A = (A × List A) × List Lexeme} {B = List A × List Lexeme} (◌>>?◌ {A = List A × List Lexeme} {B = (A × List A) × List Lexeme} read (λ y. Ok ((x, y.0), y.1))) (λ z. Ok (cons z.0, z.1)) ≡ (read >>? λ xs. Ok (x ∷ xs.0, xs.1))
 made x (Ok y) = refl
 made x (Err e) = refl
 
 -- a row, and more
-pub row_then : {A : Type 0} (p : Read A) (q : Read (List A)) (ts us : List Lexeme) (x : A) → p ts ≡ Ok (x, us) → reads cons (both p q) ts ≡ (q us >>= λ xs. Ok (x ∷ xs.0, xs.1))
+pub row_then : {A : Type 0} (p : Read A) (q : Read (List A)) (ts us : List Lexeme) (x : A) → p ts ≡ Ok (x, us) → reads cons (both p q) ts ≡ (q us >>? λ xs. Ok (x ∷ xs.0, xs.1))
 row_then p q ts us x e = rw e (made x (q us))
 
 -- no row

@@ -12,10 +12,10 @@ abbrev pub Read : Type 0 → Type 0
 Read A = List Lexeme → Result (A × List Lexeme) (List Lexeme)
 
 -- the ? of the logic: the second step, if the first gave a value
-infixl 10 ◌>>=◌
-abbrev pub ◌>>=◌ : {A B : Type 0} → Result A (List Lexeme) → (A → Result B (List Lexeme)) → Result B (List Lexeme)
-(Ok x) >>= f = f x
-(Err e) >>= f = Err e
+infixl 10 ◌>>?◌
+abbrev pub ◌>>?◌ : {A B : Type 0} → Result A (List Lexeme) → (A → Result B (List Lexeme)) → Result B (List Lexeme)
+(Ok x) >>? f = f x
+(Err e) >>? f = Err e
 
 -- what a reader of the code gives, and what is left then
 abbrev pub GivesVia : {A B : Type 0} → (A → B) → Result A Stop → Result (B × List Lexeme) (List Lexeme) → List Lexeme → Type 0
@@ -35,11 +35,11 @@ pure x ts = Ok (x, ts)
 
 -- one after the other
 abbrev pub both : {A B : Type 0} → Read A → Read B → Read (A × B)
-both p q ts = p ts >>= λ x. q x.1 >>= λ y. Ok ((x.0, y.0), y.1)
+both p q ts = p ts >>? λ x. q x.1 >>? λ y. Ok ((x.0, y.0), y.1)
 
 -- what is made of a value
 abbrev pub reads : {A B : Type 0} → (A → B) → Read A → Read B
-reads make p ts = p ts >>= λ x. Ok (make x.0, x.1)
+reads make p ts = p ts >>? λ x. Ok (make x.0, x.1)
 
 -- the first token decides how to go on behind it
 abbrev pub choose : {A : Type 0} → (Lexeme → Option (Read A)) → Read A

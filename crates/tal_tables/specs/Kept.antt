@@ -7,8 +7,8 @@ use Rattle.tal_tables.specs.declared.tables.ModuleTables.TheInside.{Inside}
 use Rattle.tal_tables.specs.Rows.{ModuleTablesView}
 
 -- what the struct holds
-abbrev pub tables_of : Inside → ModuleTablesView
-tables_of t = record {
+abbrev pub kept_tables : Inside → ModuleTablesView
+kept_tables t = record {
   heap_words = t.heap_words;
   stacks = t.stacks;
   sigs = t.sigs.items;

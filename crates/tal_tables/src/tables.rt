@@ -29,13 +29,13 @@ pub struct ModuleTables {
 
 impl Model for ModuleTables {
     ghost use Rattle.tal_tables.specs.Rows.{ModuleTablesView};
-    ghost use Rattle.tal_tables.specs.Kept.{WithinLimits, tables_of};
+    ghost use Rattle.tal_tables.specs.Kept.{WithinLimits, kept_tables};
 
     ghost Value = { ModuleTablesView };
 
-    ghost view = { tables_of };
+    ghost view = { kept_tables };
 
-    ghost invariant = { λ t. WithinLimits (tables_of t) };
+    ghost invariant = { λ t. WithinLimits (kept_tables t) };
 }
 
 impl ModuleTables {

@@ -1,7 +1,8 @@
 -- Numbers: decimal, or `0x` and hexadecimal digits in either case.
 use Rattle.std.specs.Prelude.{ℕ, ◌+◌, ◌*◌, pos, neg_ℤ, List, [], ◌∷◌, length, drop, Bool, true, false, ◌&&◌, ◌==◌, nat_le, slice_index_or, if◌then◌else◌}
 use Rattle.std.specs.List.{take_while}
-use Rattle.text_tokens.specs.Bytes.{is_digit, is_hex_digit, digit_of}
+use Rattle.std.specs.Char.{is_ascii_digit}
+use Rattle.text_tokens.specs.Bytes.{is_hex_digit, digit_of}
 use Rattle.text_tokens.specs.Token.{Lexeme, Number, Bad}
 
 -- the value of digits behind others that have a value
@@ -28,7 +29,7 @@ hex_digits bytes = take_while is_hex_digit (drop 2 bytes)
 
 -- the digits at the front
 abbrev pub decimal_digits : List ℕ → List ℕ
-decimal_digits bytes = take_while is_digit bytes
+decimal_digits bytes = take_while is_ascii_digit bytes
 
 -- the longest number that begins with these bytes
 unfoldable pub unsigned : List ℕ → Unsigned

@@ -1,7 +1,8 @@
 -- What begins at a place of a line: the longest token that begins there, or none.
 use Rattle.std.specs.Prelude.{◌≡◌, ℕ, ◌-◌, List, length, drop, Bool, true, false, ◌&&◌, ◌==◌, Option, Some, None, if◌then◌else◌}
 use Rattle.std.specs.List.{take_while}
-use Rattle.text_tokens.specs.Bytes.{is_blank, is_letter, is_digit, is_name_byte, is_mark_byte, is_allowed}
+use Rattle.std.specs.Char.{is_ascii_digit}
+use Rattle.text_tokens.specs.Bytes.{is_blank, is_letter, is_name_byte, is_mark_byte, is_allowed}
 use Rattle.text_tokens.specs.declared.token.Token.{Token}
 use Rattle.text_tokens.specs.declared.pieces.Piece.{Piece}
 use Rattle.text_tokens.specs.Token.{seen, Lexeme, Key, Register, Mnemonic, Name, Number, Mark, Bad}
@@ -21,7 +22,7 @@ token_of letters = elim (word_written letters) [
 -- In a memory operand, behind a name, a register or a number, `-` is a token by itself.
 abbrev pub glues : Mode → List ℕ → Bool
 glues Behind bytes = false
-glues _ bytes = is_digit (byte_or_zero bytes 1)
+glues _ bytes = is_ascii_digit (byte_or_zero bytes 1)
 
 -- how to go on behind a name, a register or a number
 abbrev pub behind_value : Mode → Mode
@@ -77,7 +78,7 @@ piece_in mode b bytes =
     if is_blank b then one_byte None mode
     else (if b == 59 then one_byte None Comment
     else (if is_letter b then word_piece mode bytes
-    else (if is_digit b then number_piece mode bytes
+    else (if is_ascii_digit b then number_piece mode bytes
     else (if b == 45 && glues mode bytes then negative_piece mode bytes
     else (if is_mark_byte b then one_byte (Some (Mark b)) (behind_mark b mode)
     else one_byte (Some (Bad (if is_allowed b then 3 else 1))) mode)))))

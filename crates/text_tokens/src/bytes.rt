@@ -1,6 +1,7 @@
 // What a byte may be part of.
 ghost use Rattle.std.specs.Prelude.{◌≡◌};
-ghost use Rattle.text_tokens.specs.Bytes.{is_blank, is_letter, is_digit, is_hex_digit, is_name_byte, is_mark_byte, is_allowed};
+ghost use Rattle.std.specs.Char.{is_ascii_digit};
+ghost use Rattle.text_tokens.specs.Bytes.{is_blank, is_letter, is_hex_digit, is_name_byte, is_mark_byte, is_allowed};
 
 /// A space or a tab.
 pub fn blank(byte: u8) -> bool
@@ -16,9 +17,9 @@ pub fn letter(byte: u8) -> bool
 }
 
 pub fn digit(byte: u8) -> bool
-    ensures { result ≡ is_digit byte }
+    ensures { result ≡ is_ascii_digit byte }
 {
-    b'0' <= byte && byte <= b'9'
+    byte.is_ascii_digit()
 }
 
 pub fn hex_digit(byte: u8) -> bool

@@ -1,7 +1,8 @@
 // Numbers at the front of bytes.
 ghost use Rattle.std.specs.Prelude.{◌≡◌, ℕ, ◌⊎◌, IsTrue, slice_index_or, ◌+◌, ◌≤◌, ◌<◌, ◌^◌, length, drop, take, min};
 ghost use Rattle.std.specs.List.{take_while};
-ghost use Rattle.text_tokens.specs.Bytes.{is_digit, is_hex_digit, digit_of};
+ghost use Rattle.std.specs.Char.{is_ascii_digit};
+ghost use Rattle.text_tokens.specs.Bytes.{is_hex_digit, digit_of};
 ghost use Rattle.text_tokens.specs.Token.{seen};
 ghost use Rattle.text_tokens.specs.Numbers.{digits_value, unsigned, is_hex_start, number_token};
 
@@ -26,7 +27,7 @@ fn digit_value(byte: u8) -> u64
 
 // How many digits stand at the front.
 fn digits_length(bytes: &[u8]) -> usize
-    ensures count { result ≡ length (take_while is_digit bytes.now) }
+    ensures count { result ≡ length (take_while is_ascii_digit bytes.now) }
     ensures within { result ≤ length bytes.now }
 {
     bytes.iter().take_while(|byte| digit(**byte)).count()
@@ -35,7 +36,7 @@ fn digits_length(bytes: &[u8]) -> usize
 // The digits at the front.
 #[tactic(auto, using(crate::proofs::Fronts::take_front))]
 fn digits_front(bytes: &[u8]) -> &[u8]
-    ensures front { result.now ≡ take_while is_digit bytes.now }
+    ensures front { result.now ≡ take_while is_ascii_digit bytes.now }
     ensures within { length result.now ≤ length bytes.now }
 {
     &bytes[..digits_length(bytes)]

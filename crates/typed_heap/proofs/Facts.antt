@@ -23,7 +23,7 @@ use Rattle.tal_image.specs.Conditions.{array_places, with_array}
 use Rattle.tal_image.specs.Image.{ImageParts}
 use Rattle.tal_image.specs.Shown.{shown, shapes_of, data_row_in}
 use Rattle.tal_image.specs.Formed.{Formed, EachAfter, tables}
-use Rattle.tal_image.specs.Formed.{IsArray as IsArrayPart}
+use Rattle.tal_image.specs.Formed.{ArrayFits}
 use Rattle.tal_checker.specs.Frames.{may_refer}
 use Rattle.typed_machine.specs.Values.{Value, Number, Null, Ref, Word, ObjectShape, InstanceOf, ArrayOf, is_instance, is_array, fits_among, all_objects}
 use Rattle.typed_machine.specs.Stores.{Object, Store, shape_in, shapes_in, places_in, value_type, value_count}
@@ -111,7 +111,7 @@ value-refers v store w (field.ArrRef k) e h = absurd (false≢true h)
 -- ---- data arrays
 
 -- conditions 21 and 22: data arrays stand below the heap
-arrays-low : (t : Tables) (kinds : List KindRow) (used : ℕ) (arrays : List ArrayPart) (d place : ℕ) → EachAfter with_array (λ later used a. IsArrayPart t kinds used a) used arrays
+arrays-low : (t : Tables) (kinds : List KindRow) (used : ℕ) (arrays : List ArrayPart) (d place : ℕ) → EachAfter with_array (λ later used a. ArrayFits t kinds used a) used arrays
     → slice_get (array_places (statics_start + 4 * used) arrays) d ≡ Some place → place < heap_start
 unfolding array_places
 arrays-low t kinds used [] d place h e = cc

@@ -32,7 +32,7 @@ use Rattle.tal_flow.specs.Rules.{next_address}
 use Rattle.tal_image.specs.Image.{ImageParts}
 use Rattle.tal_image.specs.Shown.{shown}
 use Rattle.typed_machine.specs.Values.{Value, Number, Null, Ref, Code, Ret, Tab, Desc, Fits}
-use Rattle.typed_machine.specs.States.{State, Known, AllConditions, Equality, NoCondition, shapes_of, at_place, with_register, with_flags, with_values, most_values}
+use Rattle.typed_machine.specs.States.{State, Known, AllConditions, Equality, NoCondition, placed_shapes, at_place, with_register, with_flags, with_values, most_values}
 use Rattle.typed_machine.specs.Operands.{Spot, AtDisplay, spot_of, operand_value, is_number, number_in, word_among, write_operand}
 use Rattle.typed_machine.specs.Code.{may_go}
 use Rattle.typed_machine.specs.Words.{words_of}
@@ -202,8 +202,8 @@ drops s i next (Some n) =
 -- ---- calls and returns
 
 -- the values in the registers fit the parameters
-unfoldable pub arguments_fit : ShownImage → State → Sig → Bool
-arguments_fit v s sig = every (λ r. Fits v (shapes_of s) (s.thread.regs r) (register_type sig.params r))
+unfoldable pub values_fit : ShownImage → State → Sig → Bool
+values_fit v s sig = every (λ r. Fits v (placed_shapes s) (s.thread.regs r) (register_type sig.params r))
 
 -- nothing is known of the flags where a function begins
 abbrev pub entered : ℕ → State → State
@@ -212,7 +212,7 @@ entered next s = record s { thread = record s.thread { known = NoCondition } }
 -- the function at an address is called, if one begins there, with arguments that fit; the place after the call is pushed
 abbrev pub calls_function : ShownImage → State → ℕ → ℕ → Option EffectView
 calls_function v s next address =
-    option_and_then (λ sig. if arguments_fit v s sig then Some (pushes address (Ret next) (entered next s)) else None)
+    option_and_then (λ sig. if values_fit v s sig then Some (pushes address (Ret next) (entered next s)) else None)
     (option_and_then v.sig (v.function_at address))
 
 -- what an entry of the Nucleus asks of EAX and ECX
@@ -229,13 +229,13 @@ abbrev pub calls_entry : State → ℕ → Arguments → Option EffectView
 calls_entry s k arguments = if has_arguments arguments (s.thread.regs Eax) (s.thread.regs Ecx) then Some (Calls k) else None
 
 -- an entry of the Nucleus, by its number, or else another call
-abbrev pub entry_or : State → Option EffectView → Option ℕ → Option EffectView
-entry_or s otherwise None = otherwise
-entry_or s otherwise (Some k) = option_map_or (calls_entry s k) (slice_get nucleus_arguments k) otherwise
+abbrev pub numbered_entry_or : State → Option EffectView → Option ℕ → Option EffectView
+numbered_entry_or s otherwise None = otherwise
+numbered_entry_or s otherwise (Some k) = option_map_or (calls_entry s k) (slice_get nucleus_arguments k) otherwise
 
 -- a CALL of an address: of the Nucleus, or of a function's first instruction
 unfoldable pub calls_to : ShownImage → State → ℕ → ℕ → Option EffectView
-calls_to v s next address = entry_or s (calls_function v s next address) (entry_number address)
+calls_to v s next address = numbered_entry_or s (calls_function v s next address) (entry_number address)
 
 -- a CALL of a value, which is a function's address
 abbrev pub calls_value : ShownImage → State → ℕ → Option Value → Option EffectView

@@ -17,17 +17,17 @@ use Rattle.typed_machine.specs.Values.{Value, Number}
 use Rattle.typed_machine.specs.Turns.{Run, RunOf}
 
 -- what is looked at of a run
-pub record Came : Type 0 where
+pub record RunSeen : Type 0 where
   pub ending : Option Ending
   pub turns : ℕ
   pub statics : List Value
 
-abbrev pub came_of : Run → Came
-came_of r = record { ending = r.state.ending; turns = r.state.turns; statics = r.state.statics }
+abbrev pub seen_of : Run → RunSeen
+seen_of r = record { ending = r.state.ending; turns = r.state.turns; statics = r.state.statics }
 
 -- so many turns of the image come to this end, after so many turns, with these statics
-abbrev pub ComesTo : ImageParts → ℕ → Option Ending → ℕ → List Value → Type 0
-ComesTo image n ending turns statics = option_map came_of (RunOf image [] n []) ≡ Some (record { ending = ending; turns = turns; statics = statics })
+abbrev pub RunsTo : ImageParts → ℕ → Option Ending → ℕ → List Value → Type 0
+RunsTo image n ending turns statics = option_map seen_of (RunOf image [] n []) ≡ Some (record { ending = ending; turns = turns; statics = statics })
 
 -- a signature of no parameters that gives a number
 abbrev pub plain_sig : Sig
@@ -55,7 +55,7 @@ abbrev pub static_image : ImageParts
 static_image = record (plain_image 11 (0xB8 ∷ 5 ∷ 0 ∷ 0 ∷ 0 ∷ 0xA3 ∷ 0 ∷ 0 ∷ 0x30 ∷ 0 ∷ 0xC3 ∷ [])) { statics = field.Num ∷ [] }
 
 abbrev pub StaticIsWritten : Type 0
-StaticIsWritten = ComesTo static_image 10 (Some (Halted 5)) 3 (Number 5 ∷ [])
+StaticIsWritten = RunsTo static_image 10 (Some (Halted 5)) 3 (Number 5 ∷ [])
 
 -- one class, whose method is the second function; MOV EAX, its table; CALL [EAX + 44]; RET; and MOV EAX, 9; RET
 abbrev pub method_image : ImageParts
@@ -66,7 +66,7 @@ method_image = record (plain_image 9 (0xB8 ∷ 0 ∷ 0 ∷ 0x20 ∷ 0 ∷ 0xFF �
 }
 
 abbrev pub MethodIsCalled : Type 0
-MethodIsCalled = ComesTo method_image 10 (Some (Halted 9)) 5 []
+MethodIsCalled = RunsTo method_image 10 (Some (Halted 9)) 5 []
 
 -- a data array of 5, 6 and 7; MOV EAX, 0; MOV EBX, the array; MOV ECX, 2; CMP ECX, [EBX + 4]; JAE to RET;
 -- MOV EAX, [EBX + 4 * ECX + 8]; RET
@@ -80,14 +80,14 @@ array_image = record (plain_image 25 (
     }
 
 abbrev pub ElementIsRead : Type 0
-ElementIsRead = ComesTo array_image 10 (Some (Halted 7)) 7 []
+ElementIsRead = RunsTo array_image 10 (Some (Halted 7)) 7 []
 
 -- MOV EAX, 1; MOV EDX, 0; MOV ECX, 0; DIV ECX; RET
 abbrev pub divide_image : ImageParts
 divide_image = plain_image 18 (0xB8 ∷ 1 ∷ 0 ∷ 0 ∷ 0 ∷ 0xBA ∷ 0 ∷ 0 ∷ 0 ∷ 0 ∷ 0xB9 ∷ 0 ∷ 0 ∷ 0 ∷ 0 ∷ 0xF7 ∷ 0xF1 ∷ 0xC3 ∷ [])
 
 abbrev pub DivideErrorEnds : Type 0
-DivideErrorEnds = ComesTo divide_image 10 (Some (KernelFault 0)) 4 []
+DivideErrorEnds = RunsTo divide_image 10 (Some (KernelFault 0)) 4 []
 
 -- ---- several stacks
 

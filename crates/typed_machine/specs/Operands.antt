@@ -15,7 +15,7 @@ use Rattle.tal_types.specs.Contexts.{same}
 use Rattle.tal_types.specs.Shown.{ShownImage}
 use Rattle.typed_machine.specs.Values.{Value, Number, Null, Ref, Code, Ret, Tab, Desc, ObjectShape, InstanceOf, ArrayOf, Word, Fits}
 use Rattle.typed_machine.specs.Stores.{value_type, value_at, set_value}
-use Rattle.typed_machine.specs.States.{State, shapes_of, places_of, with_register, with_values}
+use Rattle.typed_machine.specs.States.{State, placed_shapes, places_of, with_register, with_values}
 
 -- ---- where a memory operand points
 
@@ -67,8 +67,8 @@ table_spot v c disp =
 
 -- the spot at a base's value and an index
 abbrev pub based_spot : ShapesView → State → Value → Option Reg → ℕ → ℕ → Option Spot
-based_spot v s (Ref i) None scale disp = option_and_then (λ shape. object_spot v i shape disp) (slice_get (shapes_of s) i)
-based_spot v s (Ref i) (Some x) scale disp = option_and_then (λ shape. element_spot i shape (s.thread.regs x) scale disp) (slice_get (shapes_of s) i)
+based_spot v s (Ref i) None scale disp = option_and_then (λ shape. object_spot v i shape disp) (slice_get (placed_shapes s) i)
+based_spot v s (Ref i) (Some x) scale disp = option_and_then (λ shape. element_spot i shape (s.thread.regs x) scale disp) (slice_get (placed_shapes s) i)
 based_spot v s (Tab c) None scale disp = table_spot v c disp
 based_spot v s w x scale disp = None
 
@@ -106,8 +106,8 @@ unfoldable pub read_spot : ShapesView → State → Spot → Option Value
 read_spot v s (AtStatic j) = slice_get s.statics j
 read_spot v s (AtSlot i) = slice_get s.values i
 read_spot v s (AtValue i j) = value_at s.store i j
-read_spot v s (AtLength i) = option_and_then length_value (slice_get (shapes_of s) i)
-read_spot v s (AtHead i) = option_and_then head_value (slice_get (shapes_of s) i)
+read_spot v s (AtLength i) = option_and_then length_value (slice_get (placed_shapes s) i)
+read_spot v s (AtHead i) = option_and_then head_value (slice_get (placed_shapes s) i)
 read_spot v s (AtMethod c m) = method_value v c m
 read_spot v s (AtDisplay c d) = None
 
@@ -172,11 +172,11 @@ is_number v s x = is_some (option_and_then number_in (operand_value v s x))
 -- the value may stand where the type is this
 abbrev pub may_hold : ShownImage → State → Option FieldTy → Value → Bool
 may_hold v s None w = false
-may_hold v s (Some t) w = Fits v (shapes_of s) w (of_field t)
+may_hold v s (Some t) w = Fits v (placed_shapes s) w (of_field t)
 
 -- the type of value j of object i
 abbrev pub type_there : ShownImage → State → ℕ → ℕ → Option FieldTy
-type_there v s i j = option_and_then (λ shape. value_type v.shapes shape j) (slice_get (shapes_of s) i)
+type_there v s i j = option_and_then (λ shape. value_type v.shapes shape j) (slice_get (placed_shapes s) i)
 
 -- the state, where a test holds
 abbrev pub provided : Bool → State → Option State

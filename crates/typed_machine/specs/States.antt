@@ -64,8 +64,8 @@ clear_flags = record { carry = false; zero = false; sign = false; overflow = fal
 -- ---- parts of a state
 
 -- the shapes and places of the store's objects
-abbrev pub shapes_of : State → List ObjectShape
-shapes_of s = shapes_in s.store
+abbrev pub placed_shapes : State → List ObjectShape
+placed_shapes s = shapes_in s.store
 
 abbrev pub places_of : State → List ℕ
 places_of s = places_in s.store

@@ -18,9 +18,9 @@ resumed image number reply (InterruptedStack thread values) s = Some (runs threa
 resumed image number reply RunningStack s = None
 
 -- the running stack stands in the table as it was put away, and another runs
-abbrev pub handed_over : Stack → ℕ → State → State
-handed_over left to s = record s { current = to; stacks = slice_set (slice_set s.stacks s.current left) to RunningStack }
+abbrev pub put_away : Stack → ℕ → State → State
+put_away left to s = record s { current = to; stacks = slice_set (slice_set s.stacks s.current left) to RunningStack }
 
 -- the running stack is put away, and stack `to` goes on
 unfoldable pub switched : ImageParts → ℕ → Value → Stack → State → Option State
-switched image to reply left s = option_and_then (λ stack. option_map (handed_over left to) (resumed image to reply stack s)) (slice_get s.stacks to)
+switched image to reply left s = option_and_then (λ stack. option_map (put_away left to) (resumed image to reply stack s)) (slice_get s.stacks to)

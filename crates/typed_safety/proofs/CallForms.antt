@@ -229,8 +229,8 @@ module _ (image : ImageParts) (live : ℕ → Bool) (runs : RunsOn image) (laws 
       (laws.types.every_told (λ q. sub (shown image).shapes (t.thread.context.regs q) (register_type sig.params q)) r e)
 
   -- and the machine's own test holds
-  parameters-tested : (sig : Sig) → ((r : Reg) → fits_in (scope_of image live s) (s.thread.regs r) (register_type sig.params r) ≡ true) → effect.arguments_fit (shown image) s sig ≡ true
-  unfolding effect.arguments_fit
+  parameters-tested : (sig : Sig) → ((r : Reg) → fits_in (scope_of image live s) (s.thread.regs r) (register_type sig.params r) ≡ true) → effect.values_fit (shown image) s sig ≡ true
+  unfolding effect.values_fit
   parameters-tested sig h = laws.types.every_tells _ (λ r. fits-all (shown image) live _ (s.thread.regs r) (register_type sig.params r) (h r))
 
   -- a function that is entered is typed at its first instruction
@@ -307,7 +307,7 @@ module _ (image : ImageParts) (live : ℕ → Bool) (runs : RunsOn image) (laws 
 
       go : (o : Option ℕ) → entry_or (call_of_signature (shown image) t.thread.context ((shown image).function_at to)) t.thread.context (option_and_then (slice_get nucleus_arguments) o) ≡ Gives u
           → Arrives image s.thread.place next (Live (after_call u t.thread.context))
-          → EffectTyped image live s next (effect.entry_or s (calls_function (shown image) s next to) o)
+          → EffectTyped image live s next (effect.numbered_entry_or s (calls_function (shown image) s next to) o)
       go None e a = function e a
       go (Some k) e a = named k (slice_get nucleus_arguments k) refl e a
 

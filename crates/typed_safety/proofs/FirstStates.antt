@@ -15,7 +15,7 @@ use Rattle.tal_image.specs.declared.parts.DataRow.{DataRow}
 use Rattle.tal_image.specs.declared.parts.Tables.{Tables}
 use Rattle.tal_image.specs.Image.{ImageParts, type_tag}
 use Rattle.tal_image.specs.Conditions.{array_places, with_array, numbers_given}
-use Rattle.tal_image.specs.Formed.{EachAfter, IsArray as IsArrayPart, Formed, tables}
+use Rattle.tal_image.specs.Formed.{EachAfter, ArrayFits, Formed, tables}
 use Rattle.tal_image.specs.Shown.{shown, shapes_of, data_row_in}
 use Rattle.tal_checker.specs.Running.{RunsOn}
 use Rattle.typed_machine.specs.Values.{Value, Number, Null, ArrayOf, fits_among, all_objects}
@@ -98,7 +98,7 @@ laid-there s (b ∷ arrays) (p ∷ places) zero a place e f = let part : b ≡ a
 laid-there s (b ∷ arrays) (p ∷ places) (suc d) a place e f = laid-there s arrays places d a place e f
 
 -- conditions 21 and 22: the places of data arrays, which are below the heap
-pub places-low : (t : Tables) (kinds : List KindRow) (used : ℕ) (arrays : List ArrayPart) (d place : ℕ) → EachAfter with_array (λ later used a. IsArrayPart t kinds used a) used arrays
+pub places-low : (t : Tables) (kinds : List KindRow) (used : ℕ) (arrays : List ArrayPart) (d place : ℕ) → EachAfter with_array (λ later used a. ArrayFits t kinds used a) used arrays
     → slice_get (array_places (statics_start + 4 * used) arrays) d ≡ Some place → (0 < place) × (place < heap_start)
 unfolding array_places
 places-low t kinds used [] d place h e = absurd (cc)
@@ -137,8 +137,8 @@ module _ (image : ImageParts) (formed : Formed image) where
   places = array_places (statics_start + 4 * length image.statics) image.arrays
 
   -- a data array of the image meets its conditions
-  part-fits : (d : ℕ) (a : ArrayPart) → slice_get image.arrays d ≡ Some a → (later : ℕ) × (used : ℕ) × IsArrayPart (tables image) image.kinds used a
-  part-fits d a e = each-row with_array (λ later used b. IsArrayPart (tables image) image.kinds used b) (length image.statics) image.arrays d a formed.arrays e
+  part-fits : (d : ℕ) (a : ArrayPart) → slice_get image.arrays d ≡ Some a → (later : ℕ) × (used : ℕ) × ArrayFits (tables image) image.kinds used a
+  part-fits d a e = each-row with_array (λ later used b. ArrayFits (tables image) image.kinds used b) (length image.statics) image.arrays d a formed.arrays e
 
   -- its kind is there
   kind-there : (d : ℕ) (a : ArrayPart) → slice_get image.arrays d ≡ Some a → a.kind < length (shapes_of image).kinds

@@ -17,7 +17,7 @@ use Rattle.tal_flow.specs.Afterwards.{write, store, add_head, note_head, after_f
 use Rattle.tal_flow.specs.Rules.{operand_rule}
 use Rattle.tal_image.specs.Shown.{shown}
 use Rattle.typed_machine.specs.Values.{Value, Ref, Tab, ObjectShape, InstanceOf, ArrayOf, is_instance}
-use Rattle.typed_machine.specs.States.{State, shapes_of, with_register}
+use Rattle.typed_machine.specs.States.{State, placed_shapes, with_register}
 use Rattle.typed_machine.specs.Operands.{Spot, AtHead, head_value, read_spot, operand_value, provided, write_operand}
 use Rattle.typed_machine.specs.Effects.{goes_on, moves, form_effect}
 use Rattle.typed_machine.specs.Frames.{Scope}
@@ -48,7 +48,7 @@ module _ (types : TypeLaws) (l : Scope) (result : Ty) where
 module _ (l : Scope) (result : Ty) (c : LiveContext) (s : State) (h : StateFits l result c s) (laws : ImageLaws l.image) where
   -- what is read at the head of an object is its table
   head-read : (b : Reg) (i k : ℕ) (w : Value) → s.thread.regs b ≡ Ref i → is_instance (rows l) (slice_get l.shapes i) k ≡ true
-      → option_and_then head_value (slice_get (shapes_of s) i) ≡ Some w → IsHead l.shapes w (s.thread.regs b)
+      → option_and_then head_value (slice_get (placed_shapes s) i) ≡ Some w → IsHead l.shapes w (s.thread.regs b)
   head-read b i k w holds is read = go (slice_get l.shapes i) refl is (rw (← h.store.shapes) at read)
     where
       go : (o : Option ObjectShape) → slice_get l.shapes i ≡ o → is_instance (rows l) o k ≡ true → option_and_then head_value o ≡ Some w → IsHead l.shapes w (s.thread.regs b)

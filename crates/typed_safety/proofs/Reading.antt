@@ -20,7 +20,7 @@ use Rattle.tal_flow.specs.Places.{place_type, is_readable, mark_type, immediate_
 use Rattle.tal_image.specs.Shown.{shown}
 use Rattle.typed_machine.specs.Values.{Number, Null, ObjectShape, InstanceOf, ArrayOf, is_instance, fits_among}
 use Rattle.typed_machine.specs.Stores.{Object, Store, value_type, value_count, value_at}
-use Rattle.typed_machine.specs.States.{State, shapes_of}
+use Rattle.typed_machine.specs.States.{State, placed_shapes}
 use Rattle.typed_machine.specs.Operands.{Spot, AtStatic, AtSlot, AtValue, AtLength, AtHead, AtMethod, length_value, head_value, method_value, read_spot, marked_value, immediate_value, operand_value}
 use Rattle.typed_machine.specs.Frames.{Scope, fits_in}
 use Rattle.typed_machine.specs.Typing.{StoreFits}
@@ -65,12 +65,12 @@ module _ (l : Scope) (result : Ty) (c : LiveContext) (s : State) (h : StateFits 
       rw there (h.statics.fit j f _ e there)
 
   -- a length
-  length-there : (base : Option Reg) (i : ℕ) → HoldsArray l s base i → ValueFits l (option_and_then length_value (slice_get (shapes_of s) i)) ty.Num
+  length-there : (base : Option Reg) (i : ℕ) → HoldsArray l s base i → ValueFits l (option_and_then length_value (slice_get (placed_shapes s) i)) ty.Num
   unfolding fits_among
   length-there base i a = rw (← h.store.shapes, a.is_long) refl
 
   -- the table of an object
-  head-there : (i k : ℕ) → is_instance (rows l) (slice_get l.shapes i) k ≡ true → ValueFits l (option_and_then head_value (slice_get (shapes_of s) i)) (ty.Tab k)
+  head-there : (i k : ℕ) → is_instance (rows l) (slice_get l.shapes i) k ≡ true → ValueFits l (option_and_then head_value (slice_get (placed_shapes s) i)) (ty.Tab k)
   unfolding fits_among
   head-there i k e = rw (← h.store.shapes) (go (slice_get l.shapes i) e)
     where

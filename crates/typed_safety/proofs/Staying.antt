@@ -38,8 +38,8 @@ use Rattle.typed_machine.specs.States.{State, Stack, EmptyStack, RunningStack, Y
 use Rattle.typed_machine.specs.Code.{inst_at, may_go}
 use Rattle.typed_machine.specs.Words.{words_of}
 use Rattle.typed_machine.specs.Operands.{Spot, AtStatic, AtSlot, AtValue, spot_of, write_spot, write_operand, operand_value, number_in, provided}
-use Rattle.typed_machine.specs.Effects.{EffectView, Moves, Faults, Calls, Ends, has_above, is_known, is_number_in, goes_on, settled, fault_or, computed, computes, compares, tests, moves, addresses, pushes, is_full, pops, drops, calls_function, arguments_fit, entered, calls_entry, calls_to, calls_value, entry_or, returns_from, form_effect, Effect}
-use Rattle.typed_machine.specs.Switches.{resumed, handed_over, switched}
+use Rattle.typed_machine.specs.Effects.{EffectView, Moves, Faults, Calls, Ends, has_above, is_known, is_number_in, goes_on, settled, fault_or, computed, computes, compares, tests, moves, addresses, pushes, is_full, pops, drops, calls_function, values_fit, entered, calls_entry, calls_to, calls_value, numbered_entry_or, returns_from, form_effect, Effect}
+use Rattle.typed_machine.specs.Switches.{resumed, put_away, switched}
 use Rattle.typed_machine.specs.Replies.{ReplyView, Replies, YieldsTo, Allocates, Collects, class_asked, array_asked, is_stack, is_application, happened, count_items, yield_to, get_stack_state, reset_stack, emptied, vga_text_write, code_taken, start_timer, by_number, by_numbers, Reply}
 use Rattle.typed_machine.specs.Placing.{Answer}
 use Rattle.typed_machine.specs.Turns.{Turned, turned, begun, line_granted, kernel_goes_on, ended_by, answered, replied, after_effect, instruction, interrupt_or, TurnOf}
@@ -129,16 +129,16 @@ pushes-stay s t next w h = go (is_full t)
 function-stays : (v : ShownImage) (s : State) (next address : ℕ) → EffectStays s (calls_function v s next address)
 function-stays v s next address = go (option_and_then v.sig (v.function_at address))
   where
-    go : (o : Option Sig) → EffectStays s (option_and_then (λ sig. if arguments_fit v s sig then Some (pushes address (Ret next) (entered next s)) else None) o)
+    go : (o : Option Sig) → EffectStays s (option_and_then (λ sig. if values_fit v s sig then Some (pushes address (Ret next) (entered next s)) else None) o)
     go None = tt
-    go (Some sig) = tested-stays s (arguments_fit v s sig) _ (pushes-stay s (entered next s) address (Ret next) (refl, refl))
+    go (Some sig) = tested-stays s (values_fit v s sig) _ (pushes-stay s (entered next s) address (Ret next) (refl, refl))
 
 -- a call of an entry
 entry-stays : (s : State) (k : ℕ) (o : Option Arguments) (otherwise : Option EffectView) → EffectStays s otherwise → EffectStays s (option_map_or (calls_entry s k) o otherwise)
 entry-stays s k None otherwise h = h
 entry-stays s k (Some a) otherwise h = tested-stays s _ (Some (Calls k)) tt
 
-called-stays : (s : State) (o : Option ℕ) (otherwise : Option EffectView) → EffectStays s otherwise → EffectStays s (entry_or s otherwise o)
+called-stays : (s : State) (o : Option ℕ) (otherwise : Option EffectView) → EffectStays s otherwise → EffectStays s (numbered_entry_or s otherwise o)
 called-stays s None otherwise h = h
 called-stays s (Some k) otherwise h = entry-stays s k (slice_get nucleus_arguments k) otherwise h
 
@@ -225,13 +225,13 @@ switched-stays : (image : ImageParts) (to : ℕ) (reply : Value) (left : Stack) 
 unfolding switched
 switched-stays image to reply left s = go (slice_get s.stacks to)
   where
-    on : (stack : Stack) → StateStays s (option_map (handed_over left to) (resumed image to reply stack s))
+    on : (stack : Stack) → StateStays s (option_map (put_away left to) (resumed image to reply stack s))
     on EmptyStack = (refl, refl)
     on (YieldedStack place values) = (refl, refl)
     on (InterruptedStack thread values) = (refl, refl)
     on RunningStack = tt
 
-    go : (o : Option Stack) → StateStays s (option_and_then (λ stack. option_map (handed_over left to) (resumed image to reply stack s)) o)
+    go : (o : Option Stack) → StateStays s (option_and_then (λ stack. option_map (put_away left to) (resumed image to reply stack s)) o)
     go None = tt
     go (Some stack) = on stack
 

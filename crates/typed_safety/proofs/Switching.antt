@@ -9,7 +9,7 @@ use Rattle.tal_image.specs.Shown.{shown}
 use Rattle.tal_checker.specs.Running.{RunsOn}
 use Rattle.typed_machine.specs.Values.{Value, Number}
 use Rattle.typed_machine.specs.States.{State, Thread, Stack, EmptyStack, RunningStack, YieldedStack, InterruptedStack}
-use Rattle.typed_machine.specs.Switches.{runs, resumed, handed_over, switched}
+use Rattle.typed_machine.specs.Switches.{runs, resumed, put_away, switched}
 use Rattle.typed_machine.specs.Frames.{Scope}
 use Rattle.typed_machine.specs.Typing.{ThreadFits, StackFits, KernelWaits, TypedAmong, scope_of}
 use Rattle.typed_safety.specs.Laws.{ImageLaws}
@@ -119,7 +119,7 @@ module _ (image : ImageParts) (rests : RunsOn image) (laws : ImageLaws image) (l
   switch-typed fits other away few kept = go (slice_get s.stacks to) refl
     where
       go : (o : Option Stack) → slice_get s.stacks to ≡ o
-          → SomeTyped image live (option_and_then (λ stack. option_map (handed_over left to) (resumed image to (Number n) stack s)) o)
+          → SomeTyped image live (option_and_then (λ stack. option_map (put_away left to) (resumed image to (Number n) stack s)) o)
       go None e = let there = slice_get-get_or s.stacks to RunningStack (rw t.count few) in absurd (let x = sym e ∙ there in cc)
       go (Some stack) e =
           let g = goes-on image rests laws live s to n stack few (t.others to stack e) (λ is. away (t.only to (rw is at e))) in

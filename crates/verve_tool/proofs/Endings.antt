@@ -9,9 +9,9 @@ use Rattle.run_report.specs.Report.{ReportText}
 use Rattle.run_report.specs.JournalLines.{JournalText}
 use Rattle.run_report.specs.declared.run_end.RunEnd.{RunEnd}
 use Rattle.run_report.specs.declared.run_end.RunEnd.TheVariants as run_end
-use Rattle.kernel_machine.specs.Machine.{MachineView, shown_by, Follows, end_of}
+use Rattle.kernel_machine.specs.Machine.{MachineView, shown_by, Follows, run_answer}
 use Rattle.kernel_machine.specs.Laws.{MachinesShowTheirRuns}
-use Rattle.verve_tool.specs.Commands.{Request, Run, Journal, form_of}
+use Rattle.verve_tool.specs.Commands.{Request, Run, Journal, command_form}
 use Rattle.verve_tool.specs.Runs.{RunWords, IsOver, RanWithin, Ran, report_of, journal_of, status_at}
 use Rattle.verve_tool.specs.Forms.{Unrun}
 use Rattle.verve_tool.specs.Seen.{FilesSeen, SinkSeen, Call, OnlyReads, OnlyPuts, Leaves}
@@ -68,15 +68,15 @@ leaves_all c s writes R P none reads puts r p = subst (λ w. Leaves w c s) (sym 
 })
 
 -- the files of a command stopped it before anything was done
-ends_stopped : (c : Call) (request : Request) (s : Stop) → Idle c → (form_of request).MayHaveRun c → StopsAt c.files c.files_after (form_of request).causes s
-    → Ends c (form_of request) (status_of s) (line_of s)
+ends_stopped : (c : Call) (request : Request) (s : Stop) → Idle c → (command_form request).MayHaveRun c → StopsAt c.files c.files_after (command_form request).causes s
+    → Ends c (command_form request) (status_of s) (line_of s)
 ends_stopped c request (Read n) idle left h =
     unread (record { name = n.now; comes = h.0; fault = h.1; missing = h.2; idle = idle; status = refl; line_is = refl })
 ends_stopped c request s idle left (inl want) = wanting (record { silent = idle.silent; left = left; status = want.status; line_is = want.line })
 ends_stopped c request s idle left (inr h) = stopped (record { cause = h.cause; first = h.first; idle = idle; status = h.status })
 
-pub acted_stopped : (c : Call) (request : Request) (s : Stop) → (form_of request).writes ≡ None → c.out_after.told ≡ c.out.told → c.entries ≡ [] → c.kept ≡ None
-    → (Unrun c → (form_of request).MayHaveRun c) → StopsAt c.files c.files_after (form_of request).causes s → OnlyReads c.files c.files_after (IsUnread s)
+pub acted_stopped : (c : Call) (request : Request) (s : Stop) → (command_form request).writes ≡ None → c.out_after.told ≡ c.out.told → c.entries ≡ [] → c.kept ≡ None
+    → (Unrun c → (command_form request).MayHaveRun c) → StopsAt c.files c.files_after (command_form request).causes s → OnlyReads c.files c.files_after (IsUnread s)
     → OnlyPuts c.out c.out_after ⊥ → Acted request c (Err s)
 acted_stopped c request s none silent entries kept left stops reads puts = record {
   ends =
@@ -86,7 +86,7 @@ acted_stopped c request s none silent entries kept left stops reads puts = recor
 }
 
 -- memory was wanting before anything was put
-pub acted_wanting : (c : Call) (request : Request) → (form_of request).writes ≡ None → c.out_after.told ≡ c.out.told → (form_of request).MayHaveRun c
+pub acted_wanting : (c : Call) (request : Request) → (command_form request).writes ≡ None → c.out_after.told ≡ c.out.told → (command_form request).MayHaveRun c
     → OnlyReads c.files c.files_after ⊥ → OnlyPuts c.out c.out_after ⊥ → Acted request c (Err NoMemory)
 acted_wanting c request none silent left reads puts = record {
   ends = wanting (record { silent = record { out = silent; files = reads.told }; left = left; status = refl; line_is = refl });
@@ -94,15 +94,15 @@ acted_wanting c request none silent left reads puts = record {
 }
 
 -- a command did its work, and its text was put
-ends_put : (c : Call) (request : Request) (whole : Status) (text : List ℕ) (r : Result Status Stop) → (form_of request).writes ≡ None
-    → (form_of request).Did c whole text → IsPut c.out c.out_after text whole r → Ends c (form_of request) (told_status r) (told_line r)
+ends_put : (c : Call) (request : Request) (whole : Status) (text : List ℕ) (r : Result Status Stop) → (command_form request).writes ≡ None
+    → (command_form request).Did c whole text → IsPut c.out c.out_after text whole r → Ends c (command_form request) (told_status r) (told_line r)
 ends_put c request whole text (Ok s) none did put = rw put.1 (finished (record { text = text; did = did; written = rw none put.0; line_is = refl }))
 ends_put c request whole text (Err Write) none did put =
     unwritten (record { whole = whole; text = text; did = did; part = rw none put; status = refl; line_is = refl })
 ends_put c request whole text (Err _) none did put = absurd put
 
-pub acted_put : (c : Call) (request : Request) (whole : Status) (text : List ℕ) (r : Result Status Stop) → (form_of request).writes ≡ None
-    → (form_of request).Did c whole text → IsPut c.out c.out_after text whole r → OnlyReads c.files c.files_after ⊥
+pub acted_put : (c : Call) (request : Request) (whole : Status) (text : List ℕ) (r : Result Status Stop) → (command_form request).writes ≡ None
+    → (command_form request).Did c whole text → IsPut c.out c.out_after text whole r → OnlyReads c.files c.files_after ⊥
     → OnlyPuts c.out c.out_after (IsErrAnd r (λ s. s ≡ Write)) → Acted request c r
 acted_put c request whole text r none did put reads puts = record {
   ends = ends_put c request whole text r none did put;
@@ -112,32 +112,32 @@ acted_put c request whole text r none did put reads puts = record {
 -- ---- runs
 
 -- a run that answered other than want of memory is over
-over : (turns : ℕ) (m : MachineView) → (end_of m.ending ≡ run_end.Turns → m.turns ≡ turns) → (e : Option Ending) → m.ending ≡ e → IsOver turns m
-over turns m all None is = inl (all (ap (λ o. end_of o) is))
+over : (turns : ℕ) (m : MachineView) → (run_answer m.ending ≡ run_end.Turns → m.turns ≡ turns) → (e : Option Ending) → m.ending ≡ e → IsOver turns m
+over turns m all None is = inl (all (ap (λ o. run_answer o) is))
 over turns m all (Some e) is = inr (rw is refl)
 
 -- the report that was told is that of the typed machine's run
-report_is : MachinesShowTheirRuns → (entries : List Entry) (m : MachineView) → WellTyped m.image → (e : RunEnd) (f : Follows m entries) → e ≡ end_of m.ending
+report_is : MachinesShowTheirRuns → (entries : List Entry) (m : MachineView) → WellTyped m.image → (e : RunEnd) (f : Follows m entries) → e ≡ run_answer m.ending
     → ReportText (shown_by m) e m.turns ≡ report_of f.run
 report_is law entries m w e f end =
-    ap (λ (x : RunEnd). ReportText (shown_by m) x m.turns) end ∙ ap (λ words. ReportText words (end_of m.ending) m.turns) (law m entries w f)
+    ap (λ (x : RunEnd). ReportText (shown_by m) x m.turns) end ∙ ap (λ words. ReportText words (run_answer m.ending) m.turns) (law m entries w f)
     ∙ rw (f.stands.ending, f.stands.turns) refl
 
 -- a run that was made, and of which this text was told
 did_tell : (tells : RunView → List ℕ) (run : RunWords) (c : Call) (e : RunEnd) (made : Made run c.files.told c.kept c.entries e) (text : List ℕ)
-    → e ≡ end_of made.ran.machine.ending → text ≡ tells made.ran.follows.run → Ran tells run c (status_at e) text
+    → e ≡ run_answer made.ran.machine.ending → text ≡ tells made.ran.follows.run → Ran tells run c (status_at e) text
 did_tell tells run c e made text end is =
     let done = over run.turns made.ran.machine (λ h. made.all (end ∙ h)) made.ran.machine.ending refl in
-    (made.ran, done, ap status_at (end ∙ ap (λ o. end_of o) made.ran.follows.stands.ending), is)
+    (made.ran, done, ap status_at (end ∙ ap (λ o. run_answer o) made.ran.follows.stands.ending), is)
 
 pub acted_report : MachinesShowTheirRuns → (c : Call) (run : RunWords) (e : RunEnd) (made : Made run c.files.told c.kept c.entries e) (text : List ℕ)
-    (r : Result Status Stop) → e ≡ end_of made.ran.machine.ending → text ≡ ReportText (shown_by made.ran.machine) e made.ran.machine.turns
+    (r : Result Status Stop) → e ≡ run_answer made.ran.machine.ending → text ≡ ReportText (shown_by made.ran.machine) e made.ran.machine.turns
     → IsPut c.out c.out_after text (status_at e) r → OnlyReads c.files c.files_after ⊥ → OnlyPuts c.out c.out_after (IsErrAnd r (λ s. s ≡ Write)) → Acted (Run run) c r
 acted_report law c run e made text r end is put reads puts = acted_put c (Run run) (status_at e) text r refl
     (did_tell report_of run c e made text end (is ∙ report_is law c.entries made.ran.machine made.ran.loaded.typed.well_typed e made.ran.follows end)) put reads puts
 
 pub acted_journal : MachinesShowTheirRuns → (c : Call) (run : RunWords) (e : RunEnd) (made : Made run c.files.told c.kept c.entries e) (report text : List ℕ)
-    (r : Result Status Stop) → e ≡ end_of made.ran.machine.ending → report ≡ ReportText (shown_by made.ran.machine) e made.ran.machine.turns
+    (r : Result Status Stop) → e ≡ run_answer made.ran.machine.ending → report ≡ ReportText (shown_by made.ran.machine) e made.ran.machine.turns
     → text ≡ report ++ codes "journal\n" ++ JournalText c.entries
     → IsPut c.out c.out_after text (status_at e) r → OnlyReads c.files c.files_after ⊥ → OnlyPuts c.out c.out_after (IsErrAnd r (λ s. s ≡ Write)) → Acted (Journal run) c r
 acted_journal law c run e made report text r end is told put reads puts = acted_put c (Journal run) (status_at e) text r refl

@@ -7,9 +7,9 @@ use Rattle.std.proofs.lemmas.Fmt.{decimal_injective}
 use Rattle.outside.specs.FileMaps.{FileMap}
 use Rattle.outside.specs.Faults.{Faulted, Quiet}
 use Rattle.tal_image.specs.Image.{ImageParts}
-use Rattle.verve_tool.specs.Commands.{Request, Check, Listing, Run, Journal, form_of, WordsOf, NoCommand, NothingStops}
+use Rattle.verve_tool.specs.Commands.{Request, Check, Listing, Run, Journal, command_form, WordsOf, NoCommand, NothingStops}
 use Rattle.verve_tool.specs.Runs.{RunWords}
-use Rattle.verve_tool.specs.Causes.{Cause, Missing, IsFirst, NoneHolds, OneCause, TypedImage, status_of}
+use Rattle.verve_tool.specs.Causes.{Cause, Missing, IsFirstCause, NoneHolds, OneCause, TypedImage, status_of}
 use Rattle.verve_tool.specs.Forms.{PartWritten, WritesQuietly}
 use Rattle.verve_tool.specs.Seen.{Call, Leaves}
 use Rattle.verve_tool.specs.Outcome.{Outcome, Ends, finished, unwritten, unread, stopped, wanting, IsWorked}
@@ -44,17 +44,17 @@ same_request words a b p q = absurd (cc (sym p.spelled ∙ q.spelled))
 
 -- the words of a command ended as that command
 ends_as : (words : List (String Global)) (c : Call) (s : Status) (line : List ℕ) (request : Request) → Outcome words c s line → WordsOf words request
-    → Ends c (form_of request) s line
+    → Ends c (command_form request) s line
 ends_as words c s line request (inl none) w = absurd (none.no_command request w)
 ends_as words c s line request (inr asked) w =
-    subst (λ (r : Request). Ends c (form_of r) s line) (same_request words asked.request request asked.asked w) asked.ends
+    subst (λ (r : Request). Ends c (command_form r) s line) (same_request words asked.request request asked.asked w) asked.ends
 
 -- and left no more than it may
 pub leaves_as : (words : List (String Global)) (c : Call) (s : Status) (line : List ℕ) (request : Request) → Outcome words c s line → WordsOf words request
-    → Leaves (form_of request).writes c s
+    → Leaves (command_form request).writes c s
 leaves_as words c s line request (inl none) w = absurd (none.no_command request w)
 leaves_as words c s line request (inr asked) w =
-    subst (λ (r : Request). Leaves (form_of r).writes c s) (same_request words asked.request request asked.asked w) asked.leaves
+    subst (λ (r : Request). Leaves (command_form r).writes c s) (same_request words asked.request request asked.asked w) asked.leaves
 
 -- the words are no command: that is all that is told, and nothing was written
 pub usage_status : (words : List (String Global)) (c : Call) (s : Status) (line : List ℕ) → Outcome words c s line → NoCommand words → s ≡ Usage
@@ -77,8 +77,8 @@ quiet_or_part (Some name) c text q p = quiet_or_faulted _ _ q p.0
 
 -- the first cause is a file that is missing
 pub missing_status : (words : List (String Global)) (c : Call) (s : Status) (line : List ℕ) (files : FileMap) (request : Request) (name first_line : List ℕ)
-    → OneCause files (form_of request).causes → NothingStops → Outcome words c s line → c.files.told ≡ Some files → WordsOf words request
-    → IsFirst (Some files) (form_of request).causes (Missing name) first_line → (s ≡ ReadFault) ⊎ (s ≡ NoMemory)
+    → OneCause files (command_form request).causes → NothingStops → Outcome words c s line → c.files.told ≡ Some files → WordsOf words request
+    → IsFirstCause (Some files) (command_form request).causes (Missing name) first_line → (s ≡ ReadFault) ⊎ (s ≡ NoMemory)
 missing_status words c s line files request name first_line one nothing o told w first = elim (ends_as words c s line request o w) [
   | finished h ↦ absurd (one.not_both (Missing name) first_line first (rw told at (nothing c request s h.text h.did)))
   | unwritten h ↦ absurd (one.not_both (Missing name) first_line first (rw told at (nothing c request h.whole h.text h.did)))
@@ -89,8 +89,8 @@ missing_status words c s line files request name first_line one nothing o told w
 
 -- the files stop the command
 pub stopped_status : (words : List (String Global)) (c : Call) (s : Status) (line : List ℕ) (files : FileMap) (request : Request) (cause : Cause) (first_line : List ℕ)
-    → OneCause files (form_of request).causes → NothingStops → Outcome words c s line → c.files.told ≡ Some files → WordsOf words request
-    → Quiet c.files.read_faults c.files_after.read_faults → IsFirst (Some files) (form_of request).causes cause first_line → (s ≡ status_of cause) ⊎ (s ≡ NoMemory)
+    → OneCause files (command_form request).causes → NothingStops → Outcome words c s line → c.files.told ≡ Some files → WordsOf words request
+    → Quiet c.files.read_faults c.files_after.read_faults → IsFirstCause (Some files) (command_form request).causes cause first_line → (s ≡ status_of cause) ⊎ (s ≡ NoMemory)
 stopped_status words c s line files request cause first_line one nothing o told w quiet first = elim (ends_as words c s line request o w) [
   | finished h ↦ absurd (one.not_both cause first_line first (rw told at (nothing c request s h.text h.did)))
   | unwritten h ↦ absurd (one.not_both cause first_line first (rw told at (nothing c request h.whole h.text h.did)))
@@ -101,12 +101,12 @@ stopped_status words c s line files request cause first_line one nothing o told 
 
 -- nothing stops the command, and writing does not fail
 pub complete_status : (words : List (String Global)) (c : Call) (s : Status) (line : List ℕ) (files : FileMap) (request : Request)
-    → OneCause files (form_of request).causes → Outcome words c s line → c.files.told ≡ Some files → WordsOf words request
-    → Quiet c.files.read_faults c.files_after.read_faults → NoneHolds (Some files) (form_of request).causes → WritesQuietly (form_of request).writes c
+    → OneCause files (command_form request).causes → Outcome words c s line → c.files.told ≡ Some files → WordsOf words request
+    → Quiet c.files.read_faults c.files_after.read_faults → NoneHolds (Some files) (command_form request).causes → WritesQuietly (command_form request).writes c
     → IsWorked c request s ⊎ (s ≡ NoMemory)
 complete_status words c s line files request one o told w quiet none writes = elim (ends_as words c s line request o w) [
   | finished h ↦ inl (h.text, h.did, h.written)
-  | unwritten h ↦ absurd (quiet_or_part (form_of request).writes c h.text writes h.part)
+  | unwritten h ↦ absurd (quiet_or_part (command_form request).writes c h.text writes h.part)
   | unread h ↦ absurd (quiet_or_faulted _ _ quiet h.fault)
   | stopped h ↦ absurd (one.not_both h.cause line (rw told at h.first) none)
   | wanting h ↦ inr h.status

@@ -21,7 +21,7 @@ use Rattle.verve_tool.specs.Checks.{a_check}
 use Rattle.verve_tool.specs.Listings.{a_listing}
 use Rattle.verve_tool.specs.Commands.{Check, Listing, Run, Journal, NothingStops}
 use Rattle.verve_tool.specs.Runs.{RunWords, run_causes, HoldsEvents, Loaded}
-use Rattle.verve_tool.specs.Causes.{Cause, Missing, Long, Malformed, IllTyped, Unbuilt, BadEvents, Holds, Fails, NoneHolds, FileRead, HoldsImage, TypedImage, code_byte, status_of as status_of_cause}
+use Rattle.verve_tool.specs.Causes.{Cause, Missing, Long, Malformed, IllTyped, Unbuilt, BadEvents, Holds, CauseFails, NoneHolds, FileRead, HoldsImage, TypedImage, code_byte, status_of as status_of_cause}
 use Rattle.verve_tool.specs.Seen.{FilesSeen}
 use Rattle.verve_tool.specs.Stops.{StopsBy, StopsAt, TellsFirst, status_of, line_of}
 use Rattle.verve_tool.proofs.CauseLists.{stops_between, stops_by_bytes}
@@ -44,7 +44,7 @@ none_given None n a p e = absurd p
 none_given (Some whole) n a p e = cc e
 
 -- a file that was read is there
-pub not_missing : (told : Option FileMap) (name : List ℕ) (most : ℕ) (bytes : List ℕ) → Gives told name most bytes → Fails told (Missing name)
+pub not_missing : (told : Option FileMap) (name : List ℕ) (most : ℕ) (bytes : List ℕ) → Gives told name most bytes → CauseFails told (Missing name)
 not_missing None name most bytes g = tt
 not_missing (Some files) name most bytes g = λ line h. none_given (files name) (most + 1) bytes g h.0
 
@@ -53,7 +53,7 @@ within_or_above : (most n : ℕ) → n ≤ most → most < n → ⊥
 within_or_above most n w l = omega arith
 
 -- a file within its limit is not too long
-not_long : (told : Option FileMap) (name : List ℕ) (most : ℕ) (bytes : List ℕ) → FileRead told name most bytes → Fails told (Long name most)
+not_long : (told : Option FileMap) (name : List ℕ) (most : ℕ) (bytes : List ℕ) → FileRead told name most bytes → CauseFails told (Long name most)
 not_long None name most bytes f = tt
 not_long (Some files) name most bytes f = λ line h. within_or_above most (length bytes) f.within
     (subst (λ (b : List ℕ). most < length b) (gives_one files name most h.0.bytes bytes h.0.read f.read) h.0.more)
@@ -69,13 +69,13 @@ same_image meaning files name i j a b = meaning.one_image b.bytes i j
     (subst (λ (x : List ℕ). ImageOf x i) (gives_one files name IMAGE_MOST a.bytes b.bytes a.file.read b.file.read) a.stands) b.stands
 
 -- a file for which an image stands is not malformed
-pub not_malformed : OneImageMeaning → (told : Option FileMap) (name : List ℕ) (image : ImageParts) → HoldsImage told name image → Fails told (Malformed name)
+pub not_malformed : OneImageMeaning → (told : Option FileMap) (name : List ℕ) (image : ImageParts) → HoldsImage told name image → CauseFails told (Malformed name)
 not_malformed meaning None name image held = tt
 not_malformed meaning (Some files) name image held = λ line h. meaning.not_both held.bytes image h.0 held.stands
     (subst (λ (b : List ℕ). FirstFault b h.0) (gives_one files name IMAGE_MOST h.1.bytes held.bytes h.1.file.read held.file.read) h.1.first)
 
 -- a file whose image is well typed is not ill typed
-not_ill_typed : OneImageMeaning → OneRefusal → (told : Option FileMap) (name : List ℕ) (image : ImageParts) → TypedImage told name image → Fails told (IllTyped name)
+not_ill_typed : OneImageMeaning → OneRefusal → (told : Option FileMap) (name : List ℕ) (image : ImageParts) → TypedImage told name image → CauseFails told (IllTyped name)
 not_ill_typed meaning refusal None name image t = tt
 not_ill_typed meaning refusal (Some files) name image t = λ line h. refusal.not_typed image h.0 h.1
     (subst (λ (i : ImageParts). FirstRefusal i h.0 h.1) (same_image meaning files name h.2.image image h.2.held t.held) h.2.refusal) t.well_typed
@@ -86,13 +86,13 @@ one-call first offset none some = cc
 
 -- an image whose calls are built is not unbuilt
 not_unbuilt : OneImageMeaning → (told : Option FileMap) (name : List ℕ) (image : ImageParts) → TypedImage told name image → IsBuilt image
-    → Fails told (Unbuilt name)
+    → CauseFails told (Unbuilt name)
 not_unbuilt meaning None name image t built = tt
 not_unbuilt meaning (Some files) name image t built = λ line h. one-call (first_unbuilt_call image) h.1.offset built
     (subst (λ (i : ImageParts). first_unbuilt_call i ≡ Some h.1.offset) (same_image meaning files name h.1.image image h.1.typed.held t.held) h.1.first)
 
 -- an event file for which a list stands has no fault
-not_bad_events : ListOrFault → (told : Option FileMap) (name : List ℕ) (events : List Event) → HoldsEvents told name events → Fails told (BadEvents name)
+not_bad_events : ListOrFault → (told : Option FileMap) (name : List ℕ) (events : List Event) → HoldsEvents told name events → CauseFails told (BadEvents name)
 not_bad_events either None name events held = tt
 not_bad_events either (Some files) name events held = λ line h. h.1.real (either held.bytes events h.0 held.list
     (subst (λ (b : List ℕ). IsFirstFault b h.0) (gives_one files name EVENTS_MOST h.1.bytes held.bytes h.1.file.read held.file.read) h.1.first))
@@ -129,7 +129,7 @@ first_of_one : (told : Option FileMap) (cause : Cause) (rest : List Cause) (s : 
     → TellsFirst told (cause ∷ rest) s
 first_of_one told cause rest s holds is = record { cause = cause; first = record { comes = inl refl; holds = holds }; status = is }
 
-first_of_two : (told : Option FileMap) (before cause : Cause) (s : Stop) → Fails told before → Holds told cause (line_of s) → status_of s ≡ status_of_cause cause
+first_of_two : (told : Option FileMap) (before cause : Cause) (s : Stop) → CauseFails told before → Holds told cause (line_of s) → status_of s ≡ status_of_cause cause
     → TellsFirst told (before ∷ cause ∷ []) s
 first_of_two told before cause s fails holds is = record { cause = cause; first = record { comes = inr (fails, inl refl); holds = holds }; status = is }
 

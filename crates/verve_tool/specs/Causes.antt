@@ -105,26 +105,26 @@ Holds told (Unbuilt name) line = (at : ℕ) × IsUnbuilt told name at × (line �
 Holds told (BadEvents name) line = (fault : EventFault) × HasEventFault told name fault × (line ≡ event_fault_line fault)
 
 -- The cause does not hold. Of files that tell nothing nobody knows.
-abbrev pub Fails : Option FileMap → Cause → Type 0
-Fails None cause = Unit {0}
-Fails (Some files) cause = (line : List ℕ) → Holds (Some files) cause line → ⊥
+abbrev pub CauseFails : Option FileMap → Cause → Type 0
+CauseFails None cause = Unit {0}
+CauseFails (Some files) cause = (line : List ℕ) → Holds (Some files) cause line → ⊥
 
 -- A command with these causes comes to this one: nothing earlier holds.
 abbrev pub ComesTo : Option FileMap → List Cause → Cause → Type 0
 ComesTo told [] cause = ⊥
-ComesTo told (c ∷ cs) cause = (cause ≡ c) ⊎ (Fails told c × ComesTo told cs cause)
+ComesTo told (c ∷ cs) cause = (cause ≡ c) ⊎ (CauseFails told c × ComesTo told cs cause)
 
 -- the first of these causes that holds, with its line
-pub record IsFirst (told : Option FileMap) (causes : List Cause) (cause : Cause) (line : List ℕ) : Type 0 where
+pub record IsFirstCause (told : Option FileMap) (causes : List Cause) (cause : Cause) (line : List ℕ) : Type 0 where
   pub comes : ComesTo told causes cause
   pub holds : Holds told cause line
 
 -- none of these causes holds
 abbrev pub NoneHolds : Option FileMap → List Cause → Type 0
 NoneHolds told [] = Unit {0}
-NoneHolds told (c ∷ cs) = Fails told c × NoneHolds told cs
+NoneHolds told (c ∷ cs) = CauseFails told c × NoneHolds told cs
 
 -- Told files decide one thing of a list of causes: one is the first, or none holds.
 pub record OneCause (files : FileMap) (causes : List Cause) : Type 0 where
-  pub one_first : (a b : Cause) (s t : List ℕ) → IsFirst (Some files) causes a s → IsFirst (Some files) causes b t → a ≡ b
-  pub not_both : (a : Cause) (s : List ℕ) → IsFirst (Some files) causes a s → NoneHolds (Some files) causes → ⊥
+  pub one_first : (a b : Cause) (s t : List ℕ) → IsFirstCause (Some files) causes a s → IsFirstCause (Some files) causes b t → a ≡ b
+  pub not_both : (a : Cause) (s : List ℕ) → IsFirstCause (Some files) causes a s → NoneHolds (Some files) causes → ⊥

@@ -17,16 +17,16 @@ pub data Request : Type 0 where
   Journal : RunWords → Request
 
 -- the form of each
-abbrev pub form_of : Request → Form
-form_of (Check image) = a_check image
-form_of (Listing image) = a_listing image
-form_of (Run run) = a_run run
-form_of (Journal run) = a_journal run
+abbrev pub command_form : Request → Form
+command_form (Check image) = a_check image
+command_form (Listing image) = a_listing image
+command_form (Run run) = a_run run
+command_form (Journal run) = a_journal run
 
 -- the words ask for this
 pub record WordsOf (words : List (String Global)) (request : Request) : Type 0 where
-  pub spelled : map string_bytes words ≡ (form_of request).words
-  pub allowed : (form_of request).Allowed
+  pub spelled : map string_bytes words ≡ (command_form request).words
+  pub allowed : (command_form request).Allowed
 
 -- the words are no command
 abbrev pub NoCommand : List (String Global) → Type 0
@@ -34,4 +34,4 @@ NoCommand words = (request : Request) → WordsOf words request → ⊥
 
 -- a command that did its work over its files had no cause to stop
 abbrev pub NothingStops : Type 0
-NothingStops = (c : Call) (request : Request) (s : Status) (text : List ℕ) → (form_of request).Did c s text → NoneHolds c.files.told (form_of request).causes
+NothingStops = (c : Call) (request : Request) (s : Status) (text : List ℕ) → (command_form request).Did c s text → NoneHolds c.files.told (command_form request).causes

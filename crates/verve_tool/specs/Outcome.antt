@@ -4,10 +4,10 @@ use Rattle.std.specs.declared.alloc.Global.{Global}
 use Rattle.outside.specs.FileMaps.{Lacks}
 use Rattle.outside.specs.Faults.{Faulted}
 use Rattle.verve_tool.specs.Lines.{usage_line, read_line, write_line, no_memory_line}
-use Rattle.verve_tool.specs.Causes.{Cause, Missing, ComesTo, IsFirst, status_of}
+use Rattle.verve_tool.specs.Causes.{Cause, Missing, ComesTo, IsFirstCause, status_of}
 use Rattle.verve_tool.specs.Seen.{Call, Leaves}
 use Rattle.verve_tool.specs.Forms.{Form, Unrun, Written, PartWritten}
-use Rattle.verve_tool.specs.Commands.{Request, form_of, WordsOf, NoCommand}
+use Rattle.verve_tool.specs.Commands.{Request, command_form, WordsOf, NoCommand}
 use Rattle.verve_tool.specs.declared.status.Status.{Status}
 use Rattle.verve_tool.specs.declared.status.Status.TheVariants.{Done, Usage, ReadFault, WriteFault, Events, Malformed, Refused, TooLong, KernelFault, NoMemory, NotBuilt}
 
@@ -50,7 +50,7 @@ pub record Unread (c : Call) (f : Form) (s : Status) (line : List ℕ) : Type 0 
 -- the first cause of the command that holds of its files has this status and this line
 pub record Stopped (c : Call) (f : Form) (s : Status) (line : List ℕ) : Type 0 where
   pub cause : Cause
-  pub first : IsFirst c.files.told f.causes cause line
+  pub first : IsFirstCause c.files.told f.causes cause line
   pub idle : Idle c
   pub status : s ≡ status_of cause
 
@@ -81,8 +81,8 @@ pub record NoneAsked (words : List (String Global)) (c : Call) (s : Status) (lin
 pub record Asked (words : List (String Global)) (c : Call) (s : Status) (line : List ℕ) : Type 0 where
   pub request : Request
   pub asked : WordsOf words request
-  pub ends : Ends c (form_of request) s line
-  pub leaves : Leaves (form_of request).writes c s
+  pub ends : Ends c (command_form request) s line
+  pub leaves : Leaves (command_form request).writes c s
 
 -- what a call came to
 abbrev pub Outcome : List (String Global) → Call → Status → List ℕ → Type 0
@@ -90,7 +90,7 @@ Outcome words c s line = NoneAsked words c s line ⊎ Asked words c s line
 
 -- the work that was asked for was done, and its text written whole
 abbrev pub IsWorked : Call → Request → Status → Type 0
-IsWorked c request s = (text : List ℕ) × (form_of request).Did c s text × Written (form_of request).writes c text
+IsWorked c request s = (text : List ℕ) × (command_form request).Did c s text × Written (command_form request).writes c text
 
 -- the number of each status, which the program exits with
 abbrev pub exit_number : Status → ℕ

@@ -12,7 +12,7 @@ use Rattle.run_report.specs.JournalLines.{JournalText}
 use Rattle.run_report.specs.declared.run_end.RunEnd.{RunEnd}
 use Rattle.run_report.specs.declared.run_end.RunEnd.TheVariants as end
 use Rattle.kernel_machine.specs.Built.{IsBuilt}
-use Rattle.kernel_machine.specs.Machine.{MachineView, Follows, end_of}
+use Rattle.kernel_machine.specs.Machine.{MachineView, Follows, run_answer}
 use Rattle.kernel_machine.specs.declared.running.TheConstants.{MOST_TURNS}
 use Rattle.verve_tool.specs.Causes.{Cause, Missing, Long, Malformed, IllTyped, Unbuilt, BadEvents, FileRead, TypedImage}
 use Rattle.stack_states.specs.declared.journal_entry.Entry.{Entry}
@@ -76,7 +76,7 @@ status_at e = Done
 -- a run was made, and this is told of the typed machine's run, for which the kept machine stands
 abbrev pub Ran : (RunView → List ℕ) → RunWords → Call → Status → List ℕ → Type 0
 Ran tells run c s text = (ran : RanWithin run c.files.told c.kept c.entries) × IsOver run.turns ran.machine
-    × (s ≡ status_at (end_of ran.follows.run.state.ending)) × (text ≡ tells ran.follows.run)
+    × (s ≡ status_at (run_answer ran.follows.run.state.ending)) × (text ≡ tells ran.follows.run)
 
 -- a command of this word and so many turns at most that runs an image and tells this of the run
 abbrev pub running : List ℕ → ℕ → (RunView → List ℕ) → RunWords → Form
@@ -91,7 +91,7 @@ running word most tells run = record {
 
 -- the report of the typed machine's run
 abbrev pub report_of : RunView → List ℕ
-report_of run = ReportText (shown_of run.state) (end_of run.state.ending) run.state.turns
+report_of run = ReportText (shown_of run.state) (run_answer run.state.ending) run.state.turns
 
 -- its report, and the entries of its journal behind the line `journal`
 abbrev pub journal_of : RunView → List ℕ

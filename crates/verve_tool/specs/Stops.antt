@@ -9,11 +9,11 @@ use Rattle.tal_checker.specs.declared.answer.CheckAnswer.TheVariants as answer
 use Rattle.stack_states.specs.declared.journal_entry.Entry.{Entry}
 use Rattle.run_report.specs.declared.run_end.RunEnd.{RunEnd}
 use Rattle.run_report.specs.declared.run_end.RunEnd.TheVariants as run_end
-use Rattle.kernel_machine.specs.Machine.{MachineView, end_of}
+use Rattle.kernel_machine.specs.Machine.{MachineView, run_answer}
 use Rattle.verve_tool.specs.Runs.{RunWords, RanWithin}
-use Rattle.verve_tool.specs.Commands.{Request, Check, Listing, Run, Journal, form_of}
+use Rattle.verve_tool.specs.Commands.{Request, Check, Listing, Run, Journal, command_form}
 use Rattle.verve_tool.specs.Lines.{usage_line, read_line, write_line, long_line, no_memory_line, not_built_line, fault_line, event_fault_line, answer_line}
-use Rattle.verve_tool.specs.Causes.{Cause, Missing, ComesTo, IsFirst, status_of as status_of_cause}
+use Rattle.verve_tool.specs.Causes.{Cause, Missing, ComesTo, IsFirstCause, status_of as status_of_cause}
 use Rattle.verve_tool.specs.Seen.{FilesSeen, SinkSeen, Call, Leaves}
 use Rattle.verve_tool.specs.Outcome.{Ends}
 use Rattle.verve_tool.specs.declared.words.RunCommand.{RunCommand}
@@ -75,7 +75,7 @@ IsUnread _ = ⊥
 -- the stop tells the first of these causes that holds
 pub record TellsFirst (told : Option FileMap) (causes : List Cause) (s : Stop) : Type 0 where
   pub cause : Cause
-  pub first : IsFirst told causes cause (line_of s)
+  pub first : IsFirstCause told causes cause (line_of s)
   pub status : status_of s ≡ status_of_cause cause
 
 -- why bytes that were read stop a command with these causes: want of memory, which tells nothing of them, or the first that holds
@@ -92,7 +92,7 @@ StopsAt before after causes s = StopsBy before.told causes s
 -- a run was made by a command that ended so, unless memory was wanting
 pub record Made (run : RunWords) (told : Option FileMap) (kept : Option MachineView) (entries : List Entry) (end : RunEnd) : Type 0 where
   pub ran : RanWithin run told kept entries
-  pub answer : (end ≡ run_end.NoMemory) ⊎ (end ≡ end_of ran.machine.ending)
+  pub answer : (end ≡ run_end.NoMemory) ⊎ (end ≡ run_answer ran.machine.ending)
   pub all : end ≡ run_end.Turns → ran.machine.turns ≡ run.turns
 
 -- a text was put after which a command has this status, or it was not put whole
@@ -112,5 +112,5 @@ told_line (Err stop) = line_of stop
 
 -- a command ended so, and left no more than it may
 pub record Acted (request : Request) (c : Call) (result : Result Status Stop) : Type 0 where
-  pub ends : Ends c (form_of request) (told_status result) (told_line result)
-  pub leaves : Leaves (form_of request).writes c (told_status result)
+  pub ends : Ends c (command_form request) (told_status result) (told_line result)
+  pub leaves : Leaves (command_form request).writes c (told_status result)

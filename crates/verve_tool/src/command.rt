@@ -3,8 +3,8 @@ ghost use Rattle.std.specs.Prelude.{◌≡◌, ◌⊎◌, ℕ, List, Some, None}
 ghost use Rattle.outside.specs.FileMaps.{FileMap};
 ghost use Rattle.outside.specs.Faults.{Quiet};
 ghost use Rattle.tal_image.specs.Image.{ImageParts};
-ghost use Rattle.verve_tool.specs.Causes.{Cause, Missing, TypedImage, IsFirst, NoneHolds, status_of};
-ghost use Rattle.verve_tool.specs.Commands.{Request, Check, form_of, WordsOf, NoCommand};
+ghost use Rattle.verve_tool.specs.Causes.{Cause, Missing, TypedImage, IsFirstCause, NoneHolds, status_of};
+ghost use Rattle.verve_tool.specs.Commands.{Request, Check, command_form, WordsOf, NoCommand};
 ghost use Rattle.verve_tool.specs.Forms.{WritesQuietly};
 ghost use Rattle.verve_tool.specs.Lines.{Says};
 ghost use Rattle.verve_tool.specs.Outcome.{Outcome, IsWorked};
@@ -94,21 +94,21 @@ pub fn verve<F: Files, K: Sink, E: Sink>(
     // When each status comes. Want of memory may come in place of each but Usage.
     ensures usage { NoCommand words.now → result ≡ Status.Usage }
     ensures missing { (map : FileMap) (request : Request) (name line : List ℕ) → F.told files.old ≡ Some map → WordsOf words.now request
-        → IsFirst (Some map) (form_of request).causes (Missing name) line → (result ≡ Status.ReadFault) ⊎ (result ≡ Status.NoMemory) }
+        → IsFirstCause (Some map) (command_form request).causes (Missing name) line → (result ≡ Status.ReadFault) ⊎ (result ≡ Status.NoMemory) }
     ensures stopped { (map : FileMap) (request : Request) (cause : Cause) (line : List ℕ) → F.told files.old ≡ Some map → WordsOf words.now request
-        → Quiet (F.read_faults files.old) (F.read_faults files.new) → IsFirst (Some map) (form_of request).causes cause line
+        → Quiet (F.read_faults files.old) (F.read_faults files.new) → IsFirstCause (Some map) (command_form request).causes cause line
         → (result ≡ status_of cause) ⊎ (result ≡ Status.NoMemory) }
     ensures complete { (map : FileMap) (request : Request) → F.told files.old ≡ Some map → WordsOf words.now request
-        → Quiet (F.read_faults files.old) (F.read_faults files.new) → NoneHolds (Some map) (form_of request).causes
+        → Quiet (F.read_faults files.old) (F.read_faults files.new) → NoneHolds (Some map) (command_form request).causes
         → let call = call_of F.told F.steady F.read_faults F.write_faults K.told K.faults
         files.old files.new out.old out.new journal.new.entries kept.new in
-        WritesQuietly (form_of request).writes call → IsWorked call request result ⊎ (result ≡ Status.NoMemory) }
+        WritesQuietly (command_form request).writes call → IsWorked call request result ⊎ (result ≡ Status.NoMemory) }
     ensures accepted { (map : FileMap) (name : List ℕ) → F.told files.old ≡ Some map → WordsOf words.now (Check name) → result ≡ Status.Done
         → (image : ImageParts) × TypedImage (Some map) name image }
 
     // What stays: a command may write the file that it names to be written, and words that are no command write none.
     ensures leaves { (request : Request) → WordsOf words.now request
-        → Leaves (form_of request).writes (call_of F.told F.steady F.read_faults F.write_faults K.told K.faults
+        → Leaves (command_form request).writes (call_of F.told F.steady F.read_faults F.write_faults K.told K.faults
         files.old files.new out.old out.new journal.new.entries kept.new) result }
     ensures untouched { NoCommand words.now → Leaves None (call_of F.told F.steady F.read_faults F.write_faults K.told K.faults
         files.old files.new out.old out.new journal.new.entries kept.new) result }

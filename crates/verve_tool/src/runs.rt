@@ -1,7 +1,7 @@
 // The command `run`: the run of an accepted image, and its report.
 ghost use Rattle.std.specs.Prelude.{◌≡◌, ◌⊎◌, ◌≤◌, [], Some, None, IfOk, IfErr, IsErrAnd};
 ghost use Rattle.run_report.specs.Report.{ReportText};
-ghost use Rattle.kernel_machine.specs.Machine.{MachineView, shown_by, end_of};
+ghost use Rattle.kernel_machine.specs.Machine.{MachineView, shown_by, run_answer};
 ghost use Rattle.verve_tool.specs.Commands.{Run};
 ghost use Rattle.verve_tool.specs.Runs.{run_causes, status_at};
 ghost use Rattle.verve_tool.specs.Seen.{call_of, files_seen, OnlyReads};
@@ -61,9 +61,9 @@ pub(crate) fn report_kept(
     kept: &Option<Machine>,
     end: RunEnd,
 ) -> Result<Vec<u8>, NoMemory>
-    requires kept { (machine : MachineView) × (kept.now ≡ Some machine) × ((end ≡ RunEnd.NoMemory) ⊎ (end ≡ end_of machine.ending)) }
+    requires kept { (machine : MachineView) × (kept.now ≡ Some machine) × ((end ≡ RunEnd.NoMemory) ⊎ (end ≡ run_answer machine.ending)) }
     ensures { (machine : MachineView) → kept.now ≡ Some machine
-        → IfOk result (λ text. (end ≡ end_of machine.ending) × (text.items ≡ ReportText (shown_by machine) end machine.turns)) }
+        → IfOk result (λ text. (end ≡ run_answer machine.ending) × (text.items ≡ ReportText (shown_by machine) end machine.turns)) }
 {
     if end == RunEnd::NoMemory {
         return Err(NoMemory);

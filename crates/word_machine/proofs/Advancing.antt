@@ -25,14 +25,14 @@ use Rattle.tal_image.specs.Shown.{shown}
 use Rattle.typed_machine.specs.Values.{Value, Ret, Word}
 use Rattle.typed_machine.specs.States.{State, places_of, with_values, most_values}
 use Rattle.typed_machine.specs.Operands.{operand_value}
-use Rattle.typed_machine.specs.Effects.{EffectView, Moves, Faults, Calls, goes_on, is_full, pushes, arguments_fit, entered, calls_function, calls_entry, entry_or, calls_to, returns_from, form_effect, Effect}
+use Rattle.typed_machine.specs.Effects.{EffectView, Moves, Faults, Calls, goes_on, is_full, pushes, values_fit, entered, calls_function, calls_entry, numbered_entry_or, calls_to, returns_from, form_effect, Effect}
 use Rattle.typed_machine.specs.Words.{stack_pointer, register_words, esp_of}
 use Rattle.word_machine.specs.declared.step.Step.TheVariants as step
-use Rattle.word_machine.specs.Memory.{MemoryView, is_mapped, word_at}
+use Rattle.word_machine.specs.Memory.{MemoryView, is_mapped, memory_word}
 use Rattle.word_machine.specs.Standing.{MemoryStands, WordsStand}
 use Rattle.word_machine.specs.Following.{Grounds, StandsAt, Runs, Came}
-use Rattle.word_machine.specs.Laws.{Written, PushLaw, DropLaw}
-use Rattle.word_machine.specs.Stepping.{StepLaws, is_push, is_at_limit, overflows, Left, returned, went_back}
+use Rattle.word_machine.specs.Laws.{WordChanges, PushLaw, DropLaw}
+use Rattle.word_machine.specs.Stepping.{StepLaws, is_push, is_at_limit, overflows, Left, return_leads, went_back}
 use Rattle.word_machine.proofs.Telling.{there}
 use Rattle.word_machine.proofs.Grounding.{held, thread-stands, Begins, begins, current-few}
 use Rattle.word_machine.proofs.StackForms.{below-top, not-full, full}
@@ -87,14 +87,14 @@ module _ (laws : StepLaws) (cpu : Cpu) (m : MemoryView) (current : ℕ) (i : Ins
       step-of i (begins image live s cpu m i len laws spelled at) (room-for image live s at same (is_at_limit cpu current) refl h)
 
   -- what it asks of the words
-  pub step-asks : Runs current i len cpu m → overflows i cpu current ≡ false → (is_system i ≡ false) × Reaches i (state_of cpu (word_at m)) (is_mapped m)
+  pub step-asks : Runs current i len cpu m → overflows i cpu current ≡ false → (is_system i ≡ false) × Reaches i (state_of cpu (memory_word m)) (is_mapped m)
   step-asks (image, live, s, at, same) h =
       let step = step-here image live s at same h in
       (step.runs, rw (held s cpu m at.grounds.stand.processor) step.reaches)
 
   -- what it leaves
-  pub step-leaves : overflows i cpu current ≡ false → (e : StepEffect) (ran : Cpu) (after : MemoryView) → e ≡ effect_of i (state_of cpu (word_at m)) len
-      → Ran i len (state_of cpu (word_at m)) m ran after → (image : ImageParts) (live : ℕ → Bool) (s : State) → StandsAt image live s cpu m i len → s.current ≡ current
+  pub step-leaves : overflows i cpu current ≡ false → (e : StepEffect) (ran : Cpu) (after : MemoryView) → e ≡ effect_of i (state_of cpu (memory_word m)) len
+      → Ran i len (state_of cpu (memory_word m)) m ran after → (image : ImageParts) (live : ℕ → Bool) (s : State) → StandsAt image live s cpu m i len → s.current ≡ current
       → Left image live s (next_address s.thread.place len) e (Effect image s i len) ran after
   step-leaves h e ran after is r image live s at same =
       let words = held s cpu m at.grounds.stand.processor in
@@ -166,7 +166,7 @@ other-call v s next a h = go (entry_number a) h
     at k None h = refl
     at k (Some x) h = absurd (cc)
 
-    go : (o : Option ℕ) → is_some (option_and_then (slice_get nucleus_arguments) o) ≡ false → entry_or s (calls_function v s next a) o ≡ calls_function v s next a
+    go : (o : Option ℕ) → is_some (option_and_then (slice_get nucleus_arguments) o) ≡ false → numbered_entry_or s (calls_function v s next a) o ≡ calls_function v s next a
     go None h = refl
     go (Some k) h = at k (slice_get nucleus_arguments k) h
 
@@ -174,10 +174,10 @@ other-call v s next a h = go (entry_number a) h
 function-pushes : (v : ShownImage) (s : State) (next a : ℕ) → calls_function v s next a ≢ None → calls_function v s next a ≡ Some (pushes a (Ret next) (entered next s))
 function-pushes v s next a known = go (option_and_then v.sig (v.function_at a)) known
   where
-    go : (o : Option Sig) → option_and_then (λ sig. if arguments_fit v s sig then Some (pushes a (Ret next) (entered next s)) else None) o ≢ None
-        → option_and_then (λ sig. if arguments_fit v s sig then Some (pushes a (Ret next) (entered next s)) else None) o ≡ Some (pushes a (Ret next) (entered next s))
+    go : (o : Option Sig) → option_and_then (λ sig. if values_fit v s sig then Some (pushes a (Ret next) (entered next s)) else None) o ≢ None
+        → option_and_then (λ sig. if values_fit v s sig then Some (pushes a (Ret next) (entered next s)) else None) o ≡ Some (pushes a (Ret next) (entered next s))
     go None h = absurd (h refl)
-    go (Some sig) h = passed (arguments_fit v s sig) _ h
+    go (Some sig) h = passed (values_fit v s sig) _ h
 
 -- a call of a function, by its effect
 call-is : (image : ImageParts) (s : State) (next a : ℕ) (e : Option EffectView) → e ≢ None → is_entry a ≡ false → e ≡ calls_to (shown image) s next a
@@ -201,7 +201,7 @@ module _ (laws : StepLaws) (image : ImageParts) (live : ℕ → Bool) (s : State
       rw (call-is image s next a e call.0 other call.1, entered-full s next, no_room) (refl, g.stand)
 
   -- where there is room, the word below the top is mapped
-  pub call-reaches : is_at_limit ran s.current ≡ false → is_mapped after (below_top (state_of ran (word_at after))) ≡ true
+  pub call-reaches : is_at_limit ran s.current ≡ false → is_mapped after (below_top (state_of ran (memory_word after))) ≡ true
   call-reaches h =
       let room = limit-room s ran g.stand.processor.regs g.typed.thread.room h in
       let law : PushLaw image live s after = laws.pushes image live s ran after g room in
@@ -209,16 +209,16 @@ module _ (laws : StepLaws) (image : ImageParts) (live : ℕ → Bool) (s : State
 
   -- and the place after the call is pushed there
   pub call-enters : is_at_limit ran s.current ≡ false → (entered_cpu : Cpu) (written : MemoryView)
-      → entered_cpu.regs ≡ (pushed next (state_of ran (word_at after))).regs → entered_cpu.flags ≡ ran.flags → entered_cpu.pc ≡ a
-      → Written after written (below_top (state_of ran (word_at after))) next
+      → entered_cpu.regs ≡ (pushed next (state_of ran (memory_word after))).regs → entered_cpu.flags ≡ ran.flags → entered_cpu.pc ≡ a
+      → WordChanges after written (below_top (state_of ran (memory_word after))) next
       → Came step.Moves entered_cpu written image live s e
   unfolding pushes Word
   call-enters h cpu written regs flags place word =
       let room = limit-room s ran g.stand.processor.regs g.typed.thread.room h in
       let law : PushLaw image live s after = laws.pushes image live s ran after g room in
       let under = below-top s.current (length s.values) (current-few g) room in
-      let top : below_top (state_of ran (word_at after)) ≡ esp_of s - 4 = rw (ap (λ r. slice_index r 4) g.stand.processor.regs) under.0 in
-      let put : Written after written (esp_of s - 4) next = rw top at word in
+      let top : below_top (state_of ran (memory_word after)) ≡ esp_of s - 4 = rw (ap (λ r. slice_index r 4) g.stand.processor.regs) under.0 in
+      let put : WordChanges after written (esp_of s - 4) next = rw top at word in
       rw (call-is image s next a e call.0 other call.1, entered-full s next, not-full s room) (
         refl,
         record {
@@ -247,7 +247,7 @@ module _ (image : ImageParts) (live : ℕ → Bool) (s : State) (ran : Cpu) (aft
       rw (ap (λ r. slice_index r 4) g.stand.processor.regs) (law.there (Ret top.0) top.1 top.2)
 
   -- the word is the place
-  return-word : (a : ℕ) (us : List Value) → s.values ≡ Ret a ∷ us → word_at after (slice_index ran.regs 4) ≡ a
+  return-word : (a : ℕ) (us : List Value) → s.values ≡ Ret a ∷ us → memory_word after (slice_index ran.regs 4) ≡ a
   unfolding Word
   return-word a us values = rw (ap (λ r. slice_index r 4) g.stand.processor.regs) (there after (esp_of s) a (law.top (Ret a) us values))
 
@@ -272,11 +272,11 @@ module _ (image : ImageParts) (live : ℕ → Bool) (s : State) (ran : Cpu) (aft
       )
 
   -- a return goes back, or ends at the end word
-  pub return-comes : Came (returned (word_at after (slice_index ran.regs 4))) (went_back (word_at after (slice_index ran.regs 4)) ran) after image live s e
+  pub return-comes : Came (return_leads (memory_word after (slice_index ran.regs 4))) (went_back (memory_word after (slice_index ran.regs 4)) ran) after image live s e
   return-comes = let top = place-there in go top.0 top.1 top.2
     where
       go : (a : ℕ) (us : List Value) → s.values ≡ Ret a ∷ us
-          → Came (returned (word_at after (slice_index ran.regs 4))) (went_back (word_at after (slice_index ran.regs 4)) ran) after image live s e
+          → Came (return_leads (memory_word after (slice_index ran.regs 4))) (went_back (memory_word after (slice_index ran.regs 4)) ran) after image live s e
       go zero [] values = rw (back.1 ∙ ap (λ vs. returns_from vs s) values, return-word zero [] values) (refl, g.stand)
       go zero (v ∷ us) values = absurd (back.0 (back.1 ∙ ap (λ vs. returns_from vs s) values))
       go (suc a) us values =

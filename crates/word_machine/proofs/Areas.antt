@@ -9,8 +9,8 @@ use Rattle.std.specs.List.{between, list_any}
 use Rattle.std.specs.Option.{option_map_or}
 use Rattle.heap_words.specs.Blocks.{Block, Blocks, FormedHeap}
 use Rattle.object_layout.specs.Areas.{tables_start, descriptors_start, statics_start, stacks_start, heap_start}
-use Rattle.word_machine.specs.Memory.{MemoryView, word_in, word_of, has_word, is_object_word, is_open, is_mapped, word_at}
-use Rattle.word_machine.specs.Laws.{Written, IsPut}
+use Rattle.word_machine.specs.Memory.{MemoryView, word_in, word_of, has_word, is_object_word, heap_allows, is_mapped, memory_word}
+use Rattle.word_machine.specs.Laws.{WordChanges, WriteLeaves}
 use Rattle.word_machine.proofs.Lists.{drop-read}
 use Rattle.word_machine.proofs.Heaps.{same-list}
 
@@ -72,31 +72,31 @@ WrittenIn start words more a w = (b : ℕ) → word_in start more b ≡ (if b ==
 
 -- what is written in the area of an address is written in the memory
 module _ (m : MemoryView) (words : List ℕ) (a w : ℕ) where
-  pub in_heap : heap_start ≤ a → WrittenIn heap_start m.heap words a w → Written m (record m { heap = words }) a w
+  pub in_heap : heap_start ≤ a → WrittenIn heap_start m.heap words a w → WordChanges m (record m { heap = words }) a w
   unfolding word_of
   in_heap low h b = grind (arith, nat_tests, h b)
 
-  pub in_stacks : a < heap_start → stacks_start ≤ a → WrittenIn stacks_start m.stacks words a w → Written m (record m { stacks = words }) a w
+  pub in_stacks : a < heap_start → stacks_start ≤ a → WrittenIn stacks_start m.stacks words a w → WordChanges m (record m { stacks = words }) a w
   unfolding word_of
   in_stacks high low h b = grind (arith, nat_tests, h b)
 
-  pub in_statics : a < stacks_start → statics_start ≤ a → WrittenIn statics_start m.statics words a w → Written m (record m { statics = words }) a w
+  pub in_statics : a < stacks_start → statics_start ≤ a → WrittenIn statics_start m.statics words a w → WordChanges m (record m { statics = words }) a w
   unfolding word_of
   in_statics high low h b = grind (arith, nat_tests, h b)
 
   pub in_descriptors : a < statics_start → descriptors_start ≤ a → WrittenIn descriptors_start m.descriptors words a w
-      → Written m (record m { descriptors = words }) a w
+      → WordChanges m (record m { descriptors = words }) a w
   unfolding word_of
   in_descriptors high low h b = grind (arith, nat_tests, h b)
 
-  pub in_tables : a < descriptors_start → WrittenIn tables_start m.tables words a w → Written m (record m { tables = words }) a w
+  pub in_tables : a < descriptors_start → WrittenIn tables_start m.tables words a w → WordChanges m (record m { tables = words }) a w
   unfolding word_of
   in_tables high h b = grind (arith, nat_tests, h b)
 
 -- a word stands at an address that is mapped, and in the heap it is an object's
-pub mapped-word : (m : MemoryView) (a : ℕ) → is_mapped m a ≡ true → (is_some (word_of m a) ≡ true) × (is_open m.heap a ≡ true)
+pub mapped-word : (m : MemoryView) (a : ℕ) → is_mapped m a ≡ true → (is_some (word_of m a) ≡ true) × (heap_allows m.heap a ≡ true)
 unfolding is_mapped
-mapped-word m a there = and_parts (is_some (word_of m a)) (is_open m.heap a) there
+mapped-word m a there = and_parts (is_some (word_of m a)) (heap_allows m.heap a) there
 
 -- the area of an address has a word there where the memory has one
 pub there_in_heap : (m : MemoryView) (a : ℕ) → is_mapped m a ≡ true → heap_start ≤ a → is_some (word_in heap_start m.heap a) ≡ true
@@ -121,13 +121,13 @@ unfolding word_of
 there_in_tables m a there high = let word = (mapped-word m a there).0 in grind (arith, nat_tests)
 
 -- an address below the heap is open
-pub low-open : (words : List ℕ) (a : ℕ) → a < heap_start → is_open words a ≡ true
-unfolding is_open
+pub low-open : (words : List ℕ) (a : ℕ) → a < heap_start → heap_allows words a ≡ true
+unfolding heap_allows
 low-open words a low = grind (arith, nat_tests)
 
 -- one of the heap is open where its word is an object's
-pub heap-open : (words : List ℕ) (k : ℕ) → is_open words (heap_start + 4 * k) ≡ is_object_word words k
-unfolding is_open word_index
+pub heap-open : (words : List ℕ) (k : ℕ) → heap_allows words (heap_start + 4 * k) ≡ is_object_word words k
+unfolding heap_allows word_index
 heap-open words k =
     let low : nat_lt (heap_start + 4 * k) heap_start ≡ false = grind (arith, nat_tests) in
     let t : (nat_le heap_start (heap_start + 4 * k) && ((heap_start + 4 * k - heap_start) % 4 == 0)) ≡ true = grind (arith, nat_tests) in
@@ -135,8 +135,8 @@ heap-open words k =
     rw (low, t, e) refl
 
 -- what is open hangs on the blocks alone
-pub same-open : (xs ys : List ℕ) → Blocks ys ≡ Blocks xs → (a : ℕ) → is_open ys a ≡ is_open xs a
-unfolding is_open is_object_word
+pub same-open : (xs ys : List ℕ) → Blocks ys ≡ Blocks xs → (a : ℕ) → heap_allows ys a ≡ heap_allows xs a
+unfolding heap_allows is_object_word
 same-open xs ys e a = ap (λ b. nat_lt a heap_start || b) (go (word_index heap_start a))
   where
     go : (o : Option ℕ) → option_map_or (is_object_word ys) o false ≡ option_map_or (is_object_word xs) o false
@@ -145,12 +145,12 @@ same-open xs ys e a = ap (λ b. nat_lt a heap_start || b) (go (word_index heap_s
 
 -- the word of the heap at an address, and of an object where the address is mapped
 pub heap-object : (m : MemoryView) (a : ℕ) → is_mapped m a ≡ true → heap_start ≤ a → is_object_word m.heap ((a - heap_start) / 4) ≡ true
-unfolding is_open word_index
+unfolding heap_allows word_index
 heap-object m a there low = let test = (mapped-word m a there).1 in grind (arith, nat_tests)
 
 -- what a bus tells after a write
-pub words_after : (m n : MemoryView) (a w : ℕ) → Written m n a w → (b : ℕ) → word_at n b ≡ (if b == a then w else word_at m b)
-unfolding word_at
+pub words_after : (m n : MemoryView) (a w : ℕ) → WordChanges m n a w → (b : ℕ) → memory_word n b ≡ (if b == a then w else memory_word m b)
+unfolding memory_word
 words_after m n a w h b = go (nat_eq b a) (h b)
   where
     go : (t : Bool) → word_of n b ≡ (if t then Some w else word_of m b)
@@ -158,24 +158,24 @@ words_after m n a w h b = go (nat_eq b a) (h b)
     go true e = rw e refl
     go false e = rw e refl
 
-pub mapped_after : (m n : MemoryView) (a w : ℕ) → is_mapped m a ≡ true → Written m n a w → ((b : ℕ) → is_open n.heap b ≡ is_open m.heap b)
+pub mapped_after : (m n : MemoryView) (a w : ℕ) → is_mapped m a ≡ true → WordChanges m n a w → ((b : ℕ) → heap_allows n.heap b ≡ heap_allows m.heap b)
     → (b : ℕ) → is_mapped n b ≡ is_mapped m b
 unfolding is_mapped
 mapped_after m n a w there h opened b = go (nat_eq b a) refl (h b)
   where
     go : (t : Bool) → nat_eq b a ≡ t → word_of n b ≡ (if t then Some w else word_of m b)
-        → (is_some (word_of n b) && is_open n.heap b) ≡ (is_some (word_of m b) && is_open m.heap b)
+        → (is_some (word_of n b) && heap_allows n.heap b) ≡ (is_some (word_of m b) && heap_allows m.heap b)
     go true t e =
         let same : b ≡ a = grind (arith, nat_tests) in
         rw (e, opened b, same, (mapped-word m a there).0) refl
     go false t e = rw (e, opened b) refl
 
 -- the same where the blocks of the heap stay
-pub mapped-through : (m n : MemoryView) (a w : ℕ) → is_mapped m a ≡ true → Written m n a w → Blocks n.heap ≡ Blocks m.heap → (b : ℕ) → is_mapped n b ≡ is_mapped m b
+pub mapped-through : (m n : MemoryView) (a w : ℕ) → is_mapped m a ≡ true → WordChanges m n a w → Blocks n.heap ≡ Blocks m.heap → (b : ℕ) → is_mapped n b ≡ is_mapped m b
 mapped-through m n a w there h blocks = mapped_after m n a w there h (same-open m.heap n.heap blocks)
 
 -- what a write leaves that is not in the heap
-pub put-below : (m n : MemoryView) (a w : ℕ) → is_mapped m a ≡ true → Written m n a w → n.heap ≡ m.heap → FormedHeap n.heap → IsPut m n a w
+pub put-below : (m n : MemoryView) (a w : ℕ) → is_mapped m a ≡ true → WordChanges m n a w → n.heap ≡ m.heap → FormedHeap n.heap → WriteLeaves m n a w
 put-below m n a w there h same formed = record {
   written = h;
   mapped = mapped-through m n a w there h (ap Blocks same);
@@ -194,7 +194,7 @@ low-mapped m a low = rw (low-open m.heap a low) (also-true (is_some (word_of m a
 
 pub high-mapped : (m : MemoryView) (a : ℕ) → heap_start ≤ a
     → is_mapped m a ≡ (is_some (word_in heap_start m.heap a) && option_map_or (is_object_word m.heap) (word_index heap_start a) false)
-unfolding is_mapped word_of is_open
+unfolding is_mapped word_of heap_allows
 high-mapped m a high =
     let up : nat_le heap_start a ≡ true = grind (arith, nat_tests) in
     let low : nat_lt a heap_start ≡ false = grind (arith, nat_tests) in
@@ -264,13 +264,13 @@ stack_within m k h there = within m.stacks k (rw (stack_there m k h) at (mapped-
 -- ---- the heap after a write
 
 -- a write below the heap leaves it
-pub heap-stays : (m n : MemoryView) (a w : ℕ) → Written m n a w → a < heap_start → n.heap ≡ m.heap
+pub heap-stays : (m n : MemoryView) (a w : ℕ) → WordChanges m n a w → a < heap_start → n.heap ≡ m.heap
 heap-stays m n a w h low = same-list n.heap m.heap (λ k.
     let other : nat_eq (heap_start + 4 * k) a ≡ false = grind (arith, nat_tests) in
     sym (heap_there n k) ∙ h (heap_start + 4 * k) ∙ (rw other (heap_there m k)))
 
 -- a write in it changes one of its words
-pub heap-set : (m n : MemoryView) (k w : ℕ) → Written m n (heap_start + 4 * k) w → k < length m.heap → n.heap ≡ slice_set m.heap k w
+pub heap-set : (m n : MemoryView) (k w : ℕ) → WordChanges m n (heap_start + 4 * k) w → k < length m.heap → n.heap ≡ slice_set m.heap k w
 heap-set m n k w h few = same-list n.heap (slice_set m.heap k w) (λ j.
     let same : nat_eq (heap_start + 4 * j) (heap_start + 4 * k) ≡ nat_eq j k = grind (arith, nat_tests) in
     sym (heap_there n j) ∙ h (heap_start + 4 * j) ∙ (rw (same, get_set m.heap k j w few, heap_there m j) refl))

@@ -18,7 +18,7 @@ use Rattle.typed_machine.specs.States.{State, Known, Equality, at_place, with_fl
 use Rattle.typed_machine.specs.Operands.{Spot, AtDisplay, spot_of, operand_value, word_among}
 use Rattle.typed_machine.specs.Effects.{sets_flags, known_of, is_bare_zero, is_display, is_table, compares, known_of_test, tests}
 use Rattle.typed_machine.specs.Words.{words_of}
-use Rattle.word_machine.specs.Memory.{MemoryView, is_mapped, word_at}
+use Rattle.word_machine.specs.Memory.{MemoryView, is_mapped, memory_word}
 use Rattle.word_machine.proofs.Spelled.{MayUse, OneInMemory, PairIsPlain}
 use Rattle.word_machine.proofs.Operating.{read-alike, SetsFlags}
 use Rattle.word_machine.proofs.Grounding.{words_over, Begins}
@@ -49,8 +49,8 @@ module _ {image : ImageParts} {live : ℕ → Bool} {s : State} {cpu : Cpu} {m :
   flags-step d x o one at_d at_x (Some known) h =
       let over_now = words_over s m in
       let w = word_among (shown image) s (d ∷ x ∷ []) in
-      let first : read_word d over_now ≡ read_word d (words_of s w) = read-alike (word_at m) w (words_of s 0) d (agrees-first d (x ∷ []) at_d) in
-      let second : read_word x over_now ≡ read_word x (words_of s w) = read-alike (word_at m) w (words_of s 0) x (agrees-second d x [] one at_x) in
+      let first : read_word d over_now ≡ read_word d (words_of s w) = read-alike (memory_word m) w (words_of s 0) d (agrees-first d (x ∷ []) at_d) in
+      let second : read_word x over_now ≡ read_word x (words_of s w) = read-alike (memory_word m) w (words_of s 0) x (agrees-second d x [] one at_x) in
       let flags : (executed i over_now).flags ≡ (executed i (words_of s w)).flags =
       ap (λ k. k.flags) (o.done_is over_now) ∙ (ap₂ o.flags first second ∙ sym (ap (λ k. k.flags) (o.done_is (words_of s w)))) in
       thread-step b (at_place (next_address s.thread.place len) (with_flags (executed i (words_of s w)).flags known s)).thread over_now refl

@@ -28,7 +28,7 @@ use Rattle.typed_machine.specs.States.{State, at_place, with_register}
 use Rattle.typed_machine.specs.Operands.{word_among, is_number, write_operand}
 use Rattle.typed_machine.specs.Effects.{Moves, Faults, goes_on, settled, fault_or, computed, computes}
 use Rattle.typed_machine.specs.Words.{words_of}
-use Rattle.word_machine.specs.Memory.{MemoryView, is_mapped, word_at}
+use Rattle.word_machine.specs.Memory.{MemoryView, is_mapped, memory_word}
 use Rattle.word_machine.proofs.Spelled.{MayUse, OneInMemory}
 use Rattle.word_machine.proofs.Operating.{over, Agrees, AllAgree, Operates, Widens}
 use Rattle.word_machine.proofs.Grounding.{words_over, thread-stands, Begins}
@@ -46,7 +46,7 @@ AllUsed image live s (x ∷ xs) = MayUse image live s x × AllUsed image live s 
 module _ {image : ImageParts} {s : State} {m : MemoryView} where
   -- an operand agrees with the word of those among which it comes first
   pub agrees-first : (x : Operand) (xs : List Operand) → OperandThere image s m x
-      → Agrees (word_at m) (word_among (shown image) s (x ∷ xs)) (words_over s m).regs x
+      → Agrees (memory_word m) (word_among (shown image) s (x ∷ xs)) (words_over s m).regs x
   unfolding word_among
   agrees-first (R r) xs h = tt
   agrees-first (M a) xs h = h.agrees
@@ -54,7 +54,7 @@ module _ {image : ImageParts} {s : State} {m : MemoryView} where
 
   -- and with that of those among which it comes behind one that is not in memory
   pub agrees-second : (d x : Operand) (xs : List Operand) → OneInMemory d x → OperandThere image s m x
-      → Agrees (word_at m) (word_among (shown image) s (d ∷ x ∷ xs)) (words_over s m).regs x
+      → Agrees (memory_word m) (word_among (shown image) s (d ∷ x ∷ xs)) (words_over s m).regs x
   unfolding word_among
   agrees-second d (R r) xs one h = tt
   agrees-second d (I n) xs one h = tt
@@ -64,7 +64,7 @@ module _ {image : ImageParts} {s : State} {m : MemoryView} where
 
   -- a destination that is read too
   pub agrees-third : (d x : Operand) (xs : List Operand) → OneInMemory d x → OperandThere image s m x
-      → Agrees (word_at m) (word_among (shown image) s (d ∷ d ∷ x ∷ xs)) (words_over s m).regs x
+      → Agrees (memory_word m) (word_among (shown image) s (d ∷ d ∷ x ∷ xs)) (words_over s m).regs x
   unfolding word_among
   agrees-third d (R r) xs one h = tt
   agrees-third d (I n) xs one h = tt
@@ -74,7 +74,7 @@ module _ {image : ImageParts} {s : State} {m : MemoryView} where
 
   -- an operand behind three registers
   pub agrees-fourth : (p q r : Reg) (x : Operand) → OperandThere image s m x
-      → Agrees (word_at m) (word_among (shown image) s (R p ∷ R q ∷ R r ∷ x ∷ [])) (words_over s m).regs x
+      → Agrees (memory_word m) (word_among (shown image) s (R p ∷ R q ∷ R r ∷ x ∷ [])) (words_over s m).regs x
   unfolding word_among
   agrees-fourth p q r (R o) h = tt
   agrees-fourth p q r (M a) h = h.agrees
@@ -115,7 +115,7 @@ module _ {image : ImageParts} {live : ℕ → Bool} {s : State} {cpu : Cpu} {m :
 
   -- an operation that puts one word
   module _ (sources : List Operand) (d : Operand) (k : Option FlagKind) (o : Operates i sources d) (spares : MayUse image live s d) (spare : AllUsed image live s sources)
-      (agree : AllThere image s m sources → AllAgree (word_at m) (word_among (shown image) s (d ∷ sources)) (words_over s m).regs sources) where
+      (agree : AllThere image s m sources → AllAgree (memory_word m) (word_among (shown image) s (d ∷ sources)) (words_over s m).regs sources) where
     -- the words that it computes with, and what it makes of them
     before : WordState
     before = words_of s (word_among (shown image) s (d ∷ sources))
@@ -130,8 +130,8 @@ module _ {image : ImageParts} {live : ℕ → Bool} {s : State} {cpu : Cpu} {m :
     written-step u there written =
         let over_now = words_over s m in
         let agrees = agree there in
-        let value : o.value over_now ≡ o.value before = o.value_alike (word_at m) (word_among (shown image) s (d ∷ sources)) (words_of s 0) agrees in
-        let flags : o.flags over_now ≡ o.flags before = o.flags_alike (word_at m) (word_among (shown image) s (d ∷ sources)) (words_of s 0) agrees in
+        let value : o.value over_now ≡ o.value before = o.value_alike (memory_word m) (word_among (shown image) s (d ∷ sources)) (words_of s 0) agrees in
+        let flags : o.flags over_now ≡ o.flags before = o.flags_alike (memory_word m) (word_among (shown image) s (d ∷ sources)) (words_of s 0) agrees in
         let read : read_word d (executed i before) ≡ o.value before =
         ap (read_word d) (o.done_is before) ∙ put-read (shown image) s u (word_among (shown image) s (d ∷ sources)) (o.value before) d _ (o.flags before) written in
         let is : write_operand (shown image) s d (Number (o.value before)) ≡ Some u = rw read at written in
@@ -182,7 +182,7 @@ module _ {image : ImageParts} {live : ℕ → Bool} {s : State} {cpu : Cpu} {m :
 
   -- an operation on EDX and EAX
   module _ (sources : List Operand) (k : Option FlagKind) (o : Widens i sources) (spare : AllUsed image live s sources)
-      (agree : AllThere image s m sources → AllAgree (word_at m) (word_among (shown image) s (R Eax ∷ sources)) (words_over s m).regs sources) where
+      (agree : AllThere image s m sources → AllAgree (memory_word m) (word_among (shown image) s (R Eax ∷ sources)) (words_over s m).regs sources) where
     wide-before : WordState
     wide-before = words_of s (word_among (shown image) s (R Eax ∷ sources))
 
@@ -197,9 +197,9 @@ module _ {image : ImageParts} {live : ℕ → Bool} {s : State} {cpu : Cpu} {m :
     wide-goes there goes =
         let over_now = words_over s m in
         let agrees = agree there in
-        let made : executed i over_now ≡ over (word_at m) (executed i wide-before) = o.alike (word_at m) (word_among (shown image) s (R Eax ∷ sources)) (words_of s 0) agrees in
+        let made : executed i over_now ≡ over (memory_word m) (executed i wide-before) = o.alike (memory_word m) (word_among (shown image) s (R Eax ∷ sources)) (words_of s 0) agrees in
         thread-step b wide-after.thread over_now refl
-        (o.effect_alike (word_at m) (word_among (shown image) s (R Eax ∷ sources)) (words_of s 0) len agrees ∙ goes)
+        (o.effect_alike (memory_word m) (word_among (shown image) s (R Eax ∷ sources)) (words_of s 0) len agrees ∙ goes)
         (ap (λ x. x.memory) made)
         (ap (λ x. x.regs) made ∙ o.others _ _ _ _ _ _ _ _ wide-before refl)
         (ap (λ x. x.flags) made) (o.next_is over_now len) (o.reaches over_now (is_mapped m) (all-reached image s m sources there)) o.runs
@@ -210,7 +210,7 @@ module _ {image : ImageParts} {live : ℕ → Bool} {s : State} {cpu : Cpu} {m :
     wide-faults there faults =
         let over_now = words_over s m in
         let is : effect_of i over_now len ≡ step.Fault 0 =
-        o.effect_alike (word_at m) (word_among (shown image) s (R Eax ∷ sources)) (words_of s 0) len (agree there) ∙ faults in
+        o.effect_alike (memory_word m) (word_among (shown image) s (R Eax ∷ sources)) (words_of s 0) len (agree there) ∙ faults in
         record {
           reaches = o.reaches over_now (is_mapped m) (all-reached image s m sources there);
           runs = o.runs;

@@ -13,7 +13,7 @@ use Rattle.tal_image.specs.declared.parts.ArrayPart.{ArrayPart}
 use Rattle.tal_image.specs.declared.parts.Tables.{Tables}
 use Rattle.object_layout.specs.declared.rows.KindRow.{KindRow}
 use Rattle.tal_image.specs.Conditions.{array_places, array_room, with_array, numbers_given, most_words}
-use Rattle.tal_image.specs.Formed.{EachAfter, IsArray}
+use Rattle.tal_image.specs.Formed.{EachAfter, ArrayFits}
 use Rattle.tal_image.specs.Shown.{array_words}
 use Rattle.typed_machine.specs.Values.{Value, Number, Null, ArrayOf, Word}
 use Rattle.typed_machine.specs.Stores.{Object, zero_of, first_elements, data_objects}
@@ -63,7 +63,7 @@ numbers_fit : (kinds : List KindRow) (k n : ℕ) → numbers_given kinds k n ≤
 unfolding numbers_given
 numbers_fit kinds k n = grind (arith, nat_tests)
 
-pub roomy : (t : Tables) (kinds : List KindRow) (used : ℕ) (arrays : List ArrayPart) → EachAfter with_array (λ later u a. IsArray t kinds u a) used arrays → Roomy arrays
+pub roomy : (t : Tables) (kinds : List KindRow) (used : ℕ) (arrays : List ArrayPart) → EachAfter with_array (λ later u a. ArrayFits t kinds u a) used arrays → Roomy arrays
 roomy t kinds used [] h = tt
 roomy t kinds used (a ∷ arrays) h = (omega (arith, h.0.count, numbers_fit kinds a.kind a.size), roomy t kinds (with_array used a) arrays h.1)
 
@@ -72,7 +72,7 @@ unfolding array_words
 array_length a h = omega (arith, length-append a.numbers (replicate (a.size - length a.numbers) 0), length-replicate {A = ℕ} (a.size - length a.numbers) 0)
 
 -- the statics and the data arrays take at most 65536 words
-pub data_fits : (t : Tables) (kinds : List KindRow) (used : ℕ) (arrays : List ArrayPart) → EachAfter with_array (λ later u a. IsArray t kinds u a) used arrays
+pub data_fits : (t : Tables) (kinds : List KindRow) (used : ℕ) (arrays : List ArrayPart) → EachAfter with_array (λ later u a. ArrayFits t kinds u a) used arrays
     → used ≤ most_words → used + length (flat_map array_words arrays) ≤ most_words
 data_fits t kinds used [] h low = omega arith
 data_fits t kinds used (a ∷ arrays) h low =

@@ -32,7 +32,7 @@ use Rattle.typed_machine.specs.Values.{Value, Number, Code, Word}
 use Rattle.typed_machine.specs.States.{State, places_of, at_place, with_register}
 use Rattle.typed_machine.specs.Operands.{operand_value, write_operand}
 use Rattle.typed_machine.specs.Code.{may_go}
-use Rattle.typed_machine.specs.Effects.{goes_on, moves, is_number_in, addresses, calls_function, entry_or, calls_to, calls_value, returns_from, is_known, jumps, branches}
+use Rattle.typed_machine.specs.Effects.{goes_on, moves, is_number_in, addresses, calls_function, numbered_entry_or, calls_to, calls_value, returns_from, is_known, jumps, branches}
 use Rattle.typed_machine.specs.Words.{esp_of, words_of}
 use Rattle.word_machine.specs.Memory.{MemoryView, is_mapped}
 use Rattle.word_machine.proofs.Spelled.{IsNoNumber}
@@ -216,7 +216,7 @@ function-called image s next a known = go (entry_number a) refl
     begins None e k f = absurd (known (rw e refl))
     begins (Some g) e k f = no-entry image a g k e f
 
-    go : (o : Option ℕ) → entry_number a ≡ o → entry_or s (calls_function (shown image) s next a) o ≡ calls_function (shown image) s next a
+    go : (o : Option ℕ) → entry_number a ≡ o → numbered_entry_or s (calls_function (shown image) s next a) o ≡ calls_function (shown image) s next a
     go None e = refl
     go (Some k) e = rw (begins ((shown image).function_at a) refl k e) refl
 

@@ -14,7 +14,7 @@ use Rattle.typed_machine.specs.States.{State, Thread}
 use Rattle.typed_machine.specs.Effects.{Effect}
 use Rattle.typed_machine.specs.Words.{words_of}
 use Rattle.typed_safety.specs.Laws.{KeepsTyping, EffectTyped}
-use Rattle.word_machine.specs.Memory.{MemoryView, word_of, is_mapped, word_at}
+use Rattle.word_machine.specs.Memory.{MemoryView, word_of, is_mapped, memory_word}
 use Rattle.word_machine.specs.Standing.{values_at, CpuStands, MemoryStands}
 use Rattle.word_machine.specs.Following.{Grounds, StandsAt}
 use Rattle.word_machine.specs.Stepping.{StepLaws}
@@ -28,14 +28,14 @@ use Rattle.word_machine.proofs.Operating.{over}
 
 -- those of a state, over a memory
 abbrev pub words_over : State → MemoryView → WordState
-words_over s m = over (word_at m) (words_of s 0)
+words_over s m = over (memory_word m) (words_of s 0)
 
 -- where the next instruction stands
 abbrev pub next : State → ℕ → ℕ
 next s len = next_address s.thread.place len
 
 -- a processor that stands for a state works on the words of that state
-pub held : (s : State) (cpu : Cpu) (m : MemoryView) → CpuStands s cpu → state_of cpu (word_at m) ≡ words_over s m
+pub held : (s : State) (cpu : Cpu) (m : MemoryView) → CpuStands s cpu → state_of cpu (memory_word m) ≡ words_over s m
 unfolding words_of
 held s cpu m h = rw (h.regs, h.flags, h.place) refl
 

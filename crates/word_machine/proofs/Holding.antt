@@ -5,7 +5,7 @@ use Rattle.std.proofs.lemmas.Option.{slice_get_within}
 use Rattle.typed_machine.specs.Values.{Value, Word}
 use Rattle.word_machine.specs.Memory.{MemoryView, word_of}
 use Rattle.word_machine.specs.Standing.{HoldsValues}
-use Rattle.word_machine.specs.Laws.{Written}
+use Rattle.word_machine.specs.Laws.{WordChanges}
 use Rattle.word_machine.proofs.Lists.{set-read, drop-read}
 
 -- an address is that of none of so many words from a base up
@@ -14,7 +14,7 @@ Outside a base count = (a < base) ⊎ (base + 4 * count ≤ a)
 
 -- one word of a memory changed
 pub record Change (before after : MemoryView) (a w : ℕ) : Type 0 where
-  pub written : Written before after a w
+  pub written : WordChanges before after a w
 
 module _ {before after : MemoryView} {a w : ℕ} (c : Change before after a w) where
   -- the word at another address stays

@@ -13,7 +13,7 @@ use Rattle.tal_image.specs.Image.{ImageParts}
 use Rattle.typed_machine.specs.States.{State, Thread, places_of}
 use Rattle.typed_machine.specs.Effects.{EffectView, Moves}
 use Rattle.typed_machine.specs.Words.{register_words, esp_of, words_of}
-use Rattle.word_machine.specs.Memory.{MemoryView, is_mapped, word_at}
+use Rattle.word_machine.specs.Memory.{MemoryView, is_mapped, memory_word}
 use Rattle.word_machine.specs.Standing.{MemoryStands, WordsStand}
 use Rattle.word_machine.specs.Stepping.{Left}
 use Rattle.word_machine.proofs.Telling.{same-told}
@@ -24,7 +24,7 @@ pub record Ran (i : Inst) (len : ℕ) (before : WordState) (m : MemoryView) (cpu
   pub regs : cpu.regs ≡ (ran_to i len before).regs
   pub flags : cpu.flags ≡ (ran_to i len before).flags
   pub place : cpu.pc ≡ (ran_to i len before).pc
-  pub words : (a : ℕ) → word_at after a ≡ (ran_to i len before).memory a
+  pub words : (a : ℕ) → memory_word after a ≡ (ran_to i len before).memory a
   pub mapped : (a : ℕ) → is_mapped after a ≡ is_mapped m a
   pub formed : FormedHeap after.heap
 
@@ -33,7 +33,7 @@ pub record RanOn (i : Inst) (len : ℕ) (before : WordState) (m : MemoryView) (c
   pub regs : cpu.regs ≡ (executed i before).regs
   pub flags : cpu.flags ≡ (executed i before).flags
   pub place : cpu.pc ≡ next_of i before len
-  pub words : (a : ℕ) → word_at after a ≡ (executed i before).memory a
+  pub words : (a : ℕ) → memory_word after a ≡ (executed i before).memory a
   pub mapped : (a : ℕ) → is_mapped after a ≡ is_mapped m a
   pub formed : FormedHeap after.heap
 
@@ -71,7 +71,7 @@ module _ {image : ImageParts} {live : ℕ → Bool} {s : State} {cpu : Cpu} {m :
       }
 
   -- where no word of the memory changes, it stands for the state with another thread
-  pub memory-stays : (t : Thread) (after : MemoryView) → ((a : ℕ) → word_at after a ≡ word_at m a) → ((a : ℕ) → is_mapped after a ≡ is_mapped m a)
+  pub memory-stays : (t : Thread) (after : MemoryView) → ((a : ℕ) → memory_word after a ≡ memory_word m a) → ((a : ℕ) → is_mapped after a ≡ is_mapped m a)
       → FormedHeap after.heap → MemoryStands image live (record s { thread = t }) after
   memory-stays t after words mapped formed =
       thread-stands (same-stands b.grounds.stand.memory after (same-told b.laws.heap m after b.grounds.stand.memory.blocks.formed formed words mapped)) t

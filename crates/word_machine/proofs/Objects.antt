@@ -8,7 +8,7 @@ use Rattle.tal_image.specs.Shown.{shown}
 use Rattle.object_layout.specs.Classes.{ShapesView, Need, rounded_up}
 use Rattle.typed_machine.specs.Values.{Value, ObjectShape, InstanceOf, ArrayOf}
 use Rattle.typed_machine.specs.Stores.{Object, Store, places_in, set_value, with_value, value_count, need}
-use Rattle.typed_machine.specs.States.{State, shapes_of, places_of}
+use Rattle.typed_machine.specs.States.{State, placed_shapes, places_of}
 use Rattle.typed_machine.specs.Words.{head_values, object_values}
 use Rattle.word_machine.specs.Standing.{end_of, IsInside, ObjectsLie, BlocksStand}
 
@@ -20,15 +20,15 @@ object-place s i o h =
     get_or_from_slice_get (places_of s) i o.place 0 (slice_get-map (λ (p : Object). p.place) s.store i ∙ ap (option_map (λ (p : Object). p.place)) h)
 
 -- its shape
-pub object-shape : (s : State) (i : ℕ) (o : Object) → slice_get s.store i ≡ Some o → slice_get (shapes_of s) i ≡ Some o.shape
+pub object-shape : (s : State) (i : ℕ) (o : Object) → slice_get s.store i ≡ Some o → slice_get (placed_shapes s) i ≡ Some o.shape
 object-shape s i o h = slice_get-map (λ (p : Object). p.shape) s.store i ∙ ap (option_map (λ (p : Object). p.shape)) h
 
 -- where there is no object there is no shape
-pub no-shape : (s : State) (i : ℕ) → slice_get s.store i ≡ None → slice_get (shapes_of s) i ≡ None
+pub no-shape : (s : State) (i : ℕ) → slice_get s.store i ≡ None → slice_get (placed_shapes s) i ≡ None
 no-shape s i h = slice_get-map (λ (p : Object). p.shape) s.store i ∙ ap (option_map (λ (p : Object). p.shape)) h
 
 -- the object whose shape tells a value
-pub shape-object : (s : State) (i : ℕ) (f : ObjectShape → Option Value) (v : Value) → option_and_then f (slice_get (shapes_of s) i) ≡ Some v
+pub shape-object : (s : State) (i : ℕ) (f : ObjectShape → Option Value) (v : Value) → option_and_then f (slice_get (placed_shapes s) i) ≡ Some v
     → (o : Object) × (slice_get s.store i ≡ Some o) × (f o.shape ≡ Some v)
 shape-object s i f v h = go (slice_get s.store i) refl
   where

@@ -15,8 +15,8 @@ use Rattle.ia32_step.specs.Effects.{below_top, put_quotient, executed, effect_of
 use Rattle.ia32_step.specs.Reaches.{IsReached, Reaches}
 use Rattle.heap_words.specs.Blocks.{FormedHeap, IsObjectWord}
 use Rattle.object_layout.specs.Areas.{heap_start}
-use Rattle.word_machine.specs.Memory.{MemoryView, is_object_word, is_mapped, word_at}
-use Rattle.word_machine.specs.Laws.{Written, HeapWritten}
+use Rattle.word_machine.specs.Memory.{MemoryView, is_object_word, is_mapped, memory_word}
+use Rattle.word_machine.specs.Laws.{WordChanges, HeapWritten}
 use Rattle.word_machine.specs.Stepping.{HeapLaws, IsLeft}
 use Rattle.word_machine.proofs.Areas.{is_within, there_in_heap, heap-object, heap-stays, heap-set}
 use Rattle.word_machine.proofs.Heaps.{object-inside, object-is-word}
@@ -86,7 +86,7 @@ after-one i len m mapped h = go (effect_of i m len)
 module _ (laws : HeapLaws) (m after : MemoryView) (formed : FormedHeap m.heap) (formed_after : FormedHeap after.heap)
     (mapped : (b : ℕ) → is_mapped after b ≡ is_mapped m b) where
   -- where a mapped word changes and no other, one word of an object changes at most
-  heap-one : (a w : ℕ) → is_mapped m a ≡ true → ((b : ℕ) → word_at after b ≡ (if b == a then w else word_at m b)) → HeapWritten m.heap after.heap
+  heap-one : (a w : ℕ) → is_mapped m a ≡ true → ((b : ℕ) → memory_word after b ≡ (if b == a then w else memory_word m b)) → HeapWritten m.heap after.heap
   heap-one a w here words = elim (cases_lt a heap_start) [
     | inl low ↦ inl (heap-stays m after a w (written-told laws m after formed formed_after a w here words mapped) low)
     | inr high ↦ inr (
@@ -105,8 +105,8 @@ module _ (laws : HeapLaws) (m after : MemoryView) (formed : FormedHeap m.heap) (
   ]
 
   -- so it is after an instruction
-  pub ran-heap : (i : Inst) (len : ℕ) (before : WordState) → before.memory ≡ word_at m → Reaches i before (is_mapped m)
-      → ((a : ℕ) → word_at after a ≡ (after_instruction i len before).memory a) → HeapWritten m.heap after.heap
+  pub ran-heap : (i : Inst) (len : ℕ) (before : WordState) → before.memory ≡ memory_word m → Reaches i before (is_mapped m)
+      → ((a : ℕ) → memory_word after a ≡ (after_instruction i len before).memory a) → HeapWritten m.heap after.heap
   ran-heap i len before same reaches words = go (after-one i len before (is_mapped m) reaches)
     where
       go : WritesOne before (is_mapped m) (after_instruction i len before).memory → HeapWritten m.heap after.heap
@@ -114,11 +114,11 @@ module _ (laws : HeapLaws) (m after : MemoryView) (formed : FormedHeap m.heap) (
       go (inr (b, w, there, one)) = heap-one b w there (λ a. words a ∙ one a ∙ (rw same refl))
 
   -- where something is left to the caller, the heap stays
-  pub left-heap : (i : Inst) (len : ℕ) (before : WordState) (e : Effect) → before.memory ≡ word_at m → effect_of i before len ≡ e → IsLeft e
-      → ((a : ℕ) → word_at after a ≡ (after_instruction i len before).memory a) → after.heap ≡ m.heap
+  pub left-heap : (i : Inst) (len : ℕ) (before : WordState) (e : Effect) → before.memory ≡ memory_word m → effect_of i before len ≡ e → IsLeft e
+      → ((a : ℕ) → memory_word after a ≡ (after_instruction i len before).memory a) → after.heap ≡ m.heap
   left-heap i len before e same is left words = same-heap-told laws m after formed formed_after (λ a. words a ∙ (rw is (stays e left a)))
     where
-      stays : (e : Effect) → IsLeft e → (a : ℕ) → (moved e before (record (executed i before) { pc = next_of i before len })).memory a ≡ word_at m a
+      stays : (e : Effect) → IsLeft e → (a : ℕ) → (moved e before (record (executed i before) { pc = next_of i before len })).memory a ≡ memory_word m a
       stays effect.Next h a = absurd h
       stays (effect.Fault n) h a = rw same refl
       stays (effect.Call t) h a = rw same refl

@@ -23,7 +23,7 @@ use Rattle.typed_machine.specs.Values.{Value, Number, Word}
 use Rattle.typed_machine.specs.States.{State, places_of, with_register}
 use Rattle.typed_machine.specs.Operands.{Spot, AtStatic, AtSlot, AtValue, AtLength, AtHead, AtMethod, AtDisplay, spot_of, read_spot, spot_word, marked_value, immediate_value, operand_value, word_named, is_memory, word_among, number_in, is_number}
 use Rattle.typed_machine.specs.Words.{register_words, esp_of, words_of}
-use Rattle.word_machine.specs.Memory.{MemoryView, word_of, is_mapped, word_at}
+use Rattle.word_machine.specs.Memory.{MemoryView, word_of, is_mapped, memory_word}
 use Rattle.word_machine.proofs.Spots.{register-word}
 use Rattle.word_machine.proofs.Spelled.{MayUse}
 use Rattle.word_machine.proofs.Operating.{Agrees, AllReached}
@@ -66,7 +66,7 @@ later-among v s x xs h = rw h refl
 -- an operand whose word is mapped, and is the one that the state's values name
 pub record OperandThere (image : ImageParts) (s : State) (m : MemoryView) (x : Operand) : Type 0 where
   pub reached : IsReached x (words_over s m) (is_mapped m)
-  pub agrees : Agrees (word_at m) (word_named (shown image) s x) (words_over s m).regs x
+  pub agrees : Agrees (memory_word m) (word_named (shown image) s x) (words_over s m).regs x
 
 -- and so for each of several operands
 abbrev pub AllThere : ImageParts → State → MemoryView → List Operand → Type 0
@@ -112,7 +112,7 @@ module _ {image : ImageParts} {live : ℕ → Bool} {s : State} {cpu : Cpu} {m :
   memory-word x v spares e = go (spot_of (shown image).shapes s x) refl e
     where
       go : (o : Option Spot) → spot_of (shown image).shapes s x ≡ o → option_and_then (read_spot (shown image).shapes s) o ≡ Some v
-          → word_at m (address_of x (words_over s m).regs) ≡ Word (places_of s) v
+          → memory_word m (address_of x (words_over s m).regs) ≡ Word (places_of s) v
       go None f g = absurd (cc)
       go (Some spot) f g =
           there m (address_of x (words_over s m).regs) (Word (places_of s) v)

@@ -24,7 +24,7 @@ use Rattle.typed_machine.specs.Stores.{Object, value_type, value_count, value_at
 use Rattle.typed_machine.specs.States.{State, places_of, with_register}
 use Rattle.typed_machine.specs.Operands.{Spot, AtStatic, AtSlot, AtValue, AtLength, AtHead, AtMethod, AtDisplay, spot_of, read_spot, spot_word, may_hold, type_there, provided, write_spot, write_operand}
 use Rattle.typed_machine.specs.Words.{stack_pointer, register_words, esp_of, words_of}
-use Rattle.word_machine.specs.Memory.{MemoryView, is_mapped, word_at}
+use Rattle.word_machine.specs.Memory.{MemoryView, is_mapped, memory_word}
 use Rattle.word_machine.specs.Standing.{MemoryStands}
 use Rattle.word_machine.proofs.Spots.{spot-address}
 use Rattle.word_machine.proofs.Objects.{places-set}
@@ -141,7 +141,7 @@ module _ {image : ImageParts} {live : ℕ → Bool} {s : State} {cpu : Cpu} {m :
 
   -- where the word of a value is put, the words stand for the state with the value there
   pub put-stands : (d : Operand) (w : Value) (u : State) (after : MemoryView) → MayUse image live s d → write_operand (shown image) s d w ≡ Some u
-      → ((a : ℕ) → word_at after a ≡ (put_word d (Word (places_of s) w) (words_over s m)).memory a) → ((a : ℕ) → is_mapped after a ≡ is_mapped m a)
+      → ((a : ℕ) → memory_word after a ≡ (put_word d (Word (places_of s) w) (words_over s m)).memory a) → ((a : ℕ) → is_mapped after a ≡ is_mapped m a)
       → FormedHeap after.heap → PutFor image live s u m after d (Word (places_of s) w)
   unfolding write_operand words_of
   put-stands (I n) w u after spares h words mapped formed = absurd (cc)

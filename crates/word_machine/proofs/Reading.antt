@@ -20,7 +20,7 @@ use Rattle.typed_machine.specs.States as state
 use Rattle.typed_machine.specs.Operands.{Spot, AtStatic, AtSlot, AtValue, AtLength, AtHead, AtMethod, AtDisplay, length_value, head_value, method_value, read_spot, spot_of, spot_word}
 use Rattle.typed_machine.specs.Words.{esp_of, head_values, object_values}
 use Rattle.typed_safety.specs.Laws.{SpotLives}
-use Rattle.word_machine.specs.Memory.{MemoryView, word_of, is_open, is_mapped}
+use Rattle.word_machine.specs.Memory.{MemoryView, word_of, heap_allows, is_mapped}
 use Rattle.word_machine.specs.Standing.{end_of, IsInside}
 use Rattle.word_machine.specs.Following.{Grounds}
 use Rattle.word_machine.specs.Stepping.{HeapLaws}
@@ -37,7 +37,7 @@ use Rattle.word_machine.proofs.Spots.{head_count, spot_place, spot-address}
 record Stands (m : MemoryView) (a w : ℕ) : Type 0 where
   below : a < 2 ^ 32
   there : word_of m a ≡ Some w
-  open_to : is_open m.heap a ≡ true
+  open_to : heap_allows m.heap a ≡ true
 
 -- the object that a spot's value is of
 read-object : (s : State) (i j : ℕ) (v : Value) → value_at s.store i j ≡ Some v → (o : Object) × (slice_get s.store i ≡ Some o) × (slice_get o.values j ≡ Some v)
@@ -73,7 +73,7 @@ module _ {image : ImageParts} {live : ℕ → Bool} {s : State} {cpu : Cpu} {m :
 
   -- a word of an object is open: it lies below the heap, or in the block of the object
   object-open : HeapLaws → (i k : ℕ) (o : Object) → live i ≡ true → slice_get s.store i ≡ Some o → k < length (object_values o) → IsInside image s i o
-      → is_open m.heap (o.place + 4 * k) ≡ true
+      → heap_allows m.heap (o.place + 4 * k) ≡ true
   object-open laws i k o lives there few (inl (row, above, below)) = low-open m.heap (o.place + 4 * k) (omega arith)
   object-open laws i k o lives there few (inr (heap, above, below)) =
       let blocks = g.stand.memory.blocks in
@@ -113,7 +113,7 @@ module _ {image : ImageParts} {live : ℕ → Bool} {s : State} {cpu : Cpu} {m :
       (object-stands laws i (length (head_values o.shape) + j) o v lives found.1 (behind-read (head_values o.shape) o.values j ∙ found.2))
 
   -- the length of an array
-  length-stands : HeapLaws → (i : ℕ) (v : Value) → live i ≡ true → option_and_then length_value (slice_get (state.shapes_of s) i) ≡ Some v
+  length-stands : HeapLaws → (i : ℕ) (v : Value) → live i ≡ true → option_and_then length_value (slice_get (state.placed_shapes s) i) ≡ Some v
       → Stands m (slice_index (places_of s) i + 4 * 1) (Word (places_of s) v)
   unfolding object_values head_values
   length-stands laws i v lives h =
@@ -124,7 +124,7 @@ module _ {image : ImageParts} {live : ℕ → Bool} {s : State} {cpu : Cpu} {m :
       second (ArrayOf k n) values e = e
 
   -- the table of an object
-  head-stands : HeapLaws → (i : ℕ) (v : Value) → live i ≡ true → option_and_then head_value (slice_get (state.shapes_of s) i) ≡ Some v
+  head-stands : HeapLaws → (i : ℕ) (v : Value) → live i ≡ true → option_and_then head_value (slice_get (state.placed_shapes s) i) ≡ Some v
       → Stands m (slice_index (places_of s) i + 4 * 0) (Word (places_of s) v)
   unfolding object_values head_values
   head-stands laws i v lives h =

@@ -12,14 +12,14 @@ use Rattle.object_layout.specs.Areas.{statics_start, table_address, word_index}
 use Rattle.object_layout.specs.Classes.{ShapesView, Methods, field_at}
 use Rattle.tal_types.specs.Contexts.{same}
 use Rattle.typed_machine.specs.Values.{Value, Number, Ref, Ret, Tab, ObjectShape, InstanceOf, ArrayOf, Word}
-use Rattle.typed_machine.specs.States.{State, shapes_of, places_of}
+use Rattle.typed_machine.specs.States.{State, placed_shapes, places_of}
 use Rattle.typed_machine.specs.Operands.{Spot, AtStatic, AtSlot, AtValue, AtLength, AtHead, AtMethod, AtDisplay, slot_count, spot_if, static_spot, slot_spot, object_spot, element_spot, table_spot, based_spot, stack_spot, located_spot, spot_of}
 use Rattle.typed_machine.specs.Words.{register_words, esp_of, head_values}
 use Rattle.word_machine.specs.Standing.{CpuStands}
 
 -- how many words stand before the values of object i
 abbrev pub head_count : State → ℕ → ℕ
-head_count s i = option_map_or (λ shape. length (head_values shape)) (slice_get (shapes_of s) i) 0
+head_count s i = option_map_or (λ shape. length (head_values shape)) (slice_get (placed_shapes s) i) 0
 
 -- where a spot stands
 unfoldable pub spot_place : State → Spot → ℕ
@@ -137,14 +137,14 @@ module _ (v : ShapesView) (s : State) (spot : Spot) where
           points-to s (AtDisplay c found.number_is) spot (table_address c + disp) found.spot_is (omega arith) tt
 
   -- a value of an object, where so many words stand before its values
-  value-points : (i j : ℕ) (shape : ObjectShape) (byte : ℕ) → slice_get (shapes_of s) i ≡ Some shape → AtValue i j ≡ spot
+  value-points : (i j : ℕ) (shape : ObjectShape) (byte : ℕ) → slice_get (placed_shapes s) i ≡ Some shape → AtValue i j ≡ spot
       → byte ≡ 4 * (length (head_values shape) + j)
       → Points s spot (slice_index (places_of s) i + byte)
   unfolding spot_place
   value-points i j shape byte e is at = points-to s (AtValue i j) spot (slice_index (places_of s) i + byte) is (rw (e, at) refl) tt
 
   -- a field
-  field-points : (i c disp : ℕ) → slice_get (shapes_of s) i ≡ Some (InstanceOf c)
+  field-points : (i c disp : ℕ) → slice_get (placed_shapes s) i ≡ Some (InstanceOf c)
       → (b : Bool) → (if b then option_map (AtValue i) (word_index 4 disp) else None) ≡ Some spot → Points s spot (slice_index (places_of s) i + disp)
   unfolding head_values
   field-points i c disp e false h = absurd cc
@@ -155,7 +155,7 @@ module _ (v : ShapesView) (s : State) (spot : Spot) where
       go (Some j) f g = let byte = index-byte 4 disp j f in let is : AtValue i j ≡ spot = cc in value-points i j (InstanceOf c) disp e is (omega arith)
 
   -- the head, a field or the length of an object
-  object-points : (i disp : ℕ) (shape : ObjectShape) → slice_get (shapes_of s) i ≡ Some shape → object_spot v i shape disp ≡ Some spot
+  object-points : (i disp : ℕ) (shape : ObjectShape) → slice_get (placed_shapes s) i ≡ Some shape → object_spot v i shape disp ≡ Some spot
       → Points s spot (slice_index (places_of s) i + disp)
   unfolding object_spot spot_place
   object-points i disp (InstanceOf c) e h = go (disp == 0) refl h
@@ -176,7 +176,7 @@ module _ (v : ShapesView) (s : State) (spot : Spot) where
       go false f g = absurd cc
 
   -- an element
-  element-points : (i scale disp : ℕ) (shape : ObjectShape) (index : Value) → slice_get (shapes_of s) i ≡ Some shape
+  element-points : (i scale disp : ℕ) (shape : ObjectShape) (index : Value) → slice_get (placed_shapes s) i ≡ Some shape
       → element_spot i shape index scale disp ≡ Some spot
       → Points s spot (slice_index (places_of s) i + Word (places_of s) index * 2 ^ scale + disp)
   unfolding element_spot Word head_values
@@ -198,17 +198,17 @@ module _ (v : ShapesView) (s : State) (spot : Spot) where
       → (x ≡ None → index ≡ 0)
       → based_spot v s w x scale disp ≡ Some spot → Points s spot (Word (places_of s) w + index * 2 ^ scale + disp)
   unfolding Word
-  based-points (Ref i) None scale disp index at none h = rw (none refl) (go (slice_get (shapes_of s) i) refl h)
+  based-points (Ref i) None scale disp index at none h = rw (none refl) (go (slice_get (placed_shapes s) i) refl h)
     where
-      go : (o : Option ObjectShape) → slice_get (shapes_of s) i ≡ o → option_and_then (λ shape. object_spot v i shape disp) o ≡ Some spot
+      go : (o : Option ObjectShape) → slice_get (placed_shapes s) i ≡ o → option_and_then (λ shape. object_spot v i shape disp) o ≡ Some spot
           → Points s spot (slice_index (places_of s) i + 0 * 2 ^ scale + disp)
       go None e f = absurd cc
       go (Some shape) e f =
           let sum : slice_index (places_of s) i + 0 * 2 ^ scale + disp ≡ slice_index (places_of s) i + disp = omega arith in
           rw sum (object-points i disp shape e f)
-  based-points (Ref i) (Some r) scale disp index at none h = rw (at r refl) (go (slice_get (shapes_of s) i) refl h)
+  based-points (Ref i) (Some r) scale disp index at none h = rw (at r refl) (go (slice_get (placed_shapes s) i) refl h)
     where
-      go : (o : Option ObjectShape) → slice_get (shapes_of s) i ≡ o → option_and_then (λ shape. element_spot i shape (s.thread.regs r) scale disp) o ≡ Some spot
+      go : (o : Option ObjectShape) → slice_get (placed_shapes s) i ≡ o → option_and_then (λ shape. element_spot i shape (s.thread.regs r) scale disp) o ≡ Some spot
           → Points s spot (slice_index (places_of s) i + Word (places_of s) (s.thread.regs r) * 2 ^ scale + disp)
       go None e f = absurd cc
       go (Some shape) e f = element-points i scale disp shape (s.thread.regs r) e f

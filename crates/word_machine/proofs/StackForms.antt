@@ -28,7 +28,7 @@ use Rattle.typed_machine.specs.Effects.{goes_on, is_full, pushes, pops, has_abov
 use Rattle.typed_machine.specs.Words.{stack_pointer, register_words, esp_of, words_of}
 use Rattle.word_machine.specs.Memory.{MemoryView}
 use Rattle.word_machine.specs.Standing.{MemoryStands}
-use Rattle.word_machine.specs.Laws.{Written, PushLaw, DropLaw}
+use Rattle.word_machine.specs.Laws.{WordChanges, PushLaw, DropLaw}
 use Rattle.word_machine.proofs.Telling.{there, same-told, written-told}
 use Rattle.word_machine.proofs.Grounding.{words_over, next, thread-stands, same-stands, Begins, current-few}
 use Rattle.word_machine.proofs.OperandWords.{register-written, value-there, value-word}
@@ -77,7 +77,7 @@ module _ {image : ImageParts} {live : ℕ → Bool} {s : State} {cpu : Cpu} {m :
         runs = refl;
         leaves = λ ran after r.
             let on = ran-on i len (words_over s m) m ran after refl r in
-            let written : Written m after (esp_of s - 4) (Word (places_of s) w) =
+            let written : WordChanges m after (esp_of s - 4) (Word (places_of s) w) =
             written-told b.laws.heap m after g.stand.memory.blocks.formed on.formed (esp_of s - 4) (Word (places_of s) w) law.there (λ a. rw (low, word) at (on.words a)) on.mapped in (
               at_place (next s len) (with_values (w ∷ s.values) s),
               refl,

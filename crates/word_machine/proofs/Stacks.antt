@@ -19,7 +19,7 @@ use Rattle.typed_machine.specs.Words.{stack_pointer, register_words, esp_of, obj
 use Rattle.word_machine.specs.Memory.{MemoryView}
 use Rattle.word_machine.specs.Standing.{HoldsValues, kept_values, values_at, IsInside, ObjectsLie, MemoryStands}
 use Rattle.word_machine.specs.Following.{Grounds}
-use Rattle.word_machine.specs.Laws.{Written, PushLaw, DropLaw}
+use Rattle.word_machine.specs.Laws.{WordChanges, PushLaw, DropLaw}
 use Rattle.word_machine.proofs.Holding.{Outside, Change, holds-pushed, holds-dropped}
 use Rattle.word_machine.proofs.Changing.{StackHolds, tables-kept, descriptors-kept, room-kept, blocks-kept, statics-kept, object-kept, stack-kept}
 use Rattle.word_machine.proofs.Bounds.{few-stacks, runs-there}
@@ -136,7 +136,7 @@ cpu_of s = record { regs = register_words (places_of s) s.thread.regs (esp_of s)
 -- the last word of an empty stack is free
 pub empty-free : (image : ImageParts) (live : ℕ → Bool) (s : State) (m : MemoryView) → WellTyped image → TypedAmong image live s → MemoryStands image live s m
     → ClassLaws (shapes_of image) → (n : ℕ) → slice_get s.stacks n ≡ Some EmptyStack
-    → (w : ℕ) (after : MemoryView) → Written m after (stack_pointer n 1) w → MemoryStands image live s after
+    → (w : ℕ) (after : MemoryView) → WordChanges m after (stack_pointer n 1) w → MemoryStands image live s after
 unfolding values_at kept_values
 empty-free image live s m well_typed typed memory laws n empty w after written =
     record {

@@ -8,8 +8,8 @@ use Rattle.std.proofs.lemmas.List.{get_or-set_same, get_or-set_other}
 use Rattle.std.proofs.lemmas.Option.{unwrap_or-slice_get}
 use Rattle.heap_words.specs.Blocks.{Blocks, FormedHeap, IsObjectWord}
 use Rattle.object_layout.specs.Areas.{heap_start}
-use Rattle.word_machine.specs.Memory.{MemoryView, word_in, word_of, is_object_word, is_open, is_mapped, word_at}
-use Rattle.word_machine.specs.Laws.{Written, IsPut}
+use Rattle.word_machine.specs.Memory.{MemoryView, word_in, word_of, is_object_word, heap_allows, is_mapped, memory_word}
+use Rattle.word_machine.specs.Laws.{WordChanges, WriteLeaves}
 use Rattle.word_machine.specs.Stepping.{HeapLaws}
 use Rattle.word_machine.proofs.Areas.{is_within, word_put, in_heap, mapped-word, mapped-through, there_in_heap, low-mapped, heap-object, heap_there}
 use Rattle.word_machine.proofs.Heaps.{object-inside, object-is-word, set-formed, same-heap}
@@ -17,13 +17,13 @@ use Rattle.word_machine.proofs.Heaps.{object-inside, object-is-word, set-formed,
 -- ---- one address
 
 -- a word that is there
-pub there : (m : MemoryView) (a w : ℕ) → word_of m a ≡ Some w → word_at m a ≡ w
-unfolding word_at
+pub there : (m : MemoryView) (a w : ℕ) → word_of m a ≡ Some w → memory_word m a ≡ w
+unfolding memory_word
 there m a w h = rw h refl
 
 -- a word that stands where there is one is told
-pub told : (m : MemoryView) (a w : ℕ) → is_some (word_of m a) ≡ true → word_at m a ≡ w → word_of m a ≡ Some w
-unfolding word_at
+pub told : (m : MemoryView) (a w : ℕ) → is_some (word_of m a) ≡ true → memory_word m a ≡ w → word_of m a ≡ Some w
+unfolding memory_word
 told m a w = go (word_of m a)
   where
     go : (o : Option ℕ) → is_some o ≡ true → option_map_or (λ n. n) o 0 ≡ w → o ≡ Some w
@@ -31,8 +31,8 @@ told m a w = go (word_of m a)
     go (Some n) p q = ap (λ k. Some k) q
 
 -- words below the heap are told by what is mapped and what stands there
-low-told : (m after : MemoryView) (a : ℕ) → a < heap_start → is_mapped after a ≡ is_mapped m a → word_at after a ≡ word_at m a → word_of after a ≡ word_of m a
-unfolding word_at
+low-told : (m after : MemoryView) (a : ℕ) → a < heap_start → is_mapped after a ≡ is_mapped m a → memory_word after a ≡ memory_word m a → word_of after a ≡ word_of m a
+unfolding memory_word
 low-told m after a low mapped words = go (word_of m a) (word_of after a) (sym (low-mapped after a low) ∙ mapped ∙ low-mapped m a low) words
   where
     go : (x y : Option ℕ) → is_some y ≡ is_some x → option_map_or (λ n. n) y 0 ≡ option_map_or (λ n. n) x 0 → y ≡ x
@@ -46,8 +46,8 @@ high-word : (m : MemoryView) (a : ℕ) → heap_start ≤ a → word_of m a ≡ 
 unfolding word_of
 high-word m a high = let e : nat_le heap_start a ≡ true = grind (arith, nat_tests) in rw e refl
 
-heap-word : (m : MemoryView) (k : ℕ) → word_at m (heap_start + 4 * k) ≡ slice_index m.heap k
-unfolding word_at
+heap-word : (m : MemoryView) (k : ℕ) → memory_word m (heap_start + 4 * k) ≡ slice_index m.heap k
+unfolding memory_word
 heap-word m k = rw (heap_there m k) (unwrapped (slice_get m.heap k) ∙ unwrap_or-slice_get m.heap k 0)
   where
     unwrapped : (o : Option ℕ) → option_map_or (λ n. n) o 0 ≡ Rattle.std.specs.Option.unwrap_or o 0
@@ -58,17 +58,17 @@ heap-word m k = rw (heap_there m k) (unwrapped (slice_get m.heap k) ∙ unwrap_o
 
 module _ (laws : HeapLaws) (m after : MemoryView) (formed : FormedHeap m.heap) (formed_after : FormedHeap after.heap) where
   -- where nothing changes, the heap stays
-  pub same-heap-told : ((a : ℕ) → word_at after a ≡ word_at m a) → after.heap ≡ m.heap
+  pub same-heap-told : ((a : ℕ) → memory_word after a ≡ memory_word m a) → after.heap ≡ m.heap
   same-heap-told words = same-heap laws after.heap m.heap formed_after formed (λ k. sym (heap-word after k) ∙ words (heap_start + 4 * k) ∙ heap-word m k)
 
   -- and each word
-  pub same-told : ((a : ℕ) → word_at after a ≡ word_at m a) → ((a : ℕ) → is_mapped after a ≡ is_mapped m a) → (a : ℕ) → word_of after a ≡ word_of m a
+  pub same-told : ((a : ℕ) → memory_word after a ≡ memory_word m a) → ((a : ℕ) → is_mapped after a ≡ is_mapped m a) → (a : ℕ) → word_of after a ≡ word_of m a
   same-told words mapped a = elim (cases_lt a heap_start) [
     | inl low ↦ low-told m after a low (mapped a) (words a)
     | inr high ↦ high-word after a high ∙ ap (λ (ws : List ℕ). word_in heap_start ws a) (same-heap-told words) ∙ sym (high-word m a high)
   ]
 
-  module _ (a w : ℕ) (here : is_mapped m a ≡ true) (words : (b : ℕ) → word_at after b ≡ (if b == a then w else word_at m b))
+  module _ (a w : ℕ) (here : is_mapped m a ≡ true) (words : (b : ℕ) → memory_word after b ≡ (if b == a then w else memory_word m b))
       (mapped : (b : ℕ) → is_mapped after b ≡ is_mapped m b) where
     -- the word that is written
     written-here : (b : ℕ) → b ≡ a → word_of after b ≡ Some w
@@ -81,7 +81,7 @@ module _ (laws : HeapLaws) (m after : MemoryView) (formed : FormedHeap m.heap) (
     low-stays b low t = low-told m after b low (mapped b) (rw t at (words b))
 
     -- by what becomes of the heap's list
-    by-heap : ((b : ℕ) → heap_start ≤ b → word_in heap_start after.heap b ≡ (if b == a then Some w else word_in heap_start m.heap b)) → Written m after a w
+    by-heap : ((b : ℕ) → heap_start ≤ b → word_in heap_start after.heap b ≡ (if b == a then Some w else word_in heap_start m.heap b)) → WordChanges m after a w
     by-heap heap b = elim (cases_lt b heap_start) [
       | inl low ↦ go low (b == a) refl
       | inr high ↦ high-word after b high ∙ heap b high ∙ ap (λ o. if b == a then Some w else o) (sym (high-word m b high))
@@ -92,7 +92,7 @@ module _ (laws : HeapLaws) (m after : MemoryView) (formed : FormedHeap m.heap) (
         go low false t = low-stays b low t
 
     -- a write below the heap
-    low-written : a < heap_start → Written m after a w
+    low-written : a < heap_start → WordChanges m after a w
     low-written low = by-heap (λ b high.
         let t : (b == a) ≡ false = grind (arith, nat_tests) in rw t (ap (λ (ws : List ℕ). word_in heap_start ws b) heap))
       where
@@ -102,7 +102,7 @@ module _ (laws : HeapLaws) (m after : MemoryView) (formed : FormedHeap m.heap) (
             sym (heap-word after k) ∙ (rw t at (words (heap_start + 4 * k))) ∙ heap-word m k)
 
     -- a write in it
-    high-written : heap_start ≤ a → Written m after a w
+    high-written : heap_start ≤ a → WordChanges m after a w
     high-written high = by-heap (λ b up. ap (λ (ws : List ℕ). word_in heap_start ws b) heap ∙ word_put heap_start m.heap a w (there_in_heap m a here high) b)
       where
         k : ℕ
@@ -134,7 +134,7 @@ module _ (laws : HeapLaws) (m after : MemoryView) (formed : FormedHeap m.heap) (
         heap = same-heap laws after.heap (slice_set m.heap k w) formed_after (set-formed laws m.heap k w is formed) (λ j. each j (j == k) refl)
 
     -- a memory that differs in one word, which is mapped
-    pub written-told : Written m after a w
+    pub written-told : WordChanges m after a w
     written-told = elim (cases_lt a heap_start) [ inl low ↦ low-written low | inr high ↦ high-written high ]
 
 -- ---- a write in the heap
@@ -142,7 +142,7 @@ module _ (laws : HeapLaws) (m after : MemoryView) (formed : FormedHeap m.heap) (
 -- what it leaves
 pub put-in-heap : HeapLaws → (m : MemoryView) (words : List ℕ) (a w : ℕ) → is_mapped m a ≡ true → heap_start ≤ a
     → is_some (word_in heap_start m.heap a) ≡ true → is_object_word m.heap ((a - heap_start) / 4) ≡ true → FormedHeap m.heap
-    → words ≡ slice_set m.heap ((a - heap_start) / 4) w → Blocks words ≡ Blocks m.heap → FormedHeap words → IsPut m (record m { heap = words }) a w
+    → words ≡ slice_set m.heap ((a - heap_start) / 4) w → Blocks words ≡ Blocks m.heap → FormedHeap words → WriteLeaves m (record m { heap = words }) a w
 put-in-heap laws m words a w here high there object formed is blocks after = record {
   written = written;
   mapped = mapped-through m (record m { heap = words }) a w here written blocks;
@@ -156,5 +156,5 @@ put-in-heap laws m words a w here high there object formed is blocks after = rec
   });
 }
   where
-    written : Written m (record m { heap = words }) a w
+    written : WordChanges m (record m { heap = words }) a w
     written = in_heap m words a w high (rw is (word_put heap_start m.heap a w there))

@@ -24,7 +24,7 @@ use Rattle.word_machine.specs.Memory.{MemoryView}
 use Rattle.word_machine.specs.Standing.{HoldsValues, values_at, IsInside, BlocksStand, MemoryStands, end_of}
 use Rattle.word_machine.specs.Following.{Grounds}
 use Rattle.typed_safety.specs.Laws.{SpotLives}
-use Rattle.word_machine.specs.Laws.{Written}
+use Rattle.word_machine.specs.Laws.{WordChanges}
 use Rattle.word_machine.specs.Stepping.{HeapLaws}
 use Rattle.word_machine.proofs.Areas.{heap-set}
 use Rattle.word_machine.proofs.Heaps.{block-object, object-inside, object-is-word, set-blocks}
@@ -155,7 +155,7 @@ module _ {image : ImageParts} {live : ℕ → Bool} {s : State} {cpu : Cpu} {m :
             let few = h.few in
             let k = b.block + (2 + (length (head_values h.object.shape) + j)) in
             let address : a ≡ heap_start + 4 * k = omega (arith, at, b.place) in
-            let here : Written m after (heap_start + 4 * k) w = rw address at c.written in
+            let here : WordChanges m after (heap_start + 4 * k) w = rw address at c.written in
             let open_to = block-object heap_laws m.heap stand.formed b.block k b.used (omega arith) (omega (arith, room, b.exact, long, few)) in
             rw (heap-set m after k w here (object-inside heap_laws m.heap stand.formed k open_to))
             (set-blocks heap_laws m.heap k w (object-is-word heap_laws m.heap stand.formed k open_to) image live s.store stand)
@@ -220,7 +220,7 @@ module _ {image : ImageParts} {live : ℕ → Bool} {s : State} {cpu : Cpu} {m :
   pub spot-is-written : HeapLaws → ClassLaws (shapes_of image) → (x : Mem) → x.index ≢ Some Esp → (spot : Spot) → spot_of (shapes_of image) s x ≡ Some spot
       → SpotLives live spot
       → (v : Value) (t : State) → write_spot (shown image) s spot v ≡ Some t
-      → (after : MemoryView) → Written m after (address_of x cpu.regs) (Word (places_of s) v) → MemoryStands image live t after
+      → (after : MemoryView) → WordChanges m after (address_of x cpu.regs) (Word (places_of s) v) → MemoryStands image live t after
   spot-is-written heap_laws laws x spared spot points lives v t h after written =
       let address = spot-address (shapes_of image) s spot cpu g.stand.processor x spared points in
       let c : Change m after (address_of x cpu.regs) (Word (places_of s) v) = record { written = written } in

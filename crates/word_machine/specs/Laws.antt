@@ -19,8 +19,8 @@ use Rattle.word_machine.specs.Standing.{MemoryStands}
 use Rattle.word_machine.specs.Following.{Grounds}
 
 -- the word at an address changes, and no other
-abbrev pub Written : MemoryView → MemoryView → ℕ → ℕ → Type 0
-Written before after a w = (b : ℕ) → word_of after b ≡ (if b == a then Some w else word_of before b)
+abbrev pub WordChanges : MemoryView → MemoryView → ℕ → ℕ → Type 0
+WordChanges before after a w = (b : ℕ) → word_of after b ≡ (if b == a then Some w else word_of before b)
 
 -- one word of an object of the heap became another
 pub record ObjectWritten (before after : List ℕ) : Type 0 where
@@ -35,8 +35,8 @@ abbrev pub HeapWritten : List ℕ → List ℕ → Type 0
 HeapWritten before after = (after ≡ before) ⊎ ObjectWritten before after
 
 -- what a write at an address that is mapped leaves
-pub record IsPut (before after : MemoryView) (a w : ℕ) : Type 0 where
-  pub written : Written before after a w
+pub record WriteLeaves (before after : MemoryView) (a w : ℕ) : Type 0 where
+  pub written : WordChanges before after a w
   pub mapped : (b : ℕ) → is_mapped after b ≡ is_mapped before b
   pub formed : FormedHeap after.heap
   pub heap : HeapWritten before.heap after.heap
@@ -54,13 +54,13 @@ SpotsAreWritten =
     (image : ImageParts) (live : ℕ → Bool) (s : State) (cpu : Cpu) (m : MemoryView) → Grounds image live s cpu m
     → (x : Mem) → x.index ≢ Some Esp → (spot : Spot) → spot_of (shown image).shapes s x ≡ Some spot → SpotLives live spot
     → (v : Value) (t : State) → write_spot (shown image) s spot v ≡ Some t
-    → (after : MemoryView) → Written m after (address_of x cpu.regs) (Word (places_of s) v) → MemoryStands image live t after
+    → (after : MemoryView) → WordChanges m after (address_of x cpu.regs) (Word (places_of s) v) → MemoryStands image live t after
 
 -- a stack that is not full has a word below its top; where that becomes the word of a value, the memory stands for the state
 -- with this value on top
 pub record PushLaw (image : ImageParts) (live : ℕ → Bool) (s : State) (m : MemoryView) : Type 0 where
   pub there : is_mapped m (esp_of s - 4) ≡ true
-  pub pushed : (v : Value) (after : MemoryView) → Written m after (esp_of s - 4) (Word (places_of s) v)
+  pub pushed : (v : Value) (after : MemoryView) → WordChanges m after (esp_of s - 4) (Word (places_of s) v)
       → MemoryStands image live (with_values (v ∷ s.values) s) after
 
 abbrev pub ValuesArePushed : Type 0
@@ -83,7 +83,7 @@ abbrev pub EmptyStacksAreFree : Type 0
 EmptyStacksAreFree =
     (image : ImageParts) (live : ℕ → Bool) (s : State) (m : MemoryView) → WellTyped image → TypedAmong image live s → MemoryStands image live s m
     → (n : ℕ) → slice_get s.stacks n ≡ Some EmptyStack
-    → (w : ℕ) (after : MemoryView) → Written m after (stack_pointer n 1) w → MemoryStands image live s after
+    → (w : ℕ) (after : MemoryView) → WordChanges m after (stack_pointer n 1) w → MemoryStands image live s after
 
 -- where the memory stands among objects, it stands among fewer
 abbrev pub StandingFalls : Type 0

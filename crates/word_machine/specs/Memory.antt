@@ -36,13 +36,13 @@ unfoldable pub is_object_word : List ℕ → ℕ → Bool
 is_object_word words k = list_any (has_word k) (Blocks words)
 
 -- the address is below the heap, or that of an object's word
-unfoldable pub is_open : List ℕ → ℕ → Bool
-is_open words a = nat_lt a heap_start || option_map_or (is_object_word words) (word_index heap_start a) false
+unfoldable pub heap_allows : List ℕ → ℕ → Bool
+heap_allows words a = nat_lt a heap_start || option_map_or (is_object_word words) (word_index heap_start a) false
 
 -- an instruction may read and write the word at the address: one stands there, and in the heap it is an object's
 unfoldable pub is_mapped : MemoryView → ℕ → Bool
-is_mapped m a = is_some (word_of m a) && is_open m.heap a
+is_mapped m a = is_some (word_of m a) && heap_allows m.heap a
 
 -- the word at the address, mapped or not; 0 where none stands there
-unfoldable pub word_at : MemoryView → ℕ → ℕ
-word_at m a = option_map_or (λ w. w) (word_of m a) 0
+unfoldable pub memory_word : MemoryView → ℕ → ℕ
+memory_word m a = option_map_or (λ w. w) (word_of m a) 0

@@ -58,8 +58,8 @@ Left image live s next (left.Call a) e cpu m = (e ≢ None) × (e ≡ calls_to (
 Left image live s next left.Return e cpu m = (e ≢ None) × (e ≡ returns_from s.values s) × WordsStand image live s cpu m
 
 -- what a return to this word comes to, and the processor after it: at the end word, 0, nothing changes
-abbrev pub returned : ℕ → Step
-returned word = if word == 0 then step.Ends else step.Moves
+abbrev pub return_leads : ℕ → Step
+return_leads word = if word == 0 then step.Ends else step.Moves
 
 abbrev pub went_back : ℕ → Cpu → Cpu
 went_back word cpu = if word == 0 then cpu else record { regs = slice_set cpu.regs 4 ((slice_index cpu.regs 4 + 4) % 2 ^ 32); flags = cpu.flags; pc = word }

@@ -8,7 +8,7 @@ ghost use Rattle.object_layout.specs.Classes.{table_word, descriptor_word};
 ghost use Rattle.tal_image.specs.Shown.{shapes_of, data_words};
 ghost use Rattle.typed_machine.specs.States.{first_state, stack_bytes};
 ghost use Rattle.typed_machine.specs.Words.{upper_end};
-ghost use Rattle.word_machine.specs.Laws.{IsPut};
+ghost use Rattle.word_machine.specs.Laws.{WriteLeaves};
 ghost use Rattle.word_machine.specs.Memory.{word_in, word_of, is_object_word, is_mapped};
 ghost use Rattle.word_machine.specs.Standing.{MemoryStands};
 ghost use Rattle.word_machine.specs.Stepping.{HeapLaws};
@@ -127,7 +127,7 @@ impl Memory {
     /// Puts a word at an address that is mapped. No other word changes, and what is mapped stays so.
     pub fn put(&mut self, address: u32, word: u32)
         requires { is_mapped self.old address ≡ true }
-        ensures { IsPut self.old self.new address word }
+        ensures { WriteLeaves self.old self.new address word }
     {
         heap_lawful();
         let _size = self.heap.size();
@@ -146,11 +146,11 @@ impl Memory {
 }
 
 impl Bus for Memory {
-    ghost use Rattle.word_machine.specs.Memory.{is_mapped, word_at};
+    ghost use Rattle.word_machine.specs.Memory.{is_mapped, memory_word};
 
     ghost is_mapped = { is_mapped };
 
-    ghost word_at = { word_at };
+    ghost memory_word = { memory_word };
 
     fn mapped(&self, address: u32) -> bool {
         if address >= HEAP_START {
@@ -159,7 +159,7 @@ impl Bus for Memory {
         self.word(address).is_some()
     }
 
-    #[tactic(auto, unfolding(crate::specs::Memory::word_at))]
+    #[tactic(auto, unfolding(crate::specs::Memory::memory_word))]
     fn load(&self, address: u32) -> u32 {
         self.word(address).unwrap_or(0)
     }

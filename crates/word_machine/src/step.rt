@@ -7,10 +7,10 @@ ghost use Rattle.tal_flow.specs.Rules.{next_address};
 ghost use Rattle.tal_image.specs.Image.{ImageParts};
 ghost use Rattle.typed_machine.specs.States.{State};
 ghost use Rattle.typed_machine.specs.Effects.{Effect};
-ghost use Rattle.word_machine.specs.Memory.{is_mapped, word_at};
-ghost use Rattle.word_machine.specs.Laws.{IsPut, HeapWritten};
+ghost use Rattle.word_machine.specs.Memory.{is_mapped, memory_word};
+ghost use Rattle.word_machine.specs.Laws.{WriteLeaves, HeapWritten};
 ghost use Rattle.word_machine.specs.Following.{StandsAt, Runs, Came};
-ghost use Rattle.word_machine.specs.Stepping.{StepLaws, is_push, is_at_limit, overflows, Left, IsLeft, returned, went_back};
+ghost use Rattle.word_machine.specs.Stepping.{StepLaws, is_push, is_at_limit, overflows, Left, IsLeft, return_leads, went_back};
 
 use crate::laws;
 use crate::memory::{Memory, STACK_WORDS, heap_lawful};
@@ -126,11 +126,11 @@ fn overflows(inst: &Inst, cpu: &Cpu, stack: u32) -> bool
 
 // Pushes the place after a call, and goes to the function.
 fn enter(cpu: &mut Cpu, memory: &mut Memory, target: u32, next: u32)
-    requires { is_mapped memory.old (below_top (state_of cpu.old (word_at memory.old))) ≡ true }
-    ensures regs { cpu.new.regs ≡ (pushed next (state_of cpu.old (word_at memory.old))).regs }
+    requires { is_mapped memory.old (below_top (state_of cpu.old (memory_word memory.old))) ≡ true }
+    ensures regs { cpu.new.regs ≡ (pushed next (state_of cpu.old (memory_word memory.old))).regs }
     ensures flags { cpu.new.flags ≡ cpu.old.flags }
     ensures place { cpu.new.pc ≡ target }
-    ensures put { IsPut memory.old memory.new (below_top (state_of cpu.old (word_at memory.old))) next }
+    ensures put { WriteLeaves memory.old memory.new (below_top (state_of cpu.old (memory_word memory.old))) next }
 {
     let top = cpu.regs[ESP].wrapping_sub(4);
     memory.put(top, next);
@@ -141,8 +141,8 @@ fn enter(cpu: &mut Cpu, memory: &mut Memory, target: u32, next: u32)
 // Goes back to the place on top of the stack, and drops it. At the end word nothing changes.
 fn leave(cpu: &mut Cpu, memory: &Memory) -> Step
     requires { is_mapped memory.now (slice_index cpu.old.regs 4) ≡ true }
-    ensures step { result ≡ returned (word_at memory.now (slice_index cpu.old.regs 4)) }
-    ensures cpu { cpu.new ≡ went_back (word_at memory.now (slice_index cpu.old.regs 4)) cpu.old }
+    ensures step { result ≡ return_leads (memory_word memory.now (slice_index cpu.old.regs 4)) }
+    ensures cpu { cpu.new ≡ went_back (memory_word memory.now (slice_index cpu.old.regs 4)) cpu.old }
 {
     let top = cpu.regs[ESP];
     let place = memory.load(top);

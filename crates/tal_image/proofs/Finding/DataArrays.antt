@@ -12,7 +12,7 @@ use Rattle.tal_image.specs.declared.parts.ArrayPart.{ArrayPart}
 use Rattle.tal_image.specs.Image.{ImageParts}
 use Rattle.object_layout.specs.Areas.{statics_start}
 use Rattle.tal_image.specs.Conditions.{Tables, array_room, array_places, array_fits, with_array, numbers_given}
-use Rattle.tal_image.specs.Formed.{EachAfter, IsArray}
+use Rattle.tal_image.specs.Formed.{EachAfter, ArrayFits}
 use Rattle.tal_image.proofs.Reading.Lengths.{array_space}
 use Rattle.tal_image.specs.Kept.{RisesBy, array_offsets, data_place}
 use Rattle.tal_image.specs.Shown.{array_words, data_row_in}
@@ -88,7 +88,7 @@ room : (used n : ℕ) → array_fits used n ≡ true → used + 2 + n ≤ 65536
 room used n holds = grind (arith, nat_tests)
 
 -- the arrays take at most 65536 words with the statics
-pub arrays_fit : (t : Tables) (kinds : List KindRow) (used : ℕ) (arrays : List ArrayPart) → used ≤ 65536 → EachAfter with_array (λ later used a. IsArray t kinds used a) used arrays → used + sum_by array_room arrays ≤ 65536
+pub arrays_fit : (t : Tables) (kinds : List KindRow) (used : ℕ) (arrays : List ArrayPart) → used ≤ 65536 → EachAfter with_array (λ later used a. ArrayFits t kinds used a) used arrays → used + sum_by array_room arrays ≤ 65536
 arrays_fit t kinds used [] few each = omega arith
 arrays_fit t kinds used (a ∷ arrays) few each =
     let whole = sum_by-cons array_room a arrays in
@@ -102,13 +102,13 @@ unfolding numbers_given
 given kinds k n = grind (arith, nat_tests)
 
 -- no array has more numbers than elements
-pub few_numbers : (t : Tables) (kinds : List KindRow) (used : ℕ) (arrays : List ArrayPart) → EachAfter with_array (λ later used a. IsArray t kinds used a) used arrays → All (λ a. length a.numbers ≤ a.size) arrays
+pub few_numbers : (t : Tables) (kinds : List KindRow) (used : ℕ) (arrays : List ArrayPart) → EachAfter with_array (λ later used a. ArrayFits t kinds used a) used arrays → All (λ a. length a.numbers ≤ a.size) arrays
 few_numbers t kinds used [] each k d within = absurd (omega arith)
 few_numbers t kinds used (a ∷ arrays) each zero d within = let some = given kinds a.kind a.size in omega (arith, each.0.count)
 few_numbers t kinds used (a ∷ arrays) each (suc k) d within = few_numbers t kinds (with_array used a) arrays each.1 k d (omega arith)
 
 -- the array kinds are there
-pub kinds_there : (t : Tables) (kinds : List KindRow) (used : ℕ) (arrays : List ArrayPart) → EachAfter with_array (λ later used a. IsArray t kinds used a) used arrays → All (λ a. a.kind < t.kinds) arrays
+pub kinds_there : (t : Tables) (kinds : List KindRow) (used : ℕ) (arrays : List ArrayPart) → EachAfter with_array (λ later used a. ArrayFits t kinds used a) used arrays → All (λ a. a.kind < t.kinds) arrays
 kinds_there t kinds used [] each k d within = absurd (omega arith)
 kinds_there t kinds used (a ∷ arrays) each zero d within = let there = each.0.condition_21 in grind (arith, nat_tests)
 kinds_there t kinds used (a ∷ arrays) each (suc k) d within = kinds_there t kinds (with_array used a) arrays each.1 k d (omega arith)

@@ -15,10 +15,10 @@ use Rattle.file_fields.specs.declared.fault.ImageFault.TheVariants.{Bad}
 use Rattle.file_fields.specs.Grammar.{done, checked, Field, fields_text, Sound, SoundFile}
 use Rattle.file_fields.specs.Laws.{NumberMeanings}
 use Rattle.file_fields.specs.Parts.{Means, FieldsOf, Counted}
-use Rattle.file_fields.specs.Composed.{at_end, split, join, many_means, each_means, means_as, put_part, put_last, take_part, take_last, given}
+use Rattle.file_fields.specs.Composed.{at_end, split, join, many_means, each_means, means_as, put_part, put_last, take_part, take_last, supposing}
 use Rattle.tal_image.specs.Rows.{header_numbers}
 use Rattle.tal_image.specs.Fields.{tables_of, header_fields, sigs_part, functions_part, entries_part, classes_part, kinds_part, statics_part, arrays_part, blocks_part, marks_part, after_function, with_class, after_block, after_mark, all_instructions, code_bytes, CodedImage, coded, coded_fields, image_fields}
-use Rattle.tal_image.specs.Formed.{EachAfter, Each, IsHeader, IsSig, IsFunction, IsEntry, IsClass, IsFieldType, IsArray, AreBodies, IsBlockPart, IsMark, Formed, ImageOf}
+use Rattle.tal_image.specs.Formed.{EachAfter, Each, IsHeader, IsSig, IsFunction, IsEntry, IsClass, IsFieldType, ArrayFits, AreBodies, IsBlockPart, IsMark, Formed, ImageOf}
 use Rattle.tal_image.proofs.Meaning.Types.{field_type_means}
 use Rattle.tal_image.proofs.Meaning.Rows.{sig_means, function_means, kind_means, array_means, mark_means, block_means, class_means}
 use Rattle.tal_image.proofs.Meaning.Header.{header_means as letters_means}
@@ -46,7 +46,7 @@ abbrev AreStatics : Tables → List FieldTy → Type 0
 AreStatics t xs = Each (IsFieldType t) xs
 
 abbrev AreArrays : Header → List KindRow → List ArrayPart → Type 0
-AreArrays h kinds xs = EachAfter with_array (λ later used a. IsArray (tables_of h) kinds used a) h.statics xs
+AreArrays h kinds xs = EachAfter with_array (λ later used a. ArrayFits (tables_of h) kinds used a) h.statics xs
 
 abbrev AreBlocks : Tables → List FunctionPart → List Spelled → List BlockPart → Type 0
 AreBlocks t functions code xs = EachAfter after_block (λ later least b. IsBlockPart t functions code least b) 0 xs
@@ -268,17 +268,17 @@ module _ (meanings : NumberMeanings) (some : SomeText) where
   image_back : (fs : List Field) (y : CodedImage) → Sound coded_fields fs (done y) → ImageOf (fields_text fs) y.image
   unfolding coded_fields
   image_back fs y s =
-      given (take_part (header_means meanings) _ fs y s) (λ h.
-      given (take_part (sigs_means meanings h.value) _ h.rest y h.more) (λ sigs.
-      given (take_part (functions_means meanings h.value) _ sigs.rest y sigs.more) (λ functions.
-      given (take_part (entries_means meanings h.value sigs.value functions.value) _ functions.rest y functions.more) (λ entries.
-      given (take_part (classes_means meanings h.value functions.value) _ entries.rest y entries.more) (λ classes.
-      given (take_part (kinds_means meanings h.value) _ classes.rest y classes.more) (λ kinds.
-      given (take_part (statics_means meanings h.value) _ kinds.rest y kinds.more) (λ statics.
-      given (take_part (arrays_means meanings h.value kinds.value) _ statics.rest y statics.more) (λ arrays.
-      given (take_part (bodies_means some functions.value) _ arrays.rest y arrays.more) (λ code.
-      given (take_part (blocks_means meanings h.value functions.value (all_instructions code.value)) _ code.rest y code.more) (λ blocks.
-      given (take_last (marks_means meanings h.value functions.value arrays.value (all_instructions code.value)) _ blocks.rest y blocks.more) (λ marks.
+      supposing (take_part (header_means meanings) _ fs y s) (λ h.
+      supposing (take_part (sigs_means meanings h.value) _ h.rest y h.more) (λ sigs.
+      supposing (take_part (functions_means meanings h.value) _ sigs.rest y sigs.more) (λ functions.
+      supposing (take_part (entries_means meanings h.value sigs.value functions.value) _ functions.rest y functions.more) (λ entries.
+      supposing (take_part (classes_means meanings h.value functions.value) _ entries.rest y entries.more) (λ classes.
+      supposing (take_part (kinds_means meanings h.value) _ classes.rest y classes.more) (λ kinds.
+      supposing (take_part (statics_means meanings h.value) _ kinds.rest y kinds.more) (λ statics.
+      supposing (take_part (arrays_means meanings h.value kinds.value) _ statics.rest y statics.more) (λ arrays.
+      supposing (take_part (bodies_means some functions.value) _ arrays.rest y arrays.more) (λ code.
+      supposing (take_part (blocks_means meanings h.value functions.value (all_instructions code.value)) _ code.rest y code.more) (λ blocks.
+      supposing (take_last (marks_means meanings h.value functions.value arrays.value (all_instructions code.value)) _ blocks.rest y blocks.more) (λ marks.
       let make = coded h.value sigs.value functions.value entries.value classes.value kinds.value statics.value arrays.value in
       let under : Under h.value (make code.value blocks.value marks.value) = record {
         header = h.is;

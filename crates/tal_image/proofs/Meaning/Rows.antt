@@ -13,9 +13,9 @@ use Rattle.tal_image.specs.Conditions.{Tables, length_fits, sig_fits, class_view
 use Rattle.file_fields.specs.Grammar.{Grammar, done, pair, checked, each, then_with, fields_text}
 use Rattle.file_fields.specs.Laws.{NumberMeanings}
 use Rattle.file_fields.specs.Parts.{FieldsOf, Means, Checked, Counted}
-use Rattle.file_fields.specs.Composed.{many_means, each_means, means_as, put_part, put_last, take_part, take_last, given}
+use Rattle.file_fields.specs.Composed.{many_means, each_means, means_as, put_part, put_last, take_part, take_last, supposing}
 use Rattle.tal_image.specs.Fields.{type_field, field_type_field, sig_fields, function_where, function_fields, parent_of, method_list, class_fields, kind_fields, array_where, array_fields, block_where, block_fields, mark_where, mark_fields}
-use Rattle.tal_image.specs.Formed.{IsWord, EachAfter, Each, IsType, IsFieldType, IsSig, IsFunction, IsMethod, IsClass, IsArray, IsBlockPart, IsMark}
+use Rattle.tal_image.specs.Formed.{IsWord, EachAfter, Each, IsType, IsFieldType, IsSig, IsFunction, IsMethod, IsClass, ArrayFits, IsBlockPart, IsMark}
 use Rattle.tal_image.specs.Rows.{IsFunctionWhere, IsArrayWhere, IsMarkWhere}
 use Rattle.tal_image.proofs.Meaning.Types.{type_means, field_type_means}
 
@@ -49,8 +49,8 @@ module _ (meanings : NumberMeanings) where
   sig_means t = record {
     whole = λ s h. put_part (types_means t 7) (after_params t) s.params s _ (h.seven, h.params) (put_last (type_means meanings t) (signature s.params) s.result h.result);
     back = λ fs s p.
-        given (take_part (types_means t 7) (after_params t) fs s p) (λ params.
-        given (take_last (type_means meanings t) _ params.rest s params.more) (λ result.
+        supposing (take_part (types_means t 7) (after_params t) fs s p) (λ params.
+        supposing (take_last (type_means meanings t) _ params.rest s params.more) (λ result.
         subst (λ (z : Sig). IsSig t z × (fields_text fs ≡ sig_bytes z)) result.same
         (record { seven = params.is.0; params = params.is.1; result = result.is }, params.bytes _ result.bytes)));
   }
@@ -64,8 +64,8 @@ module _ (meanings : NumberMeanings) where
     whole = λ f h.
         put_part (meanings.one long (λ at. Bad at 13)) _ f.length f _ h.0 (put_last (meanings.one (sig_fits t) (λ at. Bad at 14)) _ f.sig h.1);
     back = λ fs f p.
-        given (take_part (meanings.one long (λ at. Bad at 13)) _ fs f p) (λ len.
-        given (take_last (meanings.one (sig_fits t) (λ at. Bad at 14)) _ len.rest f len.more) (λ sig.
+        supposing (take_part (meanings.one long (λ at. Bad at 13)) _ fs f p) (λ len.
+        supposing (take_last (meanings.one (sig_fits t) (λ at. Bad at 14)) _ len.rest f len.more) (λ sig.
         subst (λ (z : FunctionPart). IsFunctionWhere t long z × (fields_text fs ≡ function_bytes z)) sig.same ((len.is, sig.is), len.bytes _ sig.bytes)));
   }
 
@@ -83,7 +83,7 @@ module _ (meanings : NumberMeanings) where
   kind_means t = record {
     whole = λ k h. put_last (field_type_means meanings t) (λ ty. (let r : KindRow = record { element = ty } in r)) k.element h;
     back = λ fs k p.
-        given (take_last (field_type_means meanings t) (λ ty. (let r : KindRow = record { element = ty } in r)) fs k p) (λ element.
+        supposing (take_last (field_type_means meanings t) (λ ty. (let r : KindRow = record { element = ty } in r)) fs k p) (λ element.
         subst (λ (z : KindRow). IsFieldType t z.element × (fields_text fs ≡ kind_bytes z)) element.same (element.is, element.bytes));
   }
 
@@ -106,14 +106,14 @@ module _ (meanings : NumberMeanings) where
         (put_part (meanings.one (array_fits used) (λ at. Bad at 22)) _ a.size a _ h.1
         (put_last (words_means (count a.kind a.size)) _ a.numbers h.2));
     back = λ fs a p.
-        given (take_part (meanings.one (kind_fits t) (λ at. Bad at 21)) _ fs a p) (λ kind.
-        given (take_part (meanings.one (array_fits used) (λ at. Bad at 22)) _ kind.rest a kind.more) (λ size.
-        given (take_last (words_means (count kind.value size.value)) _ size.rest a size.more) (λ ns.
+        supposing (take_part (meanings.one (kind_fits t) (λ at. Bad at 21)) _ fs a p) (λ kind.
+        supposing (take_part (meanings.one (array_fits used) (λ at. Bad at 22)) _ kind.rest a kind.more) (λ size.
+        supposing (take_last (words_means (count kind.value size.value)) _ size.rest a size.more) (λ ns.
         subst (λ (z : ArrayPart). IsArrayWhere t count used z × (fields_text fs ≡ array_bytes z)) ns.same ((kind.is, size.is, ns.is), kind.bytes _ (size.bytes _ ns.bytes)))));
   }
 
   -- a data array
-  pub array_means : (t : Tables) (kinds : List KindRow) (used : ℕ) → Means (array_fields t kinds used) (IsArray t kinds used) array_bytes
+  pub array_means : (t : Tables) (kinds : List KindRow) (used : ℕ) → Means (array_fields t kinds used) (ArrayFits t kinds used) array_bytes
   array_means t kinds used =
       means_as (λ a h. record { kind_word = h.0.0; condition_21 = h.0.1; size_word = h.1.0; condition_22 = h.1.1; count = h.2.0; words = h.2.1 })
       (λ a h. ((h.kind_word, h.condition_21), (h.size_word, h.condition_22), (h.count, h.words))) (array_where_means t (numbers_given kinds) used)
@@ -137,8 +137,8 @@ module _ (meanings : NumberMeanings) where
           put_part (meanings.one place (λ at. Bad at 26)) after_offset m.offset m _ h.0
           (put_last (meanings.two (word m.offset) (λ tag index at. Bad at 27)) (λ p. marked m.offset p) (m.tag, m.index) h.1);
       back = λ fs m p.
-          given (take_part (meanings.one place (λ at. Bad at 26)) after_offset fs m p) (λ offset.
-          given (take_last (meanings.two (word offset.value) (λ tag index at. Bad at 27)) (λ q. marked offset.value q) offset.rest m offset.more) (λ both.
+          supposing (take_part (meanings.one place (λ at. Bad at 26)) after_offset fs m p) (λ offset.
+          supposing (take_last (meanings.two (word offset.value) (λ tag index at. Bad at 27)) (λ q. marked offset.value q) offset.rest m offset.more) (λ both.
           subst (λ (z : MarkPart). IsMarkWhere place word z × (fields_text fs ≡ mark_bytes z)) both.same ((offset.is, both.is), offset.bytes _ both.bytes)));
     }
 
@@ -163,12 +163,12 @@ module _ (meanings : NumberMeanings) where
         (put_part (meanings.one slots_fit (λ at. Bad at 25)) (after_count t b.offset b.types) (length b.slots) b _ (h.slots_word, h.condition_25)
         (put_last (types_means t (length b.slots)) _ b.slots (refl, h.slots))));
     back = λ fs b p.
-        given (take_part (meanings.one (block_fits functions code least) (λ at. Bad at 24)) _ fs b p) (λ offset.
-        given (take_part (types_means t 7) (after_types t offset.value) offset.rest b offset.more) (λ types.
-        given (take_part (meanings.one slots_fit (λ at. Bad at 25)) (after_count t offset.value types.value) types.rest b types.more) (λ count.
-        given (take_last (types_means t count.value) _ count.rest b count.more) (λ slots.
+        supposing (take_part (meanings.one (block_fits functions code least) (λ at. Bad at 24)) _ fs b p) (λ offset.
+        supposing (take_part (types_means t 7) (after_types t offset.value) offset.rest b offset.more) (λ types.
+        supposing (take_part (meanings.one slots_fit (λ at. Bad at 25)) (after_count t offset.value types.value) types.rest b types.more) (λ count.
+        supposing (take_last (types_means t count.value) _ count.rest b count.more) (λ slots.
         let Count : ℕ → Type 0 = λ n. Checked slots_fit n × (fields_text types.rest ≡ number_bytes n ++ types_bytes slots.value) in
-        given (subst Count (sym slots.is.0) (count.is, count.bytes _ slots.bytes)) (λ counted.
+        supposing (subst Count (sym slots.is.0) (count.is, count.bytes _ slots.bytes)) (λ counted.
         subst (λ (z : BlockPart). IsBlockPart t functions code least z × (fields_text fs ≡ block_bytes z)) slots.same (
           record {
             offset_word = offset.is.0;
@@ -236,9 +236,9 @@ module _ (meanings : NumberMeanings) where
     class_under : (m own count : ℕ) (c : ClassRow) (bytes : List ℕ) → ClassUnder m own count c bytes → parent_number c.parent ≡ m
         → IsClass t functions classes c × (bytes ≡ class_bytes c)
     class_under m own count c bytes u e =
-        given (subst (λ (z : ℕ). ClassUnder z own count c bytes) (sym e) u) (λ one.
-        given (subst (λ (z : ℕ). ClassUnder (parent_number c.parent) z count c bytes) (sym one.fields.0) one) (λ two.
-        given (subst (λ (z : ℕ). ClassUnder (parent_number c.parent) (length c.fields) z c bytes) (sym two.methods.0) two) (λ k. (
+        supposing (subst (λ (z : ℕ). ClassUnder z own count c bytes) (sym e) u) (λ one.
+        supposing (subst (λ (z : ℕ). ClassUnder (parent_number c.parent) z count c bytes) (sym one.fields.0) one) (λ two.
+        supposing (subst (λ (z : ℕ). ClassUnder (parent_number c.parent) (length c.fields) z c bytes) (sym two.methods.0) two) (λ k. (
           record {
             parent_word = k.parent.0;
             condition_16 = k.parent.1;
@@ -267,11 +267,11 @@ module _ (meanings : NumberMeanings) where
           subst (λ (z : Option ℕ). FieldsOf (class_fields t functions classes) (make z c.methods) (class_bytes c)) (parent_is c.parent)
           (put_part (meanings.one parent_ok (λ at. Bad at 16)) _ m y _ (h.parent_word, h.condition_16) own);
       back = λ fs c p.
-          given (take_part (meanings.one parent_ok (λ at. Bad at 16)) _ fs c p) (λ parent.
-          given (take_part (meanings.one (own_ok parent.value) (λ at. Bad at 17)) _ parent.rest c parent.more) (λ own.
-          given (take_part (fields_means own.value) _ own.rest c own.more) (λ fields.
-          given (take_part (meanings.one (slots_ok parent.value) (λ at. Bad at 19)) _ fields.rest c fields.more) (λ slots.
-          given (take_last (methods_means parent.value slots.value) _ slots.rest c slots.more) (λ methods.
+          supposing (take_part (meanings.one parent_ok (λ at. Bad at 16)) _ fs c p) (λ parent.
+          supposing (take_part (meanings.one (own_ok parent.value) (λ at. Bad at 17)) _ parent.rest c parent.more) (λ own.
+          supposing (take_part (fields_means own.value) _ own.rest c own.more) (λ fields.
+          supposing (take_part (meanings.one (slots_ok parent.value) (λ at. Bad at 19)) _ fields.rest c fields.more) (λ slots.
+          supposing (take_last (methods_means parent.value slots.value) _ slots.rest c slots.more) (λ methods.
           subst (λ (z : ClassRow). IsClass t functions classes z × (fields_text fs ≡ class_bytes z)) methods.same
           (class_under parent.value own.value slots.value _ (fields_text fs) (record {
             parent = parent.is;

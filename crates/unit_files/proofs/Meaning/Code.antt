@@ -10,7 +10,7 @@ use Rattle.file_fields.specs.declared.fault.ImageFault.TheVariants.{Bad}
 use Rattle.file_fields.specs.Grammar.{Grammar, done, chunk, number_bytes, Field, Chunk, Instruction, fields_text, Sound, AreBytes}
 use Rattle.file_fields.specs.Laws.{NumberMeanings}
 use Rattle.file_fields.specs.Parts.{FieldsOf, Means, Checked}
-use Rattle.file_fields.specs.Composed.{means_as, at_end, put_part, put_last, take_part, take_last, given}
+use Rattle.file_fields.specs.Composed.{means_as, at_end, put_part, put_last, take_part, take_last, supposing}
 use Rattle.tal_image.specs.declared.parts.FunctionPart.{FunctionPart}
 use Rattle.tal_image.specs.declared.parts.MarkPart.{MarkPart}
 use Rattle.tal_image.specs.declared.parts.BlockPart.{BlockPart}
@@ -79,10 +79,10 @@ module _ (rows : RowMeanings) (meanings : NumberMeanings) where
         (put_part (meanings.one entries_fit (λ at. Bad at 15)) _ h.entries h _ (limited 0 64 h.entries (lit< tt) is.entries_15)
         (put_last (meanings.one fixups_fit (λ at. Bad at 30)) _ h.fixups (limited 0 262144 h.fixups (lit< tt) is.fixups_30))));
     back = λ fs h p.
-        given (take_part (rows.header unit_magic true (lit< tt)) _ fs h p) (λ image.
-        given (take_part (meanings.one names_fit (λ at. Bad at 28)) _ image.rest h image.more) (λ names.
-        given (take_part (meanings.one entries_fit (λ at. Bad at 15)) _ names.rest h names.more) (λ entries.
-        given (take_last (meanings.one fixups_fit (λ at. Bad at 30)) _ entries.rest h entries.more) (λ fixups.
+        supposing (take_part (rows.header unit_magic true (lit< tt)) _ fs h p) (λ image.
+        supposing (take_part (meanings.one names_fit (λ at. Bad at 28)) _ image.rest h image.more) (λ names.
+        supposing (take_part (meanings.one entries_fit (λ at. Bad at 15)) _ names.rest h names.more) (λ entries.
+        supposing (take_last (meanings.one fixups_fit (λ at. Bad at 30)) _ entries.rest h entries.more) (λ fixups.
         subst (λ (z : UnitHeader). IsUnitHeader z × (fields_text fs ≡ header_text z)) fixups.same
         (record { header = image.is; names_28 = names.is.1; entries_15 = entries.is.1; fixups_30 = fixups.is.1 }, image.bytes _ (names.bytes _ (entries.bytes _ fixups.bytes)))))));
   }
@@ -106,8 +106,8 @@ module _ (rows : RowMeanings) (meanings : NumberMeanings) where
         put_part (meanings.one name_length_fits (λ at. Bad at 28)) letters_of (length letters) letters letters (limited 1 63 (length letters) (lit< tt) h.long)
         (Chunk letters ∷ [], (done letters, (refl, name_is_bytes letters h.condition_28, h.condition_28, refl), refl), append-nil letters);
     back = λ fs letters p.
-        given (take_part (meanings.one name_length_fits (λ at. Bad at 28)) letters_of fs letters p) (λ n.
-        given (name_back n.value n.rest letters n.more) (λ k. (
+        supposing (take_part (meanings.one name_length_fits (λ at. Bad at 28)) letters_of fs letters p) (λ n.
+        supposing (name_back n.value n.rest letters n.more) (λ k. (
           record { long = subst (λ (m : ℕ). name_length_fits m ≡ true) (sym k.0) n.is.1; condition_28 = k.1 },
           n.bytes letters k.2 ∙ ap (λ (m : ℕ). number_bytes m ++ letters) (sym k.0),
         )));
@@ -145,7 +145,7 @@ module _ (rows : RowMeanings) (meanings : NumberMeanings) where
       record {
         whole = λ b h. put_last (rows.block t functions code least) make (block_part b) h;
         back = λ fs b p.
-            given (take_last (rows.block t functions code least) make fs b p) (λ k.
+            supposing (take_last (rows.block t functions code least) make fs b p) (λ k.
             subst (λ (z : UnitBlock). IsBlockPart t functions code least (block_part z) × (fields_text fs ≡ block_bytes (block_part z))) k.same (k.is, k.bytes));
       }
 
@@ -159,7 +159,7 @@ module _ (rows : RowMeanings) (meanings : NumberMeanings) where
       record {
         whole = λ m h. put_last one make (mark_part m) ((h.offset_word, h.condition_26), (h.tag_word, h.index_word, h.condition_27));
         back = λ fs m p.
-            given (take_last one make fs m p) (λ k.
+            supposing (take_last one make fs m p) (λ k.
             subst (λ (z : UnitMark). IsUnitMark t functions arrays code least z × (fields_text fs ≡ mark_bytes (mark_part z))) k.same
             (record { offset_word = k.is.0.0; condition_26 = k.is.0.1; tag_word = k.is.1.0; index_word = k.is.1.1; condition_27 = k.is.1.2 }, k.bytes));
       }
@@ -176,9 +176,9 @@ module _ (rows : RowMeanings) (meanings : NumberMeanings) where
             (put_part (meanings.one fixup_kind_fits (λ at. Bad at 30)) _ f.kind f _ (h.kind_word, h.kind_30)
             (put_last (meanings.one (index_ok f.kind) (λ at. Bad at 30)) _ f.index (h.index_word, h.index_30)));
         back = λ fs f p.
-            given (take_part (meanings.one (fixup_fits code least) (λ at. Bad at 30)) _ fs f p) (λ offset.
-            given (take_part (meanings.one fixup_kind_fits (λ at. Bad at 30)) _ offset.rest f offset.more) (λ kind.
-            given (take_last (meanings.one (index_ok kind.value) (λ at. Bad at 30)) _ kind.rest f kind.more) (λ index.
+            supposing (take_part (meanings.one (fixup_fits code least) (λ at. Bad at 30)) _ fs f p) (λ offset.
+            supposing (take_part (meanings.one fixup_kind_fits (λ at. Bad at 30)) _ offset.rest f offset.more) (λ kind.
+            supposing (take_last (meanings.one (index_ok kind.value) (λ at. Bad at 30)) _ kind.rest f kind.more) (λ index.
             subst (λ (z : FixUp). IsFixUp t functions arrays statics code least z × (fields_text fs ≡ fixup_bytes z)) index.same (
               record {
                 offset_word = offset.is.0;

@@ -8,7 +8,7 @@ use Rattle.object_layout.specs.declared.rows.KindRow.{KindRow}
 use Rattle.file_fields.specs.Grammar.{fields_text, SoundFile}
 use Rattle.file_fields.specs.Laws.{NumberMeanings}
 use Rattle.file_fields.specs.Parts.{Means, FieldsOf, Counted, EachAfter, Each}
-use Rattle.file_fields.specs.Composed.{many_means, each_means, put_part, put_last, take_part, take_last, given}
+use Rattle.file_fields.specs.Composed.{many_means, each_means, put_part, put_last, take_part, take_last, supposing}
 use Rattle.tal_image.specs.declared.parts.FunctionPart.{FunctionPart}
 use Rattle.tal_image.specs.Image.{number_bytes, numbers, block_bytes, mark_bytes}
 use Rattle.tal_image.specs.declared.parts.Tables.{Tables}
@@ -81,11 +81,11 @@ module _ (rows : RowMeanings) (meanings : NumberMeanings) (some : SomeText) wher
         (put_part (functions_means f.header) _ f.functions f _ is.functions
         (put_last (entries_means f.header) _ f.entries is.entries))));
     back = λ fs f s.
-        given (take_part (unit_header_means rows meanings) _ fs f s) (λ h.
-        given (take_part (names_means h.value) _ h.rest f h.more) (λ names.
-        given (take_part (sigs_means h.value) _ names.rest f names.more) (λ sigs.
-        given (take_part (functions_means h.value) _ sigs.rest f sigs.more) (λ functions.
-        given (take_last (entries_means h.value) _ functions.rest f functions.more) (λ entries.
+        supposing (take_part (unit_header_means rows meanings) _ fs f s) (λ h.
+        supposing (take_part (names_means h.value) _ h.rest f h.more) (λ names.
+        supposing (take_part (sigs_means h.value) _ names.rest f names.more) (λ sigs.
+        supposing (take_part (functions_means h.value) _ sigs.rest f sigs.more) (λ functions.
+        supposing (take_last (entries_means h.value) _ functions.rest f functions.more) (λ entries.
         subst (λ (z : UnitFront). IsFront z × (fields_text fs ≡ front_text z)) entries.same (
           record { header = h.is; names = names.is; sigs = sigs.is; functions = functions.is; entries = entries.is },
           h.bytes _ (names.bytes _ (sigs.bytes _ (functions.bytes _ entries.bytes))),
@@ -115,10 +115,10 @@ module _ (rows : RowMeanings) (meanings : NumberMeanings) (some : SomeText) wher
           (put_part statics_means _ t.statics t _ is.statics
           (put_last (arrays_means (map kind_row t.kinds)) _ t.arrays is.arrays)));
       back = λ fs t s.
-          given (take_part classes_means _ fs t s) (λ classes.
-          given (take_part kinds_means _ classes.rest t classes.more) (λ kinds.
-          given (take_part statics_means _ kinds.rest t kinds.more) (λ statics.
-          given (take_last (arrays_means (map kind_row kinds.value)) _ statics.rest t statics.more) (λ arrays.
+          supposing (take_part classes_means _ fs t s) (λ classes.
+          supposing (take_part kinds_means _ classes.rest t classes.more) (λ kinds.
+          supposing (take_part statics_means _ kinds.rest t kinds.more) (λ statics.
+          supposing (take_last (arrays_means (map kind_row kinds.value)) _ statics.rest t statics.more) (λ arrays.
           subst (λ (z : UnitTables). AreTables f z × (fields_text fs ≡ tables_text z)) arrays.same (
             record { classes = classes.is; kinds = kinds.is; statics = statics.is; arrays = arrays.is },
             classes.bytes _ (kinds.bytes _ (statics.bytes _ arrays.bytes)),
@@ -144,10 +144,10 @@ module _ (rows : RowMeanings) (meanings : NumberMeanings) (some : SomeText) wher
           (put_part (marks_means (all_instructions c.bodies)) _ c.marks c _ is.marks
           (put_last (fixups_means (all_instructions c.bodies)) _ c.fixups is.fixups)));
       back = λ fs c s.
-          given (take_part (unit_bodies_means rows meanings some f.functions f.header.image.code) _ fs c s) (λ bodies.
-          given (take_part (blocks_means (all_instructions bodies.value)) _ bodies.rest c bodies.more) (λ blocks.
-          given (take_part (marks_means (all_instructions bodies.value)) _ blocks.rest c blocks.more) (λ marks.
-          given (take_last (fixups_means (all_instructions bodies.value)) _ marks.rest c marks.more) (λ fixups.
+          supposing (take_part (unit_bodies_means rows meanings some f.functions f.header.image.code) _ fs c s) (λ bodies.
+          supposing (take_part (blocks_means (all_instructions bodies.value)) _ bodies.rest c bodies.more) (λ blocks.
+          supposing (take_part (marks_means (all_instructions bodies.value)) _ blocks.rest c blocks.more) (λ marks.
+          supposing (take_last (fixups_means (all_instructions bodies.value)) _ marks.rest c marks.more) (λ fixups.
           subst (λ (z : UnitCode). IsCode f z × (fields_text fs ≡ code_text z)) fixups.same (
             record { bodies = bodies.is; blocks = blocks.is; marks = marks.is; fixups = fixups.is },
             bodies.bytes _ (blocks.bytes _ (marks.bytes _ fixups.bytes)),
@@ -409,8 +409,8 @@ module _ (rows : RowMeanings) (meanings : NumberMeanings) (some : SomeText) wher
   pub read : (bytes : List ℕ) (u : UnitParts) → SoundFile unit_fields bytes u → UnitOf bytes u
   unfolding unit_fields
   read bytes u s =
-      given (take_part (front_means rows meanings some) _ s.fields u s.sound) (λ f.
-      given (take_part (tables_means rows meanings some f.value) _ f.rest u f.more) (λ t.
-      given (take_last (code_means rows meanings some f.value) (unit_from f.value t.value) t.rest u t.more) (λ c.
+      supposing (take_part (front_means rows meanings some) _ s.fields u s.sound) (λ f.
+      supposing (take_part (tables_means rows meanings some f.value) _ f.rest u f.more) (λ t.
+      supposing (take_last (code_means rows meanings some f.value) (unit_from f.value t.value) t.rest u t.more) (λ c.
       subst (λ (z : UnitParts). UnitOf bytes z) c.same
       (subst (λ (z : List ℕ). UnitOf z (unit_from f.value t.value c.value)) (sym (s.parts ∙ f.bytes _ (t.bytes _ c.bytes))) (unit_is f.value t.value c.value f.is t.is c.is)))))

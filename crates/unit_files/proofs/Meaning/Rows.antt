@@ -8,7 +8,7 @@ use Rattle.file_fields.specs.declared.fault.ImageFault.TheVariants.{Bad}
 use Rattle.file_fields.specs.Grammar.{Grammar, done, checked, then_with, number_bytes, fields_text}
 use Rattle.file_fields.specs.Laws.{NumberMeanings}
 use Rattle.file_fields.specs.Parts.{FieldsOf, Means, Checked}
-use Rattle.file_fields.specs.Composed.{means_as, put_part, put_last, take_part, take_last, given}
+use Rattle.file_fields.specs.Composed.{means_as, put_part, put_last, take_part, take_last, supposing}
 use Rattle.tal_image.specs.declared.parts.FunctionPart.{FunctionPart}
 use Rattle.tal_image.specs.declared.parts.ArrayPart.{ArrayPart}
 use Rattle.tal_image.specs.declared.parts.Tables.{Tables}
@@ -51,8 +51,8 @@ module _ (rows : RowMeanings) (numbers : NumberMeanings) where
         (put_part (numbers.one (mention_fits names) (λ at. Bad at 29)) after_name m.name (mention m.name (ext_number m.ext == 1)) (number_bytes (ext_number m.ext)) (h.word, h.condition_29)
         (put_last (numbers.one ext_fits (λ at. Bad at 29)) (λ e. mention m.name (e == 1)) (ext_number m.ext) (ext_checked m.ext)));
     back = λ fs m p.
-        given (take_part (numbers.one (mention_fits names) (λ at. Bad at 29)) after_name fs m p) (λ name.
-        given (take_last (numbers.one ext_fits (λ at. Bad at 29)) (λ e. mention name.value (e == 1)) name.rest m name.more) (λ ext.
+        supposing (take_part (numbers.one (mention_fits names) (λ at. Bad at 29)) after_name fs m p) (λ name.
+        supposing (take_last (numbers.one ext_fits (λ at. Bad at 29)) (λ e. mention name.value (e == 1)) name.rest m name.more) (λ ext.
         subst (λ (z : Mention). IsMention names z.name × (fields_text fs ≡ mention_bytes z.name z.ext)) ext.same
         (record { word = name.is.0; condition_29 = name.is.1 }, name.bytes _ (ext.bytes ∙ ap number_bytes (sym (ext_is ext.value ext.is.1))))));
   }
@@ -76,8 +76,8 @@ module _ (rows : RowMeanings) (numbers : NumberMeanings) where
           (put_last (means (ext b)) (make (name b) (ext b)) (part b) h.1) in
           rw (parts.made b) at fields;
       back = λ fs b p.
-          given (take_part (mention_means names) (λ m. then_with (g m.ext) (λ x. done (make m.name m.ext x))) fs b p) (λ m.
-          given (take_last (means m.value.ext) (make m.value.name m.value.ext) m.rest b m.more) (λ x.
+          supposing (take_part (mention_means names) (λ m. then_with (g m.ext) (λ x. done (make m.name m.ext x))) fs b p) (λ m.
+          supposing (take_last (means m.value.ext) (make m.value.name m.value.ext) m.rest b m.more) (λ x.
           let n = m.value.name in
           let e = m.value.ext in
           subst (λ (z : B). (IsMention names (name z) × Is (ext z) (part z)) × (fields_text fs ≡ mention_bytes (name z) (ext z) ++ text (part z))) x.same
@@ -110,8 +110,8 @@ module _ (rows : RowMeanings) (numbers : NumberMeanings) where
         put_part (numbers.one stack_fits (λ at. Bad at 15)) _ e.stack e _ (h.stack_word, h.stack_15)
         (put_last (numbers.one (entry_function_fits functions) (λ at. Bad at 15)) _ e.function (h.function_word, h.function_15));
     back = λ fs e p.
-        given (take_part (numbers.one stack_fits (λ at. Bad at 15)) _ fs e p) (λ stack.
-        given (take_last (numbers.one (entry_function_fits functions) (λ at. Bad at 15)) _ stack.rest e stack.more) (λ function.
+        supposing (take_part (numbers.one stack_fits (λ at. Bad at 15)) _ fs e p) (λ stack.
+        supposing (take_last (numbers.one (entry_function_fits functions) (λ at. Bad at 15)) _ stack.rest e stack.more) (λ function.
         subst (λ (z : UnitEntry). IsUnitEntry functions z × (fields_text fs ≡ entry_bytes z)) function.same
         (record { stack_word = stack.is.0; stack_15 = stack.is.1; function_word = function.is.0; function_15 = function.is.1 }, stack.bytes _ function.bytes)));
   }

@@ -1,7 +1,7 @@
 use Rattle.std.proofs.Common.{◌≡◌, ◌+◌, drop}
 use Rattle.std.specs.List.{prefix_len}
-use Rattle.device_model.specs.EventFile.{is_digit}
+use Rattle.std.specs.Char.{is_ascii_digit}
 use Rattle.device_model.proofs.line_form.count_digits.Given as goal
 
 abbrev pub invariant-loop-count : goal.invariant-loop-count
-invariant-loop-count l = prefix_len is_digit l.text ≡ l.count + prefix_len is_digit (drop l.count l.text)
+invariant-loop-count l = prefix_len is_ascii_digit l.text ≡ l.count + prefix_len is_ascii_digit (drop l.count l.text)

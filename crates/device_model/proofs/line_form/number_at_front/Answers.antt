@@ -1,7 +1,7 @@
 use Rattle.std.proofs.Common.{arith}
 use Rattle.std.proofs.lemmas.List.Sums.{prefix_len-le-length}
-use Rattle.device_model.specs.EventFile.{is_digit}
+use Rattle.std.specs.Char.{is_ascii_digit}
 use Rattle.device_model.proofs.line_form.number_at_front.Goals as goal
 
 pub split_at-requires : goal.split_at-requires
-split_at-requires c = omega (arith, prefix_len-le-length is_digit c.args.text.now, c.count_digits-count.ensures)
+split_at-requires c = omega (arith, prefix_len-le-length is_ascii_digit c.args.text.now, c.count_digits-count.ensures)

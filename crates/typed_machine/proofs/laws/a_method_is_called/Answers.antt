@@ -21,9 +21,9 @@ use Rattle.typed_machine.specs.Words.{words_of}
 use Rattle.typed_machine.specs.Turns.{TurnOf, RunOf}
 use Rattle.object_layout.specs.Classes.{Methods, fun_row}
 use Rattle.typed_machine.specs.Operands.{spot_of, table_spot, read_spot, marked_value, immediate_value, operand_value, write_operand}
-use Rattle.typed_machine.specs.Effects.{moves, arguments_fit, is_full, pushes, form_effect, Effect}
+use Rattle.typed_machine.specs.Effects.{moves, values_fit, is_full, pushes, form_effect, Effect}
 use Rattle.typed_machine.proofs.laws.a_method_is_called.Goals as goal
 
 pub returns : goal.returns
-unfolding decoded word_at disp_at sib_at form_at trailing_at end_at modrm_at digit_at by_modrm_at opened_at spelling_at row_with row_with_digit word_index table_address same register_type of_field form_of address_at entry_number nucleus_arguments in_function next_address placed_at shown shapes_of spans function_in mark_in begun_by span_of fun_rows array_places placed_from instructions fits_among Word zero_of first_store value_at entry_place first_state inst_at may_go words_of TurnOf RunOf Methods fun_row spot_of table_spot read_spot marked_value immediate_value operand_value write_operand moves arguments_fit is_full pushes form_effect Effect
+unfolding decoded word_at disp_at sib_at form_at trailing_at end_at modrm_at digit_at by_modrm_at opened_at spelling_at row_with row_with_digit word_index table_address same register_type of_field form_of address_at entry_number nucleus_arguments in_function next_address placed_at shown shapes_of spans function_in mark_in begun_by span_of fun_rows array_places placed_from instructions fits_among Word zero_of first_store value_at entry_place first_state inst_at may_go words_of TurnOf RunOf Methods fun_row spot_of table_spot read_spot marked_value immediate_value operand_value write_operand moves values_fit is_full pushes form_effect Effect
 returns c = refl

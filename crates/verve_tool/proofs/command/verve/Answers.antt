@@ -1,4 +1,4 @@
-use Rattle.verve_tool.specs.Commands.{form_of}
+use Rattle.verve_tool.specs.Commands.{command_form}
 use Rattle.verve_tool.proofs.Exact.{usage_status, usage_leaves, leaves_as, missing_status, stopped_status, complete_status, accepted_status}
 use Rattle.verve_tool.proofs.command.verve.Goals as goal
 
@@ -10,15 +10,15 @@ returns-clause-usage g c = rw c.tell.ensures.status (usage_status _ _ _ _ c.act-
 
 pub returns-clause-missing : goal.returns-clause-missing
 returns-clause-missing g c files request name line = rw c.tell.ensures.status
-    (missing_status _ _ _ _ files request name line (c.one_cause.ensures files (form_of request).causes) c.nothing_stops.ensures c.act-answer.ensures)
+    (missing_status _ _ _ _ files request name line (c.one_cause.ensures files (command_form request).causes) c.nothing_stops.ensures c.act-answer.ensures)
 
 pub returns-clause-stopped : goal.returns-clause-stopped
 returns-clause-stopped g c files request cause line = rw c.tell.ensures.status
-    (stopped_status _ _ _ _ files request cause line (c.one_cause.ensures files (form_of request).causes) c.nothing_stops.ensures c.act-answer.ensures)
+    (stopped_status _ _ _ _ files request cause line (c.one_cause.ensures files (command_form request).causes) c.nothing_stops.ensures c.act-answer.ensures)
 
 pub returns-clause-complete : goal.returns-clause-complete
 returns-clause-complete g c files request = rw c.tell.ensures.status
-    (complete_status _ _ _ _ files request (c.one_cause.ensures files (form_of request).causes) c.act-answer.ensures)
+    (complete_status _ _ _ _ files request (c.one_cause.ensures files (command_form request).causes) c.act-answer.ensures)
 
 pub returns-clause-accepted : goal.returns-clause-accepted
 returns-clause-accepted g c files name = rw c.tell.ensures.status (accepted_status _ _ _ _ files name c.act-answer.ensures)
