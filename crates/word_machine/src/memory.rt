@@ -150,7 +150,7 @@ impl Bus for Memory {
 
     ghost is_mapped = { is_mapped };
 
-    ghost memory_word = { memory_word };
+    ghost word_at = { memory_word };
 
     fn mapped(&self, address: u32) -> bool {
         if address >= HEAP_START {
