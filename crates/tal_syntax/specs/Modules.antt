@@ -27,6 +27,10 @@ LinesOf n scope (l ∷ ls) found = (o : Option Form) × (more : List TextLine) �
 abbrev pub TextOf : List ℕ → List TextLine → Type 0
 TextOf bytes found = LinesOf 1 Outside (lines bytes) found
 
+-- The lines are those of some text.
+abbrev pub IsModule : List TextLine → Type 0
+IsModule found = (bytes : List ℕ) × TextOf bytes found
+
 -- Where a fault is answered, the text is no module.
 abbrev pub NoModule : Result (List TextLine) TextAnswer → List ℕ → Type 0
 NoModule (Err (answer.Fault fault)) bytes = (found : List TextLine) → TextOf bytes found → ⊥

@@ -2,7 +2,7 @@
 ghost use Rattle.std.specs.Prelude.{◌≡◌, ◌<◌, ◌≤◌, ◌+◌, ◌-◌, ◌^◌, ◌∷◌, [], length, Option, None, Some, IfOk};
 ghost use Rattle.text_tokens.specs.Lexing.{line_tokens};
 ghost use Rattle.tal_syntax.specs.Lines.{CutIs};
-ghost use Rattle.tal_syntax.specs.Modules.{NoModule, TextOf};
+ghost use Rattle.tal_syntax.specs.Modules.{IsModule, NoModule, TextOf};
 ghost use Rattle.tal_syntax.specs.Text.{after, IsLineTaken, behind_line, text_end, IsFault, line_fault, GivesText, text_at, line_at};
 
 use crate::fault::{TextAnswer, TextFault};
@@ -29,16 +29,35 @@ pub struct Module {
 impl Model for Module {
     ghost use Rattle.std.specs.Prelude.{List};
     ghost use Rattle.tal_syntax.specs.declared.module.TextLine.{TextLine};
+    ghost use Rattle.tal_syntax.specs.Modules.{IsModule};
 
     ghost Value = { List TextLine };
 
     ghost view = { λ text. text.lines.items };
+
+    ghost invariant = { λ text. IsModule text.lines.items };
+}
+
+// Lines that are read. Contracts see them as their list.
+#[derive(Drop)]
+struct FoundLines {
+    lines: Vec<TextLine>,
+}
+
+impl Model for FoundLines {
+    ghost use Rattle.std.specs.Prelude.{List};
+    ghost use Rattle.tal_syntax.specs.declared.module.TextLine.{TextLine};
+
+    ghost Value = { List TextLine };
+
+    ghost view = { λ found. found.lines.items };
 }
 
 impl Module {
-    /// The lines that are not empty, in order.
+    /// The lines that are not empty, in order. They are those of some text.
     pub fn lines(&self) -> &[TextLine]
-        ensures { result.now ≡ self.now }
+        ensures lines { result.now ≡ self.now }
+        ensures text { IsModule result.now }
     {
         &self.lines
     }
@@ -120,13 +139,13 @@ fn at_end(
     number: u64,
     scope: Scope,
     line: &[u8],
-) -> Result<Module, TextAnswer>
+) -> Result<FoundLines, TextAnswer>
     requires line { length line.now < 2 ^ 32 }
     requires number { number < 2 ^ 32 }
     ensures { GivesText result (behind_line lines.items (text_end number scope line.now)) }
 {
     if scope == Scope::Outside {
-        return Ok(Module { lines });
+        return Ok(FoundLines { lines });
     }
     Err(TextAnswer::Fault(TextFault {
         line: number as u32,
@@ -136,7 +155,7 @@ fn at_end(
 }
 
 // Reads the lines from front to back.
-fn read_text(alloc: Global, bytes: &[u8]) -> Result<Module, TextAnswer>
+fn read_text(alloc: Global, bytes: &[u8]) -> Result<FoundLines, TextAnswer>
     requires { length bytes.now ≤ 4294967294 }
     ensures { GivesText result (text_at bytes.now) }
 {
@@ -170,5 +189,8 @@ pub fn parse(alloc: Global, bytes: &[u8]) -> Result<Module, TextAnswer>
     ensures module { IfOk result (TextOf bytes.now) }
     ensures no_module { NoModule result bytes.now }
 {
-    read_text(alloc, bytes)
+    match read_text(alloc, bytes) {
+        Ok(found) => Ok(Module { lines: found.lines }),
+        Err(answer) => Err(answer),
+    }
 }
