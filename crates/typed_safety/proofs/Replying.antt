@@ -123,6 +123,11 @@ abbrev pub SomeReplyTyped : ImageParts → (ℕ → Bool) → State → ℕ → 
 SomeReplyTyped image live s next None = ⊥
 SomeReplyTyped image live s next (Some r) = ReplyTyped image live s next r
 
+-- that there is one is a part of it
+pub some-reply : (image : ImageParts) (live : ℕ → Bool) (s : State) (next : ℕ) (o : Option ReplyView) → SomeReplyTyped image live s next o → (reply : ReplyView) × (o ≡ Some reply)
+some-reply image live s next None h = absurd h
+some-reply image live s next (Some reply) h = (reply, refl)
+
 -- a number at which a stack stands is below their count
 stack-within : (ks : List Stack) (n : ℕ) → is_some (slice_get ks n) ≡ true → n < length ks
 stack-within ks n h = go (slice_get ks n) refl h

@@ -217,6 +217,14 @@ LivePlacesDiffer =
     → (i j : ℕ) (o p : Object) → i ≢ j → live_in image s i ≡ true → live_in image s j ≡ true → slice_get s.store i ≡ Some o → slice_get s.store j ≡ Some p
     → o.place ≢ p.place
 
+-- ---- calls of the Nucleus
+
+-- in each well typed image, a call from a typed state that has its arguments has a reply
+abbrev pub CallsReply : Type 0
+CallsReply =
+    (image : ImageParts) → WellTyped image → (live : ℕ → Bool) (s : State) → TypedAmong image live s
+    → (next k : ℕ) → CallTyped (scope_of image live s) s next k → (reply : ReplyView) × (Reply k s ≡ Some reply)
+
 -- ---- calls of the heap
 
 -- At the place of a state entry k of the Nucleus is called, the call comes back to `next`, and the entry's row gives this.

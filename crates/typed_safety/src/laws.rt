@@ -1,5 +1,5 @@
 // What holds of the definitions alone: each law is a function with nothing to do, whose clause is the law.
-ghost use Rattle.typed_safety.specs.Laws.{FormedImagesTell, InstructionsKeepTyping, WellTypedImagesKeepTyping, DisplaysAreThere, InstructionsUseLiving, TurnsKeepTyping, RunsAreTyped, LiveObjectsAreLeast, ReachShrinks, ObjectsStay, LivePlacesDiffer, HeapCallsAreTyped, RootedObjectsLive, RepliesHold};
+ghost use Rattle.typed_safety.specs.Laws.{FormedImagesTell, InstructionsKeepTyping, WellTypedImagesKeepTyping, DisplaysAreThere, InstructionsUseLiving, TurnsKeepTyping, RunsAreTyped, LiveObjectsAreLeast, ReachShrinks, ObjectsStay, LivePlacesDiffer, CallsReply, HeapCallsAreTyped, RootedObjectsLive, RepliesHold};
 
 /// A formed image tells what typed instructions rest on: its heap has its limit, its classes keep the laws of classes, its methods are its functions,
 /// at its blocks instructions begin, and what its marks stand for has the marks' types and words.
@@ -92,6 +92,14 @@ pub fn objects_stay()
 pub fn live_places_differ()
     ensures { LivePlacesDiffer }
 {}
+
+/// In a well typed image a call of the Nucleus that has its arguments has a reply.
+pub fn calls_reply()
+    ensures { CallsReply }
+{
+    formed_images_tell();
+    tal_checker::laws::accepted_runs();
+}
 
 /// In a well typed image a call of the heap from a typed state finds its arguments, and the reply's type is awaited where the
 /// call comes back.
