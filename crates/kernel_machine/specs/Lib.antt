@@ -1,5 +1,3 @@
--- Which images run so far.
-pub mod Built
 -- The words that a machine shows.
 pub mod Shown
 -- A machine: when it stands for a state and follows a journal.

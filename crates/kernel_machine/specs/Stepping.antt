@@ -4,10 +4,14 @@ use Rattle.std.specs.Prelude.{◌≡◌, ◌⊎◌, ℕ, ◌+◌, Bool, true, Li
 use Rattle.std.specs.Option.{option_to_list}
 use Rattle.ia32_code.specs.declared.instruction.Inst.{Inst}
 use Rattle.ia32_step.specs.declared.cpu.Cpu.{Cpu}
+use Rattle.object_layout.specs.Classes.{ShapesView}
 use Rattle.device_model.specs.declared.events.Event.{Event}
 use Rattle.device_model.specs.Devices.{after_events}
 use Rattle.stack_states.specs.declared.journal_entry.Entry.{Entry}
+use Rattle.frame_tables.specs.FrameRows.{RowAt}
 use Rattle.tal_image.specs.Image.{ImageParts}
+use Rattle.tal_image.specs.Shown.{shown}
+use Rattle.tal_checker.specs.Frames.{frames_of}
 use Rattle.typed_machine.specs.declared.ending.Ending.{Ending}
 use Rattle.typed_machine.specs.declared.ending.Ending.TheVariants.{Halted, KernelFault}
 use Rattle.typed_machine.specs.States.{State}
@@ -22,7 +26,6 @@ use Rattle.nucleus_calls.specs.declared.outcome.Leaving.{Leaving}
 use Rattle.nucleus_calls.specs.declared.outcome.Leaving.TheVariants as leaving
 use Rattle.nucleus_calls.specs.Nucleus.{NucleusView, NucleusStands}
 use Rattle.nucleus_calls.specs.Turning.{StandsBefore, AtInstruction}
-use Rattle.kernel_machine.specs.Built.{IsBuilt}
 use Rattle.kernel_machine.specs.Machine.{MachineView, Stands, answers_of}
 
 -- a machine of these parts, as contracts see it
@@ -74,9 +77,17 @@ ending_by leaving.Ended eax = Halted eax
 abbrev pub MayLeave : Cpu → NucleusView → Type 0
 MayLeave cpu v = (image : ImageParts) × (live : ℕ → Bool) × (s : State) × StandsBefore image live s s.thread.place cpu v
 
--- a built image has such a state at the instruction
-abbrev pub MayAct : Inst → ℕ → Cpu → NucleusView → Type 0
-MayAct i len cpu v = (image : ImageParts) × (live : ℕ → Bool) × (s : State) × IsBuilt image × AtInstruction image live s i len cpu v
+-- Processor and Nucleus stand for a typed state at whose place this instruction stands, among the objects that a run can come to;
+-- the classes and the rows of frames are the image's.
+pub record ActsAt (image : ImageParts) (s : State) (i : Inst) (len : ℕ) (shapes : ShapesView) (table : List RowAt) (cpu : Cpu) (v : NucleusView) : Type 0 where
+  pub at : AtInstruction image (live_in image s) s i len cpu v
+  pub typed : Typed image s
+  pub classes : shapes ≡ (shown image).shapes
+  pub rows : table ≡ frames_of image
+
+-- there is such a state
+abbrev pub MayAct : Inst → ℕ → ShapesView → List RowAt → Cpu → NucleusView → Type 0
+MayAct i len shapes table cpu v = (image : ImageParts) × (s : State) × ActsAt image s i len shapes table cpu v
 
 -- ---- the turn
 

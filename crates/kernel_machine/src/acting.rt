@@ -5,17 +5,17 @@ ghost use Rattle.tal_image.specs.Image.{ImageParts};
 ghost use Rattle.typed_machine.specs.States.{State};
 ghost use Rattle.typed_machine.specs.Placing.{Answer};
 ghost use Rattle.typed_machine.specs.Turns.{after_effect, instruction};
-ghost use Rattle.nucleus_calls.specs.Turning.{StandsBefore, AtInstruction, leaving_effect};
-ghost use Rattle.kernel_machine.specs.Built.{IsBuilt};
-ghost use Rattle.kernel_machine.specs.Stepping.{TurnLeads, InTurn, MayLeave, MayAct, ending_by};
+ghost use Rattle.typed_machine.specs.Reaching.{live_in};
+ghost use Rattle.nucleus_calls.specs.Turning.{StandsBefore, leaving_effect};
+ghost use Rattle.kernel_machine.specs.Stepping.{TurnLeads, InTurn, MayLeave, ActsAt, MayAct, ending_by};
 
+use frame_tables::FrameTable;
 use ia32_code::Inst;
 use ia32_step::Cpu;
-use nucleus_calls::laws::calls_name_entries;
 use nucleus_calls::{Journal, Leaving, Nucleus};
-use tal_checker::laws::accepted_runs;
+use object_layout::Shapes;
 use typed_machine::Ending;
-use typed_safety::laws::well_typed_images_keep_typing;
+use typed_safety::laws::{calls_reply, well_typed_images_keep_typing};
 use word_machine::Step;
 
 const EAX: usize = 0;
@@ -23,35 +23,42 @@ const EAX: usize = 0;
 /// The stack of the kernel.
 const KERNEL: u32 = 0;
 
+/// The entries below this number touch the heap.
+const HEAP_ENTRIES: u32 = 3;
+
 /// The instruction at the processor's place, which is spelled with `len` bytes, has its effect. Answers the end that it brings.
 ///
-/// From every typed state of a built image that they stand for, processor and Nucleus come to where the turn leads.
+/// From every typed state that they stand for, processor and Nucleus come to where the turn leads.
 pub(crate) fn act(
     nucleus: &mut Nucleus,
     cpu: &mut Cpu,
     turn: u32,
     inst: &Inst,
     len: u8,
+    shapes: &Shapes,
+    frames: &FrameTable,
     journal: &mut Journal,
 ) -> Option<Ending>
     requires spelled { Canonical inst.now ≢ None }
-    requires acts { MayAct inst.now len cpu.old nucleus.old }
+    requires acts { MayAct inst.now len shapes.now frames.now cpu.old nucleus.old }
     requires room { 1 ≤ journal.old.spare }
-    ensures turn { (image : ImageParts) (live : ℕ → Bool) (s : State) → IsBuilt image → AtInstruction image live s inst.now len cpu.old nucleus.old → InTurn turn s
-        → (left : List Answer)
-        → TurnLeads image live turn left journal.old.entries journal.new.entries cpu.new nucleus.new result (λ answers. instruction image answers s) }
+    ensures turn { (image : ImageParts) (s : State) → ActsAt image s inst.now len shapes.now frames.now cpu.old nucleus.old → InTurn turn s → (left : List Answer)
+        → TurnLeads image (live_in image s) turn left journal.old.entries journal.new.entries cpu.new nucleus.new result (λ answers. instruction image answers s) }
     ensures spare { journal.old.spare ≤ journal.new.spare + 1 }
 {
-    // A call has its arguments and is one of an entry that is built.
-    accepted_runs();
+    // A call has its arguments, and its entry has a reply.
     well_typed_images_keep_typing();
-    calls_name_entries();
+    calls_reply();
     match nucleus.step(cpu, inst, len) {
         Step::Moves => None,
         Step::Faults(vector) => finish(nucleus, cpu, turn, Leaving::Fault(vector), journal),
         Step::Calls(number) => {
             cpu.pc = cpu.pc.wrapping_add(len as u32);
-            nucleus.call(number, turn, cpu, journal);
+            if number < HEAP_ENTRIES {
+                nucleus.call_heap(number, turn, shapes, frames, cpu, journal);
+            } else {
+                nucleus.call(number, turn, cpu, journal);
+            }
             None
         }
         Step::Ends => finish(nucleus, cpu, turn, Leaving::Ended, journal),

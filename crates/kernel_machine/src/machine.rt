@@ -9,7 +9,6 @@ ghost use Rattle.stack_states.specs.declared.stack_state.StackState.{StackState}
 ghost use Rattle.tal_checker.specs.WellTyped.{WellTyped};
 ghost use Rattle.typed_machine.specs.States.{entry_place};
 ghost use Rattle.typed_machine.specs.Code.{inst_at};
-ghost use Rattle.kernel_machine.specs.Built.{IsBuilt};
 ghost use Rattle.kernel_machine.specs.Shown.{esp_by};
 ghost use Rattle.kernel_machine.specs.Machine.{Follows, turn_of, run_answer};
 ghost use Rattle.kernel_machine.specs.Stepping.{TakesTurn, TurnLaws};
@@ -124,11 +123,10 @@ fn turns_lawful()
 impl Machine {
     /// A machine before its first turn: stack 0 runs at its function, with all registers 0 and all flags clear.
     ///
-    /// The events' turns are 1 to [`crate::MOST_TURNS`] and do not fall, and the image's code calls no entry of the heap, for which
-    /// [`crate::first_unbuilt_call`] is the test. After `NoMemory` the image and the events are given up.
+    /// The events' turns are 1 to [`crate::MOST_TURNS`] and do not fall. It makes all that turns need, so that they take no memory.
+    /// After `NoMemory` the image and the events are given up.
     pub fn new(alloc: Global, checked: Checked, events: Vec<Event>) -> Result<Machine, NoMemory>
         requires ordered { InOrder events.items }
-        requires built { IsBuilt checked.image }
         ensures follows { IfOk result (λ m. Follows m []) }
         ensures image { IfOk result (λ m. m.image ≡ checked.image) }
         ensures events { IfOk result (λ m. m.events ≡ events.items) }
@@ -230,8 +228,18 @@ impl Machine {
         if self.nucleus.accept(turn, &mut self.cpu, journal) {
             return;
         }
-        let (inst, len) = inst_in(self.checked.image(), self.cpu.pc);
-        self.ending = act(&mut self.nucleus, &mut self.cpu, turn, &inst, len, journal);
+        let image = self.checked.image();
+        let (inst, len) = inst_in(image, self.cpu.pc);
+        self.ending = act(
+            &mut self.nucleus,
+            &mut self.cpu,
+            turn,
+            &inst,
+            len,
+            image.shapes(),
+            self.checked.frames(),
+            journal,
+        );
     }
 
     // Whether there is an end.
