@@ -1,4 +1,4 @@
--- What an instruction leaves as it was that moves on, and which entry of the Nucleus it calls.
+-- What an instruction leaves as it was that moves on.
 use Rattle.std.proofs.Common.{◌≡◌, ℕ, zero, suc, Bool, true, false, not, if◌then◌else◌, List, [], ◌∷◌, Option, Some, None, slice_get, slice_set, refl, arith}
 use Rattle.std.specs.Option.{option_map, option_and_then, option_map_or}
 use Rattle.std.specs.List.{list_all}
@@ -36,8 +36,7 @@ use Rattle.typed_machine.specs.States.{State, Thread, Known, places_of, with_reg
 use Rattle.typed_machine.specs.Switches.{runs}
 use Rattle.typed_machine.specs.Operands.{Spot, AtStatic, AtSlot, AtValue, spot_of, operand_value, is_number, word_among, may_hold, type_there, provided, write_spot, write_operand}
 use Rattle.typed_machine.specs.Words.{words_of}
-use Rattle.typed_machine.specs.Effects.{EffectView, Moves, Faults, Calls, Ends, goes_on, settled, fault_or, computes, sets_flags, compares, tests, moves, addresses, is_full, pushes, pops, drops, values_fit, has_arguments, entered, calls_entry, numbered_entry_or, calls_to, calls_value, returns_from, jumps, branches, form_effect, Effect}
-use Rattle.nucleus_calls.specs.Laws.{entry_called, CallsNameEntries}
+use Rattle.typed_machine.specs.Effects.{EffectView, Moves, Faults, Calls, Ends, goes_on, settled, fault_or, computes, sets_flags, compares, tests, moves, addresses, is_full, pushes, pops, drops, values_fit, has_arguments, entered, calls_entry, numbered_entry_or, calls_function, calls_to, calls_value, returns_from, jumps, branches, form_effect, Effect}
 
 -- what the stacks do, where objects lie, what happened to the devices, the turns and the end are as before
 pub record KeepsRest (s t : State) : Type 0 where
@@ -52,12 +51,12 @@ abbrev StateKeeps : State → Option State → Type 0
 StateKeeps s None = Unit {0}
 StateKeeps s (Some t) = KeepsRest s t
 
--- so they are where an instruction moves on, and no entry of the Nucleus is called
-abbrev EffectKeeps : State → Option EffectView → Type 0
+-- so they are where an instruction moves on
+abbrev pub EffectKeeps : State → Option EffectView → Type 0
 EffectKeeps s None = Unit {0}
 EffectKeeps s (Some (Moves t)) = KeepsRest s t
 EffectKeeps s (Some (Faults vector)) = Unit {0}
-EffectKeeps s (Some (Calls k)) = ⊥
+EffectKeeps s (Some (Calls k)) = Unit {0}
 EffectKeeps s (Some Ends) = Unit {0}
 
 -- the state itself does, and so does a change of what runs and of the running stack's values
@@ -226,91 +225,45 @@ branches-keep image s next c to = thread-keeps s _ _ _
 
 -- ---- all instructions
 
--- they are as before where an instruction moves on, and an entry that it calls is this one
-abbrev pub EffectLeaves : Option ℕ → State → Option EffectView → Type 0
-EffectLeaves called s None = Unit {0}
-EffectLeaves called s (Some (Moves t)) = KeepsRest s t
-EffectLeaves called s (Some (Faults vector)) = Unit {0}
-EffectLeaves called s (Some (Calls k)) = called ≡ Some k
-EffectLeaves called s (Some Ends) = Unit {0}
-
--- whichever it is, where none is called
-leaves : (called : Option ℕ) (s : State) (o : Option EffectView) → EffectKeeps s o → EffectLeaves called s o
-leaves called s None h = tt
-leaves called s (Some (Moves t)) h = h
-leaves called s (Some (Faults vector)) h = tt
-leaves called s (Some (Calls k)) h = absurd h
-leaves called s (Some Ends) h = tt
-
 -- an entry of the Nucleus is called, or else a function
-entry-leaves : (s : State) (o : Option EffectView) (called : Option ℕ) → EffectKeeps s o → EffectLeaves called s (numbered_entry_or s o called)
-entry-leaves s o None h = leaves None s o h
-entry-leaves s o (Some k) h = go (slice_get nucleus_arguments k)
-  where
-    asked : (b : Bool) → EffectLeaves (Some k) s (if b then Some (Calls k) else None)
-    asked true = refl
-    asked false = tt
-
-    go : (a : Option Arguments) → EffectLeaves (Some k) s (option_map_or (calls_entry s k) a o)
-    go None = leaves (Some k) s o h
-    go (Some x) = asked (has_arguments x (s.thread.regs Eax) (s.thread.regs Ecx))
-
-calls-leave : (v : ShownImage) (s : State) (next address : ℕ) → EffectLeaves (entry_number address) s (calls_to v s next address)
+calls-keep : (v : ShownImage) (s : State) (next address : ℕ) → EffectKeeps s (calls_to v s next address)
 unfolding calls_to
-calls-leave v s next address = entry-leaves s _ (entry_number address) (called-keeps v s next address _)
+calls-keep v s next address = numbered (entry_number address)
+  where
+    other : Option EffectView
+    other = calls_function v s next address
 
--- the entry that a form calls, if any
-abbrev entry_in : Form → Option ℕ
-entry_in (CallTo a) = entry_number a
-entry_in form = None
+    asked : (k : ℕ) (b : Bool) → EffectKeeps s (if b then Some (Calls k) else None)
+    asked k true = tt
+    asked k false = tt
 
-form-leaves : (image : ImageParts) (s : State) (i : Inst) (len next : ℕ) (form : Form) → EffectLeaves (entry_in form) s (form_effect image s i len next form)
+    entry : (k : ℕ) (a : Option Arguments) → EffectKeeps s (option_map_or (calls_entry s k) a other)
+    entry k None = called-keeps v s next address _
+    entry k (Some x) = asked k (has_arguments x (s.thread.regs Eax) (s.thread.regs Ecx))
+
+    numbered : (called : Option ℕ) → EffectKeeps s (numbered_entry_or s other called)
+    numbered None = called-keeps v s next address _
+    numbered (Some k) = entry k (slice_get nucleus_arguments k)
+
+form-keeps : (image : ImageParts) (s : State) (i : Inst) (len next : ℕ) (form : Form) → EffectKeeps s (form_effect image s i len next form)
 unfolding form_effect
-form-leaves image s i len next Refused = tt
-form-leaves image s i len next (Compute sources d wide k) = leaves None s _ (computes-keep (shown image) s i len next sources d wide k)
-form-leaves image s i len next (Move d x) = leaves None s _ (moves-keep (shown image) s next d x)
-form-leaves image s i len next (Address r m) = leaves None s _ (addresses-keep s i next r m)
-form-leaves image s i len next (Compare d x) = leaves None s _ (compares-keep (shown image) s i next d x)
-form-leaves image s i len next (TestBits d x) = leaves None s _ (tests-keep (shown image) s i next d x)
-form-leaves image s i len next (PushOf x) = leaves None s _ (pushed-keeps s next (operand_value (shown image) s x))
-form-leaves image s i len next (PopTo r) = leaves None s _ (pops-keep s next r s.values)
-form-leaves image s i len next (DropSlots bytes) = leaves None s _ (drops-keep s i next (slots_in bytes))
-form-leaves image s i len next (CallTo a) = calls-leave (shown image) s next a
-form-leaves image s i len next (CallBy x) = leaves None s _ (value-calls-keep (shown image) s next (operand_value (shown image) s x))
-form-leaves image s i len next Return = leaves None s _ (returns-keep s s.values)
-form-leaves image s i len next (Jump to) = leaves None s _ (jumps-keep image s to)
-form-leaves image s i len next (Branch c to) = leaves None s _ (branches-keep image s next c to)
-form-leaves image s i len next Nothing = runs-keeps s s _ _ (unchanged s)
+form-keeps image s i len next Refused = tt
+form-keeps image s i len next (Compute sources d wide k) = computes-keep (shown image) s i len next sources d wide k
+form-keeps image s i len next (Move d x) = moves-keep (shown image) s next d x
+form-keeps image s i len next (Address r m) = addresses-keep s i next r m
+form-keeps image s i len next (Compare d x) = compares-keep (shown image) s i next d x
+form-keeps image s i len next (TestBits d x) = tests-keep (shown image) s i next d x
+form-keeps image s i len next (PushOf x) = pushed-keeps s next (operand_value (shown image) s x)
+form-keeps image s i len next (PopTo r) = pops-keep s next r s.values
+form-keeps image s i len next (DropSlots bytes) = drops-keep s i next (slots_in bytes)
+form-keeps image s i len next (CallTo a) = calls-keep (shown image) s next a
+form-keeps image s i len next (CallBy x) = value-calls-keep (shown image) s next (operand_value (shown image) s x)
+form-keeps image s i len next Return = returns-keep s s.values
+form-keeps image s i len next (Jump to) = jumps-keep image s to
+form-keeps image s i len next (Branch c to) = branches-keep image s next c to
+form-keeps image s i len next Nothing = runs-keeps s s _ _ (unchanged s)
 
--- the form of an instruction calls the entry that the instruction does: ADD, all operations of that kind, LEA, and the others
-add-entry : (next : ℕ) (d x : Operand) → entry_in (form_of next (inst.Alu alu.Add d x)) ≡ None
-unfolding form_of
-add-entry next d x = grind arith
-
-alu-entry : (next : ℕ) (op : Alu) (d x : Operand) → entry_in (form_of next (inst.Alu op d x)) ≡ None
-unfolding form_of
-alu-entry next alu.Add d x = add-entry next d x
-alu-entry next op d x = refl
-
-lea-entry : (next : ℕ) (d x : Operand) → entry_in (form_of next (inst.Lea d x)) ≡ None
-unfolding form_of
-lea-entry next d x = grind arith
-
-form-entry : (next : ℕ) (i : Inst) → entry_in (form_of next i) ≡ entry_called next i
-unfolding form_of entry_called
-form-entry next (inst.Alu op d x) = alu-entry next op d x
-form-entry next (inst.Lea d x) = lea-entry next d x
-form-entry next (inst.Shift op d (By n)) = refl
-form-entry next (inst.Shift op d Cl) = refl
-form-entry next (inst.CallRel z) = refl
-form-entry next i = refl
-
--- what an instruction leaves as it was, and the entry that it calls
-pub effect-leaves : (image : ImageParts) (s : State) (i : Inst) (len : ℕ) → EffectLeaves (entry_called (next_address s.thread.place len) i) s (Effect image s i len)
+-- what an instruction leaves as it was
+pub effect-keeps : (image : ImageParts) (s : State) (i : Inst) (len : ℕ) → EffectKeeps s (Effect image s i len)
 unfolding Effect
-effect-leaves image s i len =
-    rw (← form-entry (next_address s.thread.place len) i) (form-leaves image s i len (next_address s.thread.place len) (form_of (next_address s.thread.place len) i))
-
--- a call of the Nucleus is a CALL of the entry's address
-pub calls-name-entries : CallsNameEntries
-calls-name-entries image s i len k is = rw is at (effect-leaves image s i len)
+effect-keeps image s i len = form-keeps image s i len (next_address s.thread.place len) (form_of (next_address s.thread.place len) i)

@@ -13,7 +13,7 @@ use Rattle.word_machine.specs.Standing.{MemoryStands, WordsStand}
 use Rattle.word_machine.specs.Following.{StandsAt, Runs, Came}
 use Rattle.nucleus_calls.specs.Nucleus.{NucleusView, NucleusStands, IsNucleus}
 use Rattle.nucleus_calls.specs.Turning.{AtInstruction, MayStep, BothStand, Stepped}
-use Rattle.nucleus_calls.proofs.KeptParts.{KeepsRest, EffectLeaves, effect-leaves}
+use Rattle.nucleus_calls.proofs.KeptParts.{KeepsRest, EffectKeeps, effect-keeps}
 use Rattle.nucleus_calls.proofs.Switched.{count-is, current-is}
 use Rattle.nucleus_calls.proofs.Led.{with_parts}
 use Rattle.nucleus_calls.proofs.Keeping.{WritesKeepLists, lists-kept}
@@ -65,13 +65,13 @@ rest-stands image live s t v ran after h keeps words = record {
 }
 
 came-stands : (image : ImageParts) (live : ℕ → Bool) (s : State) (v : NucleusView) (r : Step) (ran : Cpu) (after : MemoryView) → NucleusStands image live s v
-    → (called : Option ℕ) (o : Option EffectView) → EffectLeaves called s o → Came r ran after image live s o → Stepped r ran (with_parts v after v.stacks v.devices) image live s o
-came-stands image live s v r ran after h called None keeps came = came
-came-stands image live s v r ran after h called (Some (Moves t)) keeps (is, words) =
+    → (o : Option EffectView) → EffectKeeps s o → Came r ran after image live s o → Stepped r ran (with_parts v after v.stacks v.devices) image live s o
+came-stands image live s v r ran after h None keeps came = came
+came-stands image live s v r ran after h (Some (Moves t)) keeps (is, words) =
     (is, rest-stands image live s t v ran after h keeps words, record { turns = keeps.turns; ending = keeps.ending })
-came-stands image live s v r ran after h called (Some (Faults vector)) keeps (is, words) = (is, same-stands image live s v ran after h words)
-came-stands image live s v r ran after h called (Some (Calls k)) keeps (is, words) = (is, same-stands image live s v ran after h words)
-came-stands image live s v r ran after h called (Some Ends) keeps (is, words) = (is, same-stands image live s v ran after h words)
+came-stands image live s v r ran after h (Some (Faults vector)) keeps (is, words) = (is, same-stands image live s v ran after h words)
+came-stands image live s v r ran after h (Some (Calls k)) keeps (is, words) = (is, same-stands image live s v ran after h words)
+came-stands image live s v r ran after h (Some Ends) keeps (is, words) = (is, same-stands image live s v ran after h words)
 
 -- the instruction leads them as it leads the state
 pub step-leads : (i : Inst) (len : ℕ) (cpu : Cpu) (v : NucleusView) (r : Step) (ran : Cpu) (after : MemoryView) → OneRuns v.stacks
@@ -79,7 +79,7 @@ pub step-leads : (i : Inst) (len : ℕ) (cpu : Cpu) (v : NucleusView) (r : Step)
     → (image : ImageParts) (live : ℕ → Bool) (s : State) → AtInstruction image live s i len cpu v
     → Stepped r ran (with_parts v after v.stacks v.devices) image live s (Effect image s i len)
 step-leads i len cpu v r ran after one advances image live s h =
-    came-stands image live s v r ran after h.before.nucleus _ (Effect image s i len) (effect-leaves image s i len)
+    came-stands image live s v r ran after h.before.nucleus (Effect image s i len) (effect-keeps image s i len)
     (advances image live s (words-stand image live s i len cpu v h) (sym (current-is h.before.typed h.before.nucleus one)))
 
 -- the words still stand for some state

@@ -6,7 +6,5 @@ pub mod Nucleus
 pub mod Turning
 -- What the parts of a call do.
 pub mod Calling
--- The law of calls.
-pub mod Laws
 -- Calls of the entries that touch the heap.
 pub mod HeapEntries

@@ -11,7 +11,6 @@
 mod calls;
 mod heap_entries;
 mod journal;
-pub mod laws;
 mod nucleus;
 mod outcome;
 mod switching;
