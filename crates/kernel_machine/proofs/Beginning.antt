@@ -13,7 +13,6 @@ use Rattle.typed_safety.specs.Laws.{RunsAreTyped}
 use Rattle.word_machine.specs.Standing.{CpuStands}
 use Rattle.word_machine.specs.Following.{first_cpu}
 use Rattle.nucleus_calls.specs.Nucleus.{NucleusView, NucleusStands}
-use Rattle.kernel_machine.specs.Built.{IsBuilt}
 use Rattle.kernel_machine.specs.Machine.{Stands, Follows, Lawful}
 use Rattle.kernel_machine.specs.Stepping.{viewed}
 
@@ -32,12 +31,11 @@ unfolding first_state
 first-stands image events v nucleus = record { processor = first-cpu image; nucleus = nucleus (live_in image (first_state image)); turns = refl; ending = refl }
 
 -- it is lawful
-pub first-lawful : RunsAreTyped → (image : ImageParts) (events : List Event) (v : NucleusView) → WellTyped image → IsBuilt image → InOrder events
+pub first-lawful : RunsAreTyped → (image : ImageParts) (events : List Event) (v : NucleusView) → WellTyped image → InOrder events
     → ((live : ℕ → Bool) → NucleusStands image live (first_state image) v) → Lawful (viewed image events (first_cpu image) v 0 None) 0
 unfolding RunOf
-first-lawful law image events v w built ordered nucleus = record {
+first-lawful law image events v w ordered nucleus = record {
   well_typed = w;
-  built = built;
   state = first_state image;
   typed = (law image w events 0 [] (first_run image) refl refl).typed;
   stands = first-stands image events v nucleus;

@@ -1,13 +1,17 @@
 -- What an instruction of a turn comes to: processor and Nucleus go where the turn leads the state.
 use Rattle.std.specs.Prelude.{slice_index}
-use Rattle.std.proofs.Common.{◌≡◌, inl, ℕ, ◌≤◌, Bool, List, [], ◌++◌, Option, Some, None, refl, sym, ap, ◌∙◌, append-nil}
+use Rattle.std.proofs.Common.{◌≡◌, inl, inr, ℕ, ◌≤◌, ◌<◌, Bool, List, [], ◌++◌, Option, Some, None, slice_get, refl, sym, ap, ◌∙◌, append-nil, arith}
+use Rattle.std.proofs.lemmas.Option.{slice_get_within}
 use Rattle.ia32_code.specs.declared.instruction.Reg.TheVariants.{Eax}
 use Rattle.ia32_code.specs.declared.instruction.Inst.{Inst}
 use Rattle.ia32_step.specs.declared.cpu.Cpu.{Cpu}
 use Rattle.stack_states.specs.declared.journal_entry.Entry.{Entry}
+use Rattle.object_layout.specs.Classes.{ShapesView}
+use Rattle.tal_flow.specs.declared.calls.Arguments.{Arguments}
+use Rattle.tal_flow.specs.Calls.{nucleus_arguments}
 use Rattle.tal_flow.specs.Rules.{next_address}
+use Rattle.frame_tables.specs.FrameRows.{RowAt}
 use Rattle.tal_image.specs.Image.{ImageParts}
-use Rattle.tal_checker.specs.Running.{AcceptedRuns}
 use Rattle.typed_machine.specs.declared.ending.Ending.{Ending}
 use Rattle.typed_machine.specs.Values.{Word}
 use Rattle.typed_machine.specs.States.{State, places_of}
@@ -15,8 +19,9 @@ use Rattle.typed_machine.specs.Code.{inst_at}
 use Rattle.typed_machine.specs.Effects.{EffectView, Moves, Faults, Calls, Ends, Effect}
 use Rattle.typed_machine.specs.Placing.{Answer}
 use Rattle.typed_machine.specs.Turns.{Turned, turned, after_effect, instruction}
+use Rattle.typed_machine.specs.Reaching.{live_in}
 use Rattle.typed_machine.specs.Typing.{scope_of}
-use Rattle.typed_safety.specs.Laws.{CallTyped, EffectTyped, WellTypedImagesKeepTyping}
+use Rattle.typed_safety.specs.Laws.{CallTyped, EffectTyped, WellTypedImagesKeepTyping, CallsReply}
 use Rattle.word_machine.specs.declared.step.Step.{Step}
 use Rattle.word_machine.specs.declared.step.Step.TheVariants as step
 use Rattle.word_machine.specs.Standing.{values_at, ObjectsLie}
@@ -24,10 +29,10 @@ use Rattle.nucleus_calls.specs.declared.outcome.Leaving.{Leaving}
 use Rattle.nucleus_calls.specs.declared.outcome.Leaving.TheVariants as leaving
 use Rattle.nucleus_calls.specs.Nucleus.{NucleusView, NucleusStands}
 use Rattle.nucleus_calls.specs.Turning.{StandsBefore, SameTurn, AtInstruction, BothStand, Stepped, Leads, leaving_effect}
-use Rattle.nucleus_calls.specs.Laws.{CallsNameEntries}
-use Rattle.kernel_machine.specs.Stepping.{TurnLeads, InTurn, ending_by, MayAct}
+use Rattle.nucleus_calls.specs.HeapEntries.{AtHeapCall, LeadsAnswered}
+use Rattle.kernel_machine.specs.Stepping.{TurnLeads, InTurn, ending_by, ActsAt, MayAct}
 use Rattle.kernel_machine.proofs.NoAnswers.{TellsNone, effect-tells-none}
-use Rattle.kernel_machine.proofs.UnbuiltCalls.{built-calls-none, entry-least, entry-most}
+use Rattle.kernel_machine.proofs.AnswersTold.{heap-tells}
 
 -- ---- turns and the end are no words
 
@@ -227,23 +232,20 @@ call-typed law image live s i len k cpu v h effect =
     let typed : EffectTyped image live s (next_address s.thread.place len) (Effect image s i len) = rw (same.0, same.1) at keeps.typed in
     rw effect at typed
 
--- it is of an entry that is built
-pub record IsBuiltEntry (k : ℕ) : Type 0 where
-  pub least : 3 ≤ k
-  pub most : k ≤ 10
+-- there are no more than 11 entries
+entry-most : (k : ℕ) (arguments : Arguments) → slice_get nucleus_arguments k ≡ Some arguments → k ≤ 10
+unfolding nucleus_arguments
+entry-most k arguments there = let inside = slice_get_within nucleus_arguments k arguments there in omega (arith, inside)
 
-pub call-built : WellTypedImagesKeepTyping → AcceptedRuns → CallsNameEntries → (i : Inst) (len k : ℕ) (cpu ran : Cpu) (v after : NucleusView)
-    → ((image : ImageParts) (live : ℕ → Bool) (s : State) → AtInstruction image live s i len cpu v → Stepped (step.Calls k) ran after image live s (Effect image s i len)) → MayAct i len cpu v
-    → IsBuiltEntry k
-call-built law accepted names i len k cpu ran v after stepped (image, live, s, built, h) =
-    let (effect, both) = stepped-calls k ran after image live s (Effect image s i len) (stepped image live s h) in
-    let keeps = law image h.before.well_typed live s h.before.typed in
-    let x = keeps.placed in
-    let same = one-answer (x.inst, x.len) (i, len) (sym keeps.spelled ∙ h.here) in
-    let at = ((accepted image h.before.well_typed).spelled s.thread.place x keeps.here).address in
-    let none = rw (same.0, same.1, at) at (built-calls-none image s.thread.place x built keeps.here) in
-    let typed = call-typed law image live s i len k cpu v h effect in
-    record { least = entry-least (next_address s.thread.place len) k i none (names image s i len k effect); most = entry-most k typed.arguments typed.entry }
+-- it is of one of them
+pub call-most : WellTypedImagesKeepTyping → (i : Inst) (len k : ℕ) (shapes : ShapesView) (table : List RowAt) (cpu ran : Cpu) (v after : NucleusView)
+    → ((image : ImageParts) (live : ℕ → Bool) (s : State) → AtInstruction image live s i len cpu v → Stepped (step.Calls k) ran after image live s (Effect image s i len))
+    → MayAct i len shapes table cpu v → k ≤ 10
+call-most law i len k shapes table cpu ran v after stepped (image, s, h) =
+    let live = live_in image s in
+    let (effect, both) = stepped-calls k ran after image live s (Effect image s i len) (stepped image live s h.at) in
+    let typed = call-typed law image live s i len k cpu v h.at effect in
+    entry-most k typed.arguments typed.entry
 
 -- the processor stands at the next instruction
 next-before : (image : ImageParts) (live : ℕ → Bool) (s : State) (i : Inst) (len : ℕ) (cpu ran : Cpu) (v after : NucleusView) → AtInstruction image live s i len cpu v → BothStand image live s ran after
@@ -267,3 +269,44 @@ calls-lead law image live turn s i len k cpu stood ran v between after h now ste
     effect-leads image live turn s i len cpu ran v after h (Calls k) effect left entries more None
     (leads-on image live turn s left entries more ran after (λ answers. after_effect image answers next s (Calls k)) (effect-tells-none image left next s (Calls k)) now
     (led next (next-before image live s i len cpu stood v between h both) (call-typed law image live s i len k cpu v h effect)))
+
+-- of the heap
+pub heap-call : WellTypedImagesKeepTyping → CallsReply → (image : ImageParts) (s : State) (i : Inst) (len k : ℕ) (shapes : ShapesView) (table : List RowAt) (cpu stood : Cpu) (v between : NucleusView)
+    → ActsAt image s i len shapes table cpu v → Stepped (step.Calls k) stood between image (live_in image s) s (Effect image s i len)
+    → AtHeapCall image s (next_address s.thread.place len) k shapes table (record stood { pc = next_address stood.pc len }) between
+heap-call law replies image s i len k shapes table cpu stood v between h stepped =
+    let live = live_in image s in
+    let (effect, both) = stepped-calls k stood between image live s (Effect image s i len) stepped in
+    let next = next_address s.thread.place len in
+    let (reply, gives) = replies image h.at.before.well_typed live s h.at.before.typed next k (call-typed law image live s i len k cpu v h.at effect) in
+    record {
+      before = next-before image live s i len cpu stood v between h.at both;
+      typed = h.typed;
+      reply = reply;
+      comes = record { inst = i; len = len; here = h.at.here; calls = effect; follows = refl; gives = gives };
+      classes = h.classes;
+      rows = h.rows;
+    }
+
+pub heap-calls-lead : (image : ImageParts) (turn : ℕ) (s : State) (i : Inst) (len k : ℕ) (shapes : ShapesView) (table : List RowAt) (cpu stood ran : Cpu) (v between after : NucleusView)
+    → ActsAt image s i len shapes table cpu v → InTurn turn s → Stepped (step.Calls k) stood between image (live_in image s) s (Effect image s i len) → k < 3
+    → (left : List Answer) (entries more : List Entry) → LeadsAnswered image s (next_address s.thread.place len) k left entries more ran after
+    → TurnLeads image (live_in image s) turn left entries more ran after None (λ answers. instruction image answers s)
+heap-calls-lead image turn s i len k shapes table cpu stood ran v between after h now stepped few left entries more led =
+    let live = live_in image s in
+    let (effect, both) = stepped-calls k stood between image live s (Effect image s i len) stepped in
+    effect-leads image live turn s i len cpu ran v after h.at (Calls k) effect left entries more None (
+      led.told,
+      led.turn,
+      led.is,
+      record {
+        processor = led.stands.processor;
+        nucleus = inr led.stands.nucleus;
+        turns = sym (led.stands.same_turn.turns ∙ now.turns);
+        ending = sym (led.stands.same_turn.ending ∙ now.on);
+        entries = led.stands.entries;
+        tells = heap-tells image (next_address s.thread.place len) k s led.told left led.turn few led.is led.stands.left led.legal;
+        others = led.stands.left;
+        legal = led.legal;
+      },
+    )

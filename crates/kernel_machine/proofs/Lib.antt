@@ -1,7 +1,7 @@
 pub mod Cells
-pub mod UnbuiltCalls
 pub mod EventsCome
 pub mod NoAnswers
+pub mod AnswersTold
 pub mod MoreAnswers
 pub mod Showing
 pub mod Beginning

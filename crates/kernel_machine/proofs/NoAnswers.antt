@@ -55,14 +55,14 @@ reply-tells-none image answers next k s (Some (Allocates shape)) replies collect
 reply-tells-none image answers next k s (Some Collects) replies collects = λ same. (refl, rw (call-tells-none k (free_words image (Roots image next s) s) (collects refl)) refl)
 
 -- what entries 0 and 1 come to is an allocation
-object-allocates : (s : State) (r : ReplyView) → alloc_object s ≡ Some r → (shape : ObjectShape) × (r ≡ Allocates shape)
+pub object-allocates : (s : State) (r : ReplyView) → alloc_object s ≡ Some r → (shape : ObjectShape) × (r ≡ Allocates shape)
 object-allocates s r e = go (class_asked (s.thread.regs Eax)) e
   where
     go : (o : Option ObjectShape) → option_map Allocates o ≡ Some r → (shape : ObjectShape) × (r ≡ Allocates shape)
     go None f = absurd (cc)
     go (Some shape) f = (shape, cc)
 
-array-allocates : (s : State) (r : ReplyView) → alloc_array s ≡ Some r → (shape : ObjectShape) × (r ≡ Allocates shape)
+pub array-allocates : (s : State) (r : ReplyView) → alloc_array s ≡ Some r → (shape : ObjectShape) × (r ≡ Allocates shape)
 array-allocates s r e = go (array_asked (s.thread.regs Eax) (s.thread.regs Ecx)) e
   where
     go : (o : Option ObjectShape) → option_map Allocates o ≡ Some r → (shape : ObjectShape) × (r ≡ Allocates shape)

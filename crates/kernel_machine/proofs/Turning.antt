@@ -7,11 +7,15 @@ use Rattle.ia32_code.specs.declared.instruction.Inst.{Inst}
 use Rattle.ia32_code.specs.Decoding.{decoded, instruction_of}
 use Rattle.ia32_step.specs.declared.cpu.Cpu.{Cpu}
 use Rattle.object_layout.specs.Areas.{code_start}
+use Rattle.object_layout.specs.Classes.{ShapesView}
 use Rattle.device_model.specs.declared.events.Event.{Event}
 use Rattle.device_model.specs.History.{History}
 use Rattle.device_model.specs.Devices.{after_events}
 use Rattle.stack_states.specs.declared.journal_entry.Entry.{Entry}
+use Rattle.frame_tables.specs.FrameRows.{RowAt}
 use Rattle.tal_image.specs.Image.{ImageParts}
+use Rattle.tal_image.specs.Shown.{shown}
+use Rattle.tal_checker.specs.Frames.{frames_of}
 use Rattle.tal_checker.specs.WellTyped.{WellTyped}
 use Rattle.tal_checker.specs.Running.{AcceptedRuns}
 use Rattle.typed_machine.specs.declared.ending.Ending.{Ending}
@@ -20,15 +24,14 @@ use Rattle.typed_machine.specs.States.{State}
 use Rattle.typed_machine.specs.Code.{inst_at}
 use Rattle.typed_machine.specs.Placing.{Answer}
 use Rattle.typed_machine.specs.Turns.{Turned, begun, events_of, line_granted, interrupted, instruction, interrupt_or, TurnOf, Run, continued, RunOf}
-use Rattle.typed_machine.specs.Reaching.{live_in}
+use Rattle.typed_machine.specs.Reaching.{Held, live_in}
 use Rattle.typed_machine.specs.Typing.{TypedAmong, Typed}
 use Rattle.typed_safety.specs.Laws.{WellTypedImagesKeepTyping, RunsAreTyped}
 use Rattle.word_machine.specs.Laws.{StandingFalls}
 use Rattle.nucleus_calls.specs.Nucleus.{NucleusView, NucleusStands}
-use Rattle.nucleus_calls.specs.Turning.{StandsBefore, AtInstruction, Leads}
-use Rattle.kernel_machine.specs.Built.{IsBuilt}
+use Rattle.nucleus_calls.specs.Turning.{StandsBefore, Leads}
 use Rattle.kernel_machine.specs.Machine.{MachineView, Stands, Follows, ComesNext, Lawful, answers_of}
-use Rattle.kernel_machine.specs.Stepping.{viewed, HasCome, TurnLeads, InTurn, MayAct, TakesTurn, TurnLaws}
+use Rattle.kernel_machine.specs.Stepping.{viewed, HasCome, TurnLeads, InTurn, ActsAt, MayAct, TakesTurn, TurnLaws}
 use Rattle.kernel_machine.proofs.EffectsLead.{nucleus-retold, leads-on}
 use Rattle.kernel_machine.proofs.NoAnswers.{interrupt-tells-none, answers-append}
 use Rattle.kernel_machine.proofs.MoreAnswers.{run_extended, run-extends}
@@ -64,6 +67,11 @@ typed-retold : (image : ImageParts) (live : ℕ → Bool) (s : State) (devices :
 typed-retold image live s devices turns ending h =
     record { thread = h.thread; others = h.others; one = h.one; only = h.only; kernel = h.kernel; count = h.count; statics = h.statics; store = h.store }
 
+-- nor are they reached
+begun-lives : (image : ImageParts) (events : List Event) (s : State) → live_in image (begun events s) ≡ live_in image s
+unfolding live_in Held
+begun-lives image events s = refl
+
 -- what the code's proofs know of a machine that has not ended, once the events of its turn have come
 pub record Begun (image : ImageParts) (events : List Event) (cpu : Cpu) (v come : NucleusView) (turns : ℕ) (ending : Option Ending) (index : ℕ) : Type 0 where
   pub laws : TurnLaws
@@ -98,16 +106,24 @@ module _ {image : ImageParts} {events : List Event} {cpu : Cpu} {v come : Nucleu
   begun-now : (s : State) → Stands (viewed image events cpu v turns ending) s → InTurn (turns + 1) (begun events s)
   begun-now s stands = record { turns = ap (λ n. n + 1) (sym stands.turns); on = sym stands.ending ∙ h.on }
 
-  -- the instruction of the processor's place stands at it
-  begun-at : (i : Inst) (len : ℕ) → inst_at image cpu.pc ≡ Some (i, len) → (s : State) → Typed image s → Stands (viewed image events cpu v turns ending) s
-      → AtInstruction image (live_in image s) (begun events s) i len cpu come
-  begun-at i len here s typed stands = record { before = begun-before s typed stands; here = rw stands.processor.place at here }
+  -- the instruction of the processor's place acts at it
+  begun-acts : (i : Inst) (len : ℕ) → inst_at image cpu.pc ≡ Some (i, len) → (shapes : ShapesView) (table : List RowAt) → shapes ≡ (shown image).shapes → table ≡ frames_of image
+      → (s : State) → Typed image s → Stands (viewed image events cpu v turns ending) s → ActsAt image (begun events s) i len shapes table cpu come
+  begun-acts i len here shapes table classes rows s typed stands =
+      let lives = begun-lives image events s in
+      record {
+        at = rw lives (record { before = begun-before s typed stands; here = rw stands.processor.place at here });
+        typed = record { among = typed-retold image all_objects s _ _ s.ending typed.among; heap = rw lives typed.heap };
+        classes = classes;
+        rows = rows;
+      }
 
   -- the instruction may act
-  pub may-act : (i : Inst) (len : ℕ) → inst_at image cpu.pc ≡ Some (i, len) → MayAct i len cpu come
-  may-act i len here =
+  pub may-act : (i : Inst) (len : ℕ) → inst_at image cpu.pc ≡ Some (i, len) → (shapes : ShapesView) (table : List RowAt) → shapes ≡ (shown image).shapes → table ≡ frames_of image
+      → MayAct i len shapes table cpu come
+  may-act i len here shapes table classes rows =
       let s = h.lawful.state in
-      (image, live_in image s, begun events s, h.lawful.built, begun-at i len here s h.lawful.typed h.lawful.stands)
+      (image, begun events s, begun-acts i len here shapes table classes rows s h.lawful.typed h.lawful.stands)
 
   -- what `accept` tells of the line that is granted
   abbrev pub Grants : Bool → Type 0
@@ -138,25 +154,28 @@ module _ {image : ImageParts} {events : List Event} {cpu : Cpu} {v come : Nucleu
           (led image live s before now.turns n line left))
 
   -- none is, and the instruction has its effect
-  pub act-takes : Grants false → (i : Inst) (len : ℕ) → inst_at image cpu.pc ≡ Some (i, len) → (entries more : List Entry) (ran : Cpu) (after : NucleusView) (end : Option Ending)
-      → ((image : ImageParts) (live : ℕ → Bool) (s : State) → IsBuilt image → AtInstruction image live s i len cpu come → InTurn (turns + 1) s → (left : List Answer)
-      → TurnLeads image live (turns + 1) left entries more ran after end (λ answers. instruction image answers s))
+  pub act-takes : Grants false → (i : Inst) (len : ℕ) → inst_at image cpu.pc ≡ Some (i, len) → (shapes : ShapesView) (table : List RowAt)
+      → shapes ≡ (shown image).shapes → table ≡ frames_of image → (entries more : List Entry) (ran : Cpu) (after : NucleusView) (end : Option Ending)
+      → ((image : ImageParts) (s : State) → ActsAt image s i len shapes table cpu come → InTurn (turns + 1) s → (left : List Answer)
+      → TurnLeads image (live_in image s) (turns + 1) left entries more ran after end (λ answers. instruction image answers s))
       → TakesTurn (viewed image events cpu v turns ending) (viewed image events ran after (turns + 1) end) entries more
   unfolding TurnOf
-  act-takes grants i len here entries more ran after end led = record {
+  act-takes grants i len here shapes table classes rows entries more ran after end led = record {
     image = refl;
     events = refl;
     turns = refl;
     leads = λ s typed stands left.
-        let before = begun-before s typed stands in
-        go (live_in image s) (begun events s) left (begun-at i len here s typed stands) (begun-now s stands) (line_granted (begun events s))
-        (grants image (live_in image s) (begun events s) before.typed before.nucleus);
+        let acts = begun-acts i len here shapes table classes rows s typed stands in
+        rw (begun-lives image events s) at
+        (go (begun events s) left acts (begun-now s stands) (line_granted (begun events s))
+        (grants image (live_in image (begun events s)) (begun events s) acts.at.before.typed acts.at.before.nucleus));
   }
     where
-      go : (live : ℕ → Bool) (s : State) (left : List Answer) → AtInstruction image live s i len cpu come → InTurn (turns + 1) s
-          → (o : Option ℕ) → false ≡ is_some o → TurnLeads image live (turns + 1) left entries more ran after end (λ answers. interrupt_or image answers s o)
-      go live s left at now None granted = led image live s h.lawful.built at now left
-      go live s left at now (Some n) granted = absurd (cc)
+      go : (s : State) (left : List Answer) → ActsAt image s i len shapes table cpu come → InTurn (turns + 1) s
+          → (o : Option ℕ) → false ≡ is_some o
+          → TurnLeads image (live_in image s) (turns + 1) left entries more ran after end (λ answers. interrupt_or image answers s o)
+      go s left acts now None granted = led image s acts now left
+      go s left acts now (Some n) granted = absurd (cc)
 
 -- ---- after a turn
 
@@ -225,7 +244,6 @@ turn-lawful laws before after entries more index next h takes comes =
     let t = turn-comes-to laws before after entries more h.well_typed takes h.state h.typed h.stands [] in
     record {
       well_typed = rw takes.image h.well_typed;
-      built = rw takes.image h.built;
       state = t.comes_to.state;
       typed = t.typed;
       stands = t.stands;

@@ -9,7 +9,7 @@ invariant_of-result c =
     let place : c.entry_place-pc.result ≡ entry_place c.args.checked.image 0 = search rules in
     let nucleus : (live : ℕ → Bool) → NucleusStands c.args.checked.image live (first_state c.args.checked.image) c.in_ok-nucleus.nucleus =
     rw c.image-image.ensures.value at c.in_ok-nucleus.ensures in
-    rw place (first-lawful c.runs_are_typed.ensures _ _ c.in_ok-nucleus.nucleus c.image-image.ensures.typed c.requires.built c.requires.ordered nucleus)
+    rw place (first-lawful c.runs_are_typed.ensures _ _ c.in_ok-nucleus.nucleus c.image-image.ensures.typed c.requires.ordered nucleus)
 
 pub returns-clause-follows : goal.returns-clause-follows
 returns-clause-follows c =

@@ -19,23 +19,23 @@ inst_in-inst-requires-clause-low c =
 
 pub inst_in-inst-requires-clause-inside : goal.inst_in-inst-requires-clause-inside
 inst_in-inst-requires-clause-inside c =
-    rw ((c.if-accept.ensures.none refl).1, c.image.ensures.value) (inst-here c.well_typed_images_keep_typing.ensures c.accepted_runs.ensures _ _ c.self.invariant).inside
+    rw ((c.if-accept.ensures.none refl).1, c.image-image.ensures.value) (inst-here c.well_typed_images_keep_typing.ensures c.accepted_runs.ensures _ _ c.self.invariant).inside
 
 pub inst_in-inst-requires-clause-whole : goal.inst_in-inst-requires-clause-whole
 inst_in-inst-requires-clause-whole c =
-    rw ((c.if-accept.ensures.none refl).1, c.image.ensures.value) (inst-here c.well_typed_images_keep_typing.ensures c.accepted_runs.ensures _ _ c.self.invariant).whole
+    rw ((c.if-accept.ensures.none refl).1, c.image-image.ensures.value) (inst-here c.well_typed_images_keep_typing.ensures c.accepted_runs.ensures _ _ c.self.invariant).whole
 
 pub act-self-inside-requires-clause-acts : goal.act-self-inside-requires-clause-acts
 act-self-inside-requires-clause-acts c =
     let begun = begun-turn c.turns_lawful.ensures c.self.invariant (ap (λ v. v.ending) c.self.view_is ∙ c.requires.on) (rw c.deref.ensures.value at c.enter_events-self-inside.ensures.come) in
     let none = c.if-accept.ensures.none refl in
-    rw (none.0, none.1) (may-act begun _ _ (rw (none.1, c.image.ensures.value) at c.inst_in-inst.ensures.here))
+    rw (none.0, none.1) (may-act begun _ _ (rw (none.1, c.image-image.ensures.value) at c.inst_in-inst.ensures.here) _ _ (rw c.image-image.ensures.value at c.shapes.ensures.value) (c.frames.ensures.value ∙ c.frames.ensures.rows))
 
 pub returns-clause-takes : goal.returns-clause-takes
 returns-clause-takes c =
     let begun = begun-turn c.turns_lawful.ensures c.self.invariant (ap (λ v. v.ending) c.self.view_is ∙ c.requires.on) (rw c.deref.ensures.value at c.enter_events-self-inside.ensures.come) in
     let none = c.if-accept.ensures.none refl in
-    rw (← c.self.view_is) (act-takes begun c.if-accept.ensures.grants _ _ (rw (none.1, c.image.ensures.value) at c.inst_in-inst.ensures.here) _ _ _ _ _
+    rw (← c.self.view_is) (act-takes begun c.if-accept.ensures.grants _ _ (rw (none.1, c.image-image.ensures.value) at c.inst_in-inst.ensures.here) _ _ (rw c.image-image.ensures.value at c.shapes.ensures.value) (c.frames.ensures.value ∙ c.frames.ensures.rows) _ _ _ _ _
     (rw (none.0, none.1, none.2) at c.act-self-inside.ensures.turn))
 
 pub invariant_of-self-2 : goal.invariant_of-self-2
@@ -43,6 +43,6 @@ invariant_of-self-2 c =
     let begun = begun-turn c.turns_lawful.ensures c.self.invariant (ap (λ v. v.ending) c.self.view_is ∙ c.requires.on) (rw c.deref.ensures.value at c.enter_events-self-inside.ensures.come) in
     let none = c.if-accept.ensures.none refl in
     turn-lawful c.turns_lawful.ensures _ _ _ _ _ _ c.self.invariant
-    (act-takes begun c.if-accept.ensures.grants _ _ (rw (none.1, c.image.ensures.value) at c.inst_in-inst.ensures.here) _ _ _ _ _
+    (act-takes begun c.if-accept.ensures.grants _ _ (rw (none.1, c.image-image.ensures.value) at c.inst_in-inst.ensures.here) _ _ (rw c.image-image.ensures.value at c.shapes.ensures.value) (c.frames.ensures.value ∙ c.frames.ensures.rows) _ _ _ _ _
     (rw (none.0, none.1, none.2) at c.act-self-inside.ensures.turn))
     (rw c.deref.ensures.value at c.enter_events-self-inside.ensures.next)
