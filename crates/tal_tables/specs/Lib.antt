@@ -2,3 +2,5 @@
 pub mod Rows
 -- What the code keeps, and what it does with a line.
 pub mod Kept
+-- What the tables keep.
+pub mod Formed
