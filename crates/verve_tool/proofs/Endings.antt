@@ -1,18 +1,16 @@
 -- How a command ends, from what its parts did.
 use Rattle.std.specs.Prelude.{Option, Some, None, Result, Ok, Err, IsErrAnd}
-use Rattle.std.proofs.Common.{◌≡◌, ◌≤◌, ◌<◌, ℕ, List, [], ◌++◌, inl, inr, refl, sym, ◌∙◌, ap, subst, arith, codes}
+use Rattle.std.proofs.Common.{◌≡◌, ◌≤◌, ◌<◌, ℕ, List, [], inl, inr, refl, sym, ◌∙◌, ap, subst, arith}
 use Rattle.tal_checker.specs.WellTyped.{WellTyped}
-use Rattle.typed_machine.specs.Turns.{Run as RunView}
 use Rattle.typed_machine.specs.declared.ending.Ending.{Ending}
 use Rattle.stack_states.specs.declared.journal_entry.Entry.{Entry}
-use Rattle.run_report.specs.Report.{ReportText}
-use Rattle.run_report.specs.JournalLines.{JournalText}
 use Rattle.run_report.specs.declared.run_end.RunEnd.{RunEnd}
 use Rattle.run_report.specs.declared.run_end.RunEnd.TheVariants as run_end
 use Rattle.kernel_machine.specs.Machine.{MachineView, shown_by, Follows, run_answer}
 use Rattle.kernel_machine.specs.Laws.{MachinesShowTheirRuns}
-use Rattle.verve_tool.specs.Commands.{Request, Run, Journal, command_form}
-use Rattle.verve_tool.specs.Runs.{RunWords, IsOver, RanWithin, Ran, report_of, journal_of, status_at}
+use Rattle.verve_tool.specs.Commands.{Request, Run, command_form}
+use Rattle.verve_tool.specs.Runs.{RunWords, IsOver, run_text, text_of, status_at}
+use Rattle.verve_tool.specs.declared.words.RunText.{RunText}
 use Rattle.verve_tool.specs.Forms.{Unrun}
 use Rattle.verve_tool.specs.Seen.{FilesSeen, SinkSeen, Call, OnlyReads, OnlyPuts, Leaves}
 use Rattle.verve_tool.specs.Outcome.{Ends, finished, unwritten, unread, stopped, wanting, Idle}
@@ -116,30 +114,19 @@ over : (turns : ℕ) (m : MachineView) → (run_answer m.ending ≡ run_end.Turn
 over turns m all None is = inl (all (ap (λ o. run_answer o) is))
 over turns m all (Some e) is = inr (rw is refl)
 
--- the report that was told is that of the typed machine's run
-report_is : MachinesShowTheirRuns → (entries : List Entry) (m : MachineView) → WellTyped m.image → (e : RunEnd) (f : Follows m entries) → e ≡ run_answer m.ending
-    → ReportText (shown_by m) e m.turns ≡ report_of f.run
-report_is law entries m w e f end =
-    ap (λ (x : RunEnd). ReportText (shown_by m) x m.turns) end ∙ ap (λ words. ReportText words (run_answer m.ending) m.turns) (law m entries w f)
-    ∙ rw (f.stands.ending, f.stands.turns) refl
+-- what is told of the machine is told of the typed machine's run
+text_is : MachinesShowTheirRuns → (kind : RunText) (entries : List Entry) (m : MachineView) → WellTyped m.image → (e : RunEnd) (f : Follows m entries)
+    → e ≡ run_answer m.ending → run_text kind (shown_by m) e m.turns entries ≡ text_of kind f.run
+text_is law kind entries m w e f end = rw (end, law m entries w f, f.stands.ending, f.stands.turns, f.entries_are) refl
 
--- a run that was made, and of which this text was told
-did_tell : (tells : RunView → List ℕ) (run : RunWords) (c : Call) (e : RunEnd) (made : Made run c.files.told c.kept c.entries e) (text : List ℕ)
-    → e ≡ run_answer made.ran.machine.ending → text ≡ tells made.ran.follows.run → Ran tells run c (status_at e) text
-did_tell tells run c e made text end is =
-    let done = over run.turns made.ran.machine (λ h. made.all (end ∙ h)) made.ran.machine.ending refl in
-    (made.ran, done, ap status_at (end ∙ ap (λ o. run_answer o) made.ran.follows.stands.ending), is)
-
-pub acted_report : MachinesShowTheirRuns → (c : Call) (run : RunWords) (e : RunEnd) (made : Made run c.files.told c.kept c.entries e) (text : List ℕ)
-    (r : Result Status Stop) → e ≡ run_answer made.ran.machine.ending → text ≡ ReportText (shown_by made.ran.machine) e made.ran.machine.turns
-    → IsPut c.out c.out_after text (status_at e) r → OnlyReads c.files c.files_after ⊥ → OnlyPuts c.out c.out_after (IsErrAnd r (λ s. s ≡ Write)) → Acted (Run run) c r
-acted_report law c run e made text r end is put reads puts = acted_put c (Run run) (status_at e) text r refl
-    (did_tell report_of run c e made text end (is ∙ report_is law c.entries made.ran.machine made.ran.loaded.typed.well_typed e made.ran.follows end)) put reads puts
-
-pub acted_journal : MachinesShowTheirRuns → (c : Call) (run : RunWords) (e : RunEnd) (made : Made run c.files.told c.kept c.entries e) (report text : List ℕ)
-    (r : Result Status Stop) → e ≡ run_answer made.ran.machine.ending → report ≡ ReportText (shown_by made.ran.machine) e made.ran.machine.turns
-    → text ≡ report ++ codes "journal\n" ++ JournalText c.entries
-    → IsPut c.out c.out_after text (status_at e) r → OnlyReads c.files c.files_after ⊥ → OnlyPuts c.out c.out_after (IsErrAnd r (λ s. s ≡ Write)) → Acted (Journal run) c r
-acted_journal law c run e made report text r end is told put reads puts = acted_put c (Journal run) (status_at e) text r refl
-    (did_tell journal_of run c e made text end
-    (told ∙ rw (is ∙ report_is law c.entries made.ran.machine made.ran.loaded.typed.well_typed e made.ran.follows end, made.ran.follows.entries_are) refl)) put reads puts
+-- a run was made, and its text was put
+pub acted_run : MachinesShowTheirRuns → (c : Call) (kind : RunText) (run : RunWords) (e : RunEnd) (made : Made run c.files.told c.kept c.entries e) (text : List ℕ)
+    (r : Result Status Stop) → e ≡ run_answer made.ran.machine.ending → text ≡ run_text kind (shown_by made.ran.machine) e made.ran.machine.turns c.entries
+    → IsPut c.out c.out_after text (status_at e) r → OnlyReads c.files c.files_after ⊥ → OnlyPuts c.out c.out_after (IsErrAnd r (λ s. s ≡ Write))
+    → Acted (Run kind run) c r
+acted_run law c kind run e made text r end is put reads puts =
+    let m = made.ran.machine in
+    let done = over run.turns m (λ h. made.all (end ∙ h)) m.ending refl in
+    let status = ap status_at (end ∙ ap (λ o. run_answer o) made.ran.follows.stands.ending) in
+    let told = is ∙ text_is law kind c.entries m made.ran.loaded.typed.well_typed e made.ran.follows end in
+    acted_put c (Run kind run) (status_at e) text r refl (made.ran, done, status, told) put reads puts

@@ -7,8 +7,10 @@ use Rattle.std.proofs.lemmas.Fmt.{decimal_injective}
 use Rattle.outside.specs.FileMaps.{FileMap}
 use Rattle.outside.specs.Faults.{Faulted, Quiet}
 use Rattle.tal_image.specs.Image.{ImageParts}
-use Rattle.verve_tool.specs.Commands.{Request, Check, Listing, Run, Journal, command_form, WordsOf, NoCommand, NothingStops}
-use Rattle.verve_tool.specs.Runs.{RunWords}
+use Rattle.verve_tool.specs.Commands.{Request, Check, Listing, Run, command_form, WordsOf, NoCommand, NothingStops}
+use Rattle.verve_tool.specs.Runs.{RunWords, AllowsRun, word_of, turns_most}
+use Rattle.verve_tool.specs.declared.words.RunText.{RunText}
+use Rattle.verve_tool.specs.declared.words.RunText.TheVariants.{Report, Journal}
 use Rattle.verve_tool.specs.Causes.{Cause, Missing, IsFirstCause, NoneHolds, OneCause, TypedImage, status_of}
 use Rattle.verve_tool.specs.Forms.{PartWritten, WritesQuietly}
 use Rattle.verve_tool.specs.Seen.{Call, Leaves}
@@ -32,14 +34,26 @@ same_run w a b few fewer e =
     let turns = decimal_injective a.turns b.turns few fewer parts.2 in
     λ i. record { image = parts.0 i; events = parts.1 i; turns = turns i }
 
+-- a word tells what is told of a run
+same_kind : (k m : RunText) → word_of k ≡ word_of m → k ≡ m
+same_kind Report Report h = refl
+same_kind Journal Journal h = refl
+same_kind k m h = absurd (cc h)
+
+-- a run takes few turns
+few_turns : (k : RunText) (run : RunWords) → AllowsRun (turns_most k) run → run.turns < 2 ^ 64
+few_turns Report run a = omega (arith, a.not_too_many)
+few_turns Journal run a = omega (arith, a.not_too_many)
+
 -- words are one command
 same_request : (words : List (String Global)) (a b : Request) → WordsOf words a → WordsOf words b → a ≡ b
 same_request words (Check a) (Check b) p q = ap (λ (n : List ℕ). Check n) (same_names _ a b (sym p.spelled ∙ q.spelled))
 same_request words (Listing a) (Listing b) p q = ap (λ (n : List ℕ). Listing n) (same_names _ a b (sym p.spelled ∙ q.spelled))
-same_request words (Run a) (Run b) p q =
-    ap (λ (r : RunWords). Run r) (same_run _ a b (omega (arith, p.allowed.not_too_many)) (omega (arith, q.allowed.not_too_many)) (sym p.spelled ∙ q.spelled))
-same_request words (Journal a) (Journal b) p q =
-    ap (λ (r : RunWords). Journal r) (same_run _ a b (omega (arith, p.allowed.not_too_many)) (omega (arith, q.allowed.not_too_many)) (sym p.spelled ∙ q.spelled))
+same_request words (Run k a) (Run m b) p q =
+    let spelled = sym p.spelled ∙ q.spelled in
+    let same : k ≡ m = same_kind k m (cc spelled) in
+    let run = same_run (word_of k) a b (few_turns k a p.allowed) (few_turns m b q.allowed) (spelled ∙ rw same refl) in
+    rw (same, run) refl
 same_request words a b p q = absurd (cc (sym p.spelled ∙ q.spelled))
 
 -- the words of a command ended as that command

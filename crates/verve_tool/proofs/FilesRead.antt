@@ -16,18 +16,17 @@ use Rattle.file_fields.specs.declared.fault.ImageFault.TheVariants as fault
 use Rattle.tal_checker.specs.WellTyped.{FirstRefusal, OneRefusal}
 use Rattle.tal_checker.specs.declared.answer.CheckAnswer.{CheckAnswer}
 use Rattle.tal_checker.specs.declared.answer.CheckAnswer.TheVariants as answer
-use Rattle.kernel_machine.specs.Built.{first_unbuilt_call, IsBuilt}
 use Rattle.verve_tool.specs.Checks.{a_check}
 use Rattle.verve_tool.specs.Listings.{a_listing}
-use Rattle.verve_tool.specs.Commands.{Check, Listing, Run, Journal, NothingStops}
+use Rattle.verve_tool.specs.Commands.{Check, Listing, Run, NothingStops}
 use Rattle.verve_tool.specs.Runs.{RunWords, run_causes, HoldsEvents, Loaded}
-use Rattle.verve_tool.specs.Causes.{Cause, Missing, Long, Malformed, IllTyped, Unbuilt, BadEvents, Holds, CauseFails, NoneHolds, FileRead, HoldsImage, TypedImage, code_byte, status_of as status_of_cause}
+use Rattle.verve_tool.specs.Causes.{Cause, Missing, Long, Malformed, IllTyped, BadEvents, Holds, CauseFails, NoneHolds, FileRead, HoldsImage, TypedImage, status_of as status_of_cause}
 use Rattle.verve_tool.specs.Seen.{FilesSeen}
 use Rattle.verve_tool.specs.Stops.{StopsBy, StopsAt, TellsFirst, status_of, line_of}
 use Rattle.verve_tool.proofs.CauseLists.{stops_between, stops_by_bytes}
 use Rattle.verve_tool.specs.declared.load.TheConstants.{IMAGE_MOST, EVENTS_MOST}
 use Rattle.verve_tool.specs.declared.stop.Stop.{Stop}
-use Rattle.verve_tool.specs.declared.stop.Stop.TheVariants.{Image, NotAccepted, NucleusCall, Events}
+use Rattle.verve_tool.specs.declared.stop.Stop.TheVariants.{Image, NotAccepted, Events}
 
 -- a file has one front of a length
 one_front : (o : Option (List ℕ)) (n : ℕ) (a b : List ℕ) → IsSomeAnd o (λ whole. a ≡ take n whole) → IsSomeAnd o (λ whole. b ≡ take n whole) → a ≡ b
@@ -80,17 +79,6 @@ not_ill_typed meaning refusal None name image t = tt
 not_ill_typed meaning refusal (Some files) name image t = λ line h. refusal.not_typed image h.0 h.1
     (subst (λ (i : ImageParts). FirstRefusal i h.0 h.1) (same_image meaning files name h.2.image image h.2.held t.held) h.2.refusal) t.well_typed
 
--- there is a first call, or none
-one-call : (first : Option ℕ) (offset : ℕ) → first ≡ None → first ≡ Some offset → ⊥
-one-call first offset none some = cc
-
--- an image whose calls are built is not unbuilt
-not_unbuilt : OneImageMeaning → (told : Option FileMap) (name : List ℕ) (image : ImageParts) → TypedImage told name image → IsBuilt image
-    → CauseFails told (Unbuilt name)
-not_unbuilt meaning None name image t built = tt
-not_unbuilt meaning (Some files) name image t built = λ line h. one-call (first_unbuilt_call image) h.1.offset built
-    (subst (λ (i : ImageParts). first_unbuilt_call i ≡ Some h.1.offset) (same_image meaning files name h.1.image image h.1.typed.held t.held) h.1.first)
-
 -- an event file for which a list stands has no fault
 not_bad_events : ListOrFault → (told : Option FileMap) (name : List ℕ) (events : List Event) → HoldsEvents told name events → CauseFails told (BadEvents name)
 not_bad_events either None name events held = tt
@@ -105,9 +93,8 @@ loaded_stops_none meaning refusal either told run image events l =
     let b = read_stops_none told run.events EVENTS_MOST l.recorded.bytes l.recorded.file in
     let m = not_malformed meaning told run.image image l.typed.held in
     let t = not_ill_typed meaning refusal told run.image image l.typed in
-    let u = not_unbuilt meaning told run.image image l.typed l.built in
     let e = not_bad_events either told run.events events l.recorded in
-    (a.0, (a.1.0, (b.0, (b.1.0, (m, (t, (u, (e, tt))))))))
+    (a.0, (a.1.0, (b.0, (b.1.0, (m, (t, (e, tt)))))))
 
 -- nothing stops a command that did its work
 pub nothing_stops : OneImageMeaning → OneRefusal → ListOrFault → NothingStops
@@ -117,9 +104,7 @@ nothing_stops meaning refusal either c (Check name) s text d =
 nothing_stops meaning refusal either c (Listing name) s text d =
     let a = read_stops_none c.files.told name IMAGE_MOST d.1.bytes d.1.file in
     (a.0, (a.1.0, (not_malformed meaning c.files.told name d.0 d.1, tt)))
-nothing_stops meaning refusal either c (Run run) s text d =
-    loaded_stops_none meaning refusal either c.files.told run d.0.machine.image d.0.machine.events d.0.loaded
-nothing_stops meaning refusal either c (Journal run) s text d =
+nothing_stops meaning refusal either c (Run kind run) s text d =
     loaded_stops_none meaning refusal either c.files.told run d.0.machine.image d.0.machine.events d.0.loaded
 
 -- ---- what stops a command
@@ -128,10 +113,6 @@ nothing_stops meaning refusal either c (Journal run) s text d =
 first_of_one : (told : Option FileMap) (cause : Cause) (rest : List Cause) (s : Stop) → Holds told cause (line_of s) → status_of s ≡ status_of_cause cause
     → TellsFirst told (cause ∷ rest) s
 first_of_one told cause rest s holds is = record { cause = cause; first = record { comes = inl refl; holds = holds }; status = is }
-
-first_of_two : (told : Option FileMap) (before cause : Cause) (s : Stop) → CauseFails told before → Holds told cause (line_of s) → status_of s ≡ status_of_cause cause
-    → TellsFirst told (before ∷ cause ∷ []) s
-first_of_two told before cause s fails holds is = record { cause = cause; first = record { comes = inr (fails, inl refl); holds = holds }; status = is }
 
 -- a fault of the image file
 pub fault_stops : (told : Option FileMap) (name : Bor (List ℕ)) (bytes : List ℕ) (f : ImageFault) → FileRead told name.now IMAGE_MOST bytes
@@ -148,19 +129,11 @@ answer_stops told name image answer.NoMemory held refused = inl (record { status
 answer_stops told name image (answer.Refused address rule) held refused = inr (first_of_one told (IllTyped name) [] _
     (address, rule, record { image = image; held = held; refusal = refused address rule refl }, refl) refl)
 
--- a call of an entry that is not built
-pub call_stops : (told : Option FileMap) (name events : Bor (List ℕ)) (image : ImageParts) (offset at : ℕ) → TypedImage told name.now image
-    → first_unbuilt_call image ≡ Some offset → at ≡ code_byte image + offset → StopsBy told (Unbuilt name.now ∷ BadEvents events.now ∷ []) (NucleusCall name at)
-call_stops told name events image offset at typed first byte = inr (first_of_one told (Unbuilt name.now) _ (NucleusCall name at)
-    (at, record { image = image; typed = typed; offset = offset; first = first; byte = byte }, refl) refl)
-
 -- a fault of the event file
-pub event_fault_stops : OneImageMeaning → (told : Option FileMap) (name events : List ℕ) (image : ImageParts) (bytes : List ℕ) (f : EventFault)
-    → TypedImage told name image → IsBuilt image → FileRead told events EVENTS_MOST bytes → IsFirstFault bytes f
-    → StopsBy told (Unbuilt name ∷ BadEvents events ∷ []) (Events f)
-event_fault_stops meaning told name events image bytes event_fault.NoMemory typed built file first = inl (record { status = refl; line = refl })
-event_fault_stops meaning told name events image bytes f typed built file first =
-    inr (first_of_two told (Unbuilt name) (BadEvents events) (Events f) (not_unbuilt meaning told name image typed built)
+event_fault_stops : (told : Option FileMap) (events bytes : List ℕ) (f : EventFault) → FileRead told events EVENTS_MOST bytes → IsFirstFault bytes f
+    → StopsBy told (BadEvents events ∷ []) (Events f)
+event_fault_stops told events bytes event_fault.NoMemory file first = inl (record { status = refl; line = refl })
+event_fault_stops told events bytes f file first = inr (first_of_one told (BadEvents events) [] (Events f)
     (f, record { bytes = bytes; file = file; first = first; real = λ e. cc e }, refl) refl)
 
 -- ---- steps of a command, one after another
@@ -198,7 +171,7 @@ image_stops_run before after run image_bytes event_bytes s image_file event_file
     let a = read_stops_none before.told run.image IMAGE_MOST image_bytes image_file in
     let b = read_stops_none before.told run.events EVENTS_MOST event_bytes event_file in
     stops_between before after (Missing run.image ∷ Long run.image IMAGE_MOST ∷ Missing run.events ∷ Long run.events EVENTS_MOST ∷ [])
-    (Malformed run.image ∷ []) (IllTyped run.image ∷ Unbuilt run.image ∷ BadEvents run.events ∷ []) s
+    (Malformed run.image ∷ []) (IllTyped run.image ∷ BadEvents run.events ∷ []) s
     (a.0, (a.1.0, b)) (stops_by_bytes before after (Malformed run.image ∷ []) s h)
 
 -- its image does
@@ -210,19 +183,20 @@ check_stops_run meaning before after run event_bytes image s held event_file h =
     let b = read_stops_none before.told run.events EVENTS_MOST event_bytes event_file in
     let m = not_malformed meaning before.told run.image image held in
     stops_between before after (Missing run.image ∷ Long run.image IMAGE_MOST ∷ Missing run.events ∷ Long run.events EVENTS_MOST ∷ Malformed run.image ∷ [])
-    (IllTyped run.image ∷ []) (Unbuilt run.image ∷ BadEvents run.events ∷ []) s
+    (IllTyped run.image ∷ []) (BadEvents run.events ∷ []) s
     (a.0, (a.1.0, (b.0, (b.1.0, (m, tt))))) (stops_by_bytes before after (IllTyped run.image ∷ []) s h)
 
--- its calls or its events do
-pub events_stop_run : OneImageMeaning → OneRefusal → (before after : FilesSeen) (run : RunWords) (event_bytes : List ℕ) (image : ImageParts) (s : Stop)
-    → TypedImage before.told run.image image → FileRead before.told run.events EVENTS_MOST event_bytes
-    → StopsBy before.told (Unbuilt run.image ∷ BadEvents run.events ∷ []) s → StopsAt before after (run_causes run) s
-events_stop_run meaning refusal before after run event_bytes image s typed event_file h =
+-- its events do
+pub events_stop_run : OneImageMeaning → OneRefusal → (before after : FilesSeen) (run : RunWords) (event_bytes : List ℕ) (image : ImageParts) (f : EventFault)
+    → TypedImage before.told run.image image → FileRead before.told run.events EVENTS_MOST event_bytes → IsFirstFault event_bytes f
+    → StopsAt before after (run_causes run) (Events f)
+events_stop_run meaning refusal before after run event_bytes image f typed event_file first =
     let a = read_stops_none before.told run.image IMAGE_MOST typed.held.bytes typed.held.file in
     let b = read_stops_none before.told run.events EVENTS_MOST event_bytes event_file in
     let m = not_malformed meaning before.told run.image image typed.held in
     let t = not_ill_typed meaning refusal before.told run.image image typed in
     stops_between before after
     (Missing run.image ∷ Long run.image IMAGE_MOST ∷ Missing run.events ∷ Long run.events EVENTS_MOST ∷ Malformed run.image ∷ IllTyped run.image ∷ [])
-    (Unbuilt run.image ∷ BadEvents run.events ∷ []) [] s
-    (a.0, (a.1.0, (b.0, (b.1.0, (m, (t, tt)))))) (stops_by_bytes before after (Unbuilt run.image ∷ BadEvents run.events ∷ []) s h)
+    (BadEvents run.events ∷ []) [] (Events f)
+    (a.0, (a.1.0, (b.0, (b.1.0, (m, (t, tt))))))
+    (stops_by_bytes before after (BadEvents run.events ∷ []) (Events f) (event_fault_stops before.told run.events event_bytes f event_file first))

@@ -4,4 +4,3 @@ pub mod Endings
 pub mod Exact
 pub mod WordLemmas
 pub mod Complaints
-pub mod CodePlace

@@ -1,18 +1,16 @@
 -- Why the files of a command stop it: the causes, which come in an order, and of which the first that holds decides.
-use Rattle.std.specs.Prelude.{◌≡◌, ◌≢◌, ◌⊎◌, ◌<◌, ◌≤◌, ℕ, ◌+◌, ◌-◌, List, [], ◌∷◌, ◌++◌, length, Option, Some, None}
-use Rattle.std.specs.List.{flat_map}
+use Rattle.std.specs.Prelude.{◌≡◌, ◌≢◌, ◌⊎◌, ◌<◌, ◌≤◌, ℕ, List, [], ◌∷◌, length, Option, Some, None}
 use Rattle.outside.specs.FileMaps.{FileMap, Gives, Lacks}
 use Rattle.device_model.specs.EventFile.{IsFirstFault}
 use Rattle.device_model.specs.declared.events.EventFault.{EventFault}
 use Rattle.device_model.specs.declared.events.EventFault.TheVariants as event_fault
-use Rattle.tal_image.specs.Image.{ImageParts, FileOf, block_bytes, mark_bytes}
+use Rattle.tal_image.specs.Image.{ImageParts}
 use Rattle.tal_image.specs.Formed.{ImageOf}
 use Rattle.tal_image.specs.Fields.{FirstFault}
 use Rattle.file_fields.specs.declared.fault.ImageFault.{ImageFault}
 use Rattle.file_fields.specs.declared.fault.ImageFault.TheVariants.{NoMemory}
 use Rattle.tal_checker.specs.WellTyped.{WellTyped, FirstRefusal}
-use Rattle.kernel_machine.specs.Built.{first_unbuilt_call}
-use Rattle.verve_tool.specs.Lines.{read_line, long_line, fault_line, event_fault_line, refused_line, not_built_line}
+use Rattle.verve_tool.specs.Lines.{read_line, long_line, fault_line, event_fault_line, refused_line}
 use Rattle.verve_tool.specs.declared.load.TheConstants.{IMAGE_MOST, EVENTS_MOST}
 use Rattle.verve_tool.specs.declared.status.Status.{Status}
 use Rattle.verve_tool.specs.declared.status.Status.TheVariants as status
@@ -27,8 +25,6 @@ pub data Cause : Type 0 where
   Malformed : List ℕ → Cause
   -- its image is not well typed
   IllTyped : List ℕ → Cause
-  -- its image calls an entry of the Nucleus that is not built
-  Unbuilt : List ℕ → Cause
   -- it is no event file
   BadEvents : List ℕ → Cause
 
@@ -38,7 +34,6 @@ status_of (Missing name) = status.ReadFault
 status_of (Long name most) = status.TooLong
 status_of (Malformed name) = status.Malformed
 status_of (IllTyped name) = status.Refused
-status_of (Unbuilt name) = status.NotBuilt
 status_of (BadEvents name) = status.Events
 
 -- a file was read, and has at most so many bytes
@@ -62,18 +57,6 @@ pub record IsIllTyped (told : Option FileMap) (name : List ℕ) (address rule : 
   pub image : ImageParts
   pub held : HoldsImage told name image
   pub refusal : FirstRefusal image address rule
-
--- the byte of an image's file at which the code begins: the code, the blocks and the marks are the last of its parts
-unfoldable pub code_byte : ImageParts → ℕ
-code_byte i = length (FileOf i) - length (i.code ++ (flat_map block_bytes i.blocks ++ flat_map mark_bytes i.marks))
-
--- a well typed image does, and at this byte of the file its first CALL of an entry that is not built begins, so far behind the code's begin
-pub record IsUnbuilt (told : Option FileMap) (name : List ℕ) (at : ℕ) : Type 0 where
-  pub image : ImageParts
-  pub typed : TypedImage told name image
-  pub offset : ℕ
-  pub first : first_unbuilt_call image ≡ Some offset
-  pub byte : at ≡ code_byte image + offset
 
 -- the file has more than so many bytes
 pub record IsLong (told : Option FileMap) (name : List ℕ) (most : ℕ) : Type 0 where
@@ -101,7 +84,6 @@ Holds told (Missing name) line = Lacks told name × (line ≡ read_line name)
 Holds told (Long name most) line = IsLong told name most × (line ≡ long_line name)
 Holds told (Malformed name) line = (fault : ImageFault) × HasFault told name fault × (line ≡ fault_line name fault)
 Holds told (IllTyped name) line = (address rule : ℕ) × IsIllTyped told name address rule × (line ≡ refused_line address rule)
-Holds told (Unbuilt name) line = (at : ℕ) × IsUnbuilt told name at × (line ≡ not_built_line name at)
 Holds told (BadEvents name) line = (fault : EventFault) × HasEventFault told name fault × (line ≡ event_fault_line fault)
 
 -- The cause does not hold. Of files that tell nothing nobody knows.

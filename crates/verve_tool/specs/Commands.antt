@@ -6,22 +6,21 @@ use Rattle.verve_tool.specs.Seen.{Call}
 use Rattle.verve_tool.specs.Forms.{Form}
 use Rattle.verve_tool.specs.Checks.{a_check}
 use Rattle.verve_tool.specs.Listings.{a_listing}
-use Rattle.verve_tool.specs.Runs.{RunWords, a_run, a_journal}
+use Rattle.verve_tool.specs.Runs.{RunWords, a_run}
+use Rattle.verve_tool.specs.declared.words.RunText.{RunText}
 use Rattle.verve_tool.specs.declared.status.Status.{Status}
 
 -- what a command is asked for
 pub data Request : Type 0 where
   Check : List ℕ → Request
   Listing : List ℕ → Request
-  Run : RunWords → Request
-  Journal : RunWords → Request
+  Run : RunText → RunWords → Request
 
 -- the form of each
 abbrev pub command_form : Request → Form
 command_form (Check image) = a_check image
 command_form (Listing image) = a_listing image
-command_form (Run run) = a_run run
-command_form (Journal run) = a_journal run
+command_form (Run text run) = a_run text run
 
 -- the words ask for this
 pub record WordsOf (words : List (String Global)) (request : Request) : Type 0 where

@@ -38,10 +38,6 @@ file_line name at what = codes "file " ++ name ++ codes " at " ++ decimal at ++ 
 abbrev pub bad_line : List ℕ → ℕ → ℕ → List ℕ
 bad_line name at condition = codes "file " ++ name ++ codes " at " ++ decimal at ++ codes " bad " ++ decimal condition ++ codes "\n"
 
--- what this file has at this byte is not built
-abbrev pub not_built_line : List ℕ → ℕ → List ℕ
-not_built_line name at = codes "not built " ++ name ++ codes " at " ++ decimal at ++ codes "\n"
-
 -- the line of an image's first fault
 abbrev pub fault_line : List ℕ → ImageFault → List ℕ
 fault_line name fault.Magic = file_line name 0 (codes " magic\n")

@@ -9,7 +9,7 @@ use Rattle.verve_tool.specs.Seen.{Call, Leaves}
 use Rattle.verve_tool.specs.Forms.{Form, Unrun, Written, PartWritten}
 use Rattle.verve_tool.specs.Commands.{Request, command_form, WordsOf, NoCommand}
 use Rattle.verve_tool.specs.declared.status.Status.{Status}
-use Rattle.verve_tool.specs.declared.status.Status.TheVariants.{Done, Usage, ReadFault, WriteFault, Events, Malformed, Refused, TooLong, KernelFault, NoMemory, NotBuilt}
+use Rattle.verve_tool.specs.declared.status.Status.TheVariants.{Done, Usage, ReadFault, WriteFault, Events, Malformed, Refused, TooLong, KernelFault, NoMemory}
 
 -- nothing was put into the output, and no file written
 pub record Silent (c : Call) : Type 0 where
@@ -104,4 +104,3 @@ exit_number Refused = 6
 exit_number TooLong = 9
 exit_number KernelFault = 10
 exit_number NoMemory = 11
-exit_number NotBuilt = 12

@@ -11,8 +11,8 @@ use Rattle.run_report.specs.declared.run_end.RunEnd.{RunEnd}
 use Rattle.run_report.specs.declared.run_end.RunEnd.TheVariants as run_end
 use Rattle.kernel_machine.specs.Machine.{MachineView, run_answer}
 use Rattle.verve_tool.specs.Runs.{RunWords, RanWithin}
-use Rattle.verve_tool.specs.Commands.{Request, Check, Listing, Run, Journal, command_form}
-use Rattle.verve_tool.specs.Lines.{usage_line, read_line, write_line, long_line, no_memory_line, not_built_line, fault_line, event_fault_line, answer_line}
+use Rattle.verve_tool.specs.Commands.{Request, Check, Listing, Run, command_form}
+use Rattle.verve_tool.specs.Lines.{usage_line, read_line, write_line, long_line, no_memory_line, fault_line, event_fault_line, answer_line}
 use Rattle.verve_tool.specs.Causes.{Cause, Missing, ComesTo, IsFirstCause, status_of as status_of_cause}
 use Rattle.verve_tool.specs.Seen.{FilesSeen, SinkSeen, Call, Leaves}
 use Rattle.verve_tool.specs.Outcome.{Ends}
@@ -22,7 +22,7 @@ use Rattle.verve_tool.specs.declared.words.Command.TheVariants as command
 use Rattle.verve_tool.specs.declared.status.Status.{Status}
 use Rattle.verve_tool.specs.declared.status.Status.TheVariants as status
 use Rattle.verve_tool.specs.declared.stop.Stop.{Stop}
-use Rattle.verve_tool.specs.declared.stop.Stop.TheVariants.{Usage, Read, Write, Long, Image, NotAccepted, NucleusCall, Events, NoMemory}
+use Rattle.verve_tool.specs.declared.stop.Stop.TheVariants.{Usage, Read, Write, Long, Image, NotAccepted, Events, NoMemory}
 
 -- the run that a command asks for
 abbrev pub run_of : RunCommand → RunWords
@@ -32,8 +32,7 @@ run_of run = record { image = run.image.now; events = run.events.now; turns = ru
 abbrev pub request_of : Command → Request
 request_of (command.Check image) = Check image.now
 request_of (command.List image) = Listing image.now
-request_of (command.Run run) = Run (run_of run)
-request_of (command.Journal run) = Journal (run_of run)
+request_of (command.Run text run) = Run text (run_of run)
 
 -- the status of a command that stopped
 abbrev pub status_of : Stop → Status
@@ -45,7 +44,6 @@ status_of (Image name fault.NoMemory) = status.NoMemory
 status_of (Image name f) = status.Malformed
 status_of (NotAccepted answer.NoMemory) = status.NoMemory
 status_of (NotAccepted a) = status.Refused
-status_of (NucleusCall name at) = status.NotBuilt
 status_of (Events event_fault.NoMemory) = status.NoMemory
 status_of (Events f) = status.Events
 status_of NoMemory = status.NoMemory
@@ -58,7 +56,6 @@ line_of Write = write_line
 line_of (Long name) = long_line name.now
 line_of (Image name f) = fault_line name.now f
 line_of (NotAccepted a) = answer_line a
-line_of (NucleusCall name at) = not_built_line name.now at
 line_of (Events f) = event_fault_line f
 line_of NoMemory = no_memory_line
 

@@ -14,7 +14,6 @@ ghost use Rattle.verve_tool.specs.declared.status.Status.{Status};
 
 use crate::checks::act_check;
 use crate::complaint::complain;
-use crate::journals::act_journal;
 use crate::laws::{nothing_stops, one_cause};
 use crate::listings::act_list;
 use crate::runs::act_run;
@@ -46,8 +45,7 @@ fn act<'a, F: Files, K: Sink>(
     match command {
         Command::Check(image) => act_check(alloc, image, files, out),
         Command::List(image) => act_list(alloc, image, files, out),
-        Command::Run(run) => act_run(alloc, run, files, out, journal, kept),
-        Command::Journal(run) => act_journal(alloc, run, files, out, journal, kept),
+        Command::Run(text, run) => act_run(alloc, text, run, files, out, journal, kept),
     }
 }
 

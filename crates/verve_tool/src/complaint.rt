@@ -4,7 +4,7 @@ ghost use Rattle.std.specs.List.{flat_map};
 ghost use Rattle.device_model.specs.declared.events.EventFault.{EventFault};
 ghost use Rattle.hex_text.specs.Words.{word_text};
 ghost use Rattle.file_fields.specs.declared.fault.ImageFault.{ImageFault};
-ghost use Rattle.verve_tool.specs.Lines.{Says, file_line, bad_line, not_built_line, fault_line, events_line, event_fault_line, refused_line, answer_line};
+ghost use Rattle.verve_tool.specs.Lines.{Says, file_line, bad_line, fault_line, events_line, event_fault_line, refused_line, answer_line};
 ghost use Rattle.verve_tool.specs.Stops.{line_of};
 
 use crate::stop::Stop;
@@ -53,23 +53,6 @@ fn say_bad<E: Sink>(err: &mut E, name: &str, at: u32, condition: u32)
             at.as_bytes(),
             b" bad ",
             condition.as_bytes(),
-            b"\n",
-        ],
-    );
-}
-
-fn say_not_built<E: Sink>(err: &mut E, name: &str, at: u32)
-    ensures { Says (E.faults err.old) (E.faults err.new) (E.told err.old) (E.told err.new) (not_built_line name.now at) }
-{
-    let mut number = Buffer::new();
-    let at = number.format(at);
-    say(
-        err,
-        &[
-            b"not built ",
-            name.as_bytes(),
-            b" at ",
-            at.as_bytes(),
             b"\n",
         ],
     );
@@ -144,7 +127,6 @@ pub(crate) fn complain<E: Sink>(err: &mut E, stop: &Stop<'_>)
         Stop::Long(name) => say(err, &[b"long ", name.as_bytes(), b"\n"]),
         Stop::Image(name, fault) => say_fault(err, name, fault),
         Stop::NotAccepted(answer) => say_answer(err, answer),
-        Stop::NucleusCall { name, at } => say_not_built(err, name, at),
         Stop::Events(fault) => say_event_fault(err, fault),
         Stop::NoMemory => say(err, &[b"no memory\n"]),
     }

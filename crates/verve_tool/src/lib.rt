@@ -15,10 +15,8 @@
 #![tactic(auto)]
 
 mod checks;
-mod code_place;
 mod command;
 mod complaint;
-mod journals;
 pub mod laws;
 mod listings;
 mod load;

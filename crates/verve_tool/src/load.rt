@@ -1,22 +1,19 @@
 // The files of a command: read whole, each once, and then accepted or not.
 ghost use Rattle.std.specs.Prelude.{◌≡◌, ◌≤◌, ℕ, List, length, ◌∷◌, [], Option, IfOk, IfErr, OnOk, IsErrAnd};
 ghost use Rattle.outside.specs.FileMaps.{FileMap};
-ghost use Rattle.device_model.specs.EventFile.{EventsOf, InOrder};
+ghost use Rattle.device_model.specs.EventFile.{InOrder};
 ghost use Rattle.tal_image.specs.Formed.{ImageOf};
 ghost use Rattle.tal_checker.specs.WellTyped.{WellTyped};
-ghost use Rattle.kernel_machine.specs.Built.{IsBuilt};
 ghost use Rattle.verve_tool.specs.Checks.{a_check};
 ghost use Rattle.verve_tool.specs.Listings.{a_listing};
 ghost use Rattle.verve_tool.specs.Runs.{run_causes, Loaded};
-ghost use Rattle.verve_tool.specs.Causes.{Missing, Long, Malformed, IllTyped, Unbuilt, BadEvents, FileRead, HoldsImage, TypedImage};
+ghost use Rattle.verve_tool.specs.Causes.{Missing, Long, Malformed, IllTyped, FileRead, HoldsImage, TypedImage};
 ghost use Rattle.verve_tool.specs.Seen.{files_seen, OnlyReads};
 ghost use Rattle.verve_tool.specs.Stops.{StopsBy, StopsAt, IsUnread, run_of};
 
-use crate::code_place::code_byte;
 use crate::stop::Stop;
 use crate::words::RunCommand;
 use device_model::{Event, read_events};
-use kernel_machine::first_unbuilt_call;
 use outside::{Files, ReadAnswer};
 use std::alloc::Global;
 use tal_checker::laws::one_refusal;
@@ -78,34 +75,6 @@ fn accept<'a>(alloc: Global, image: Image) -> Result<Checked, Stop<'a>>
     Ok(check(alloc, image)?)
 }
 
-// The events of a run that the bytes of its event file record, where the calls of its accepted image are built.
-fn read_run_events<'a>(
-    alloc: Global,
-    image: &Image,
-    run: RunCommand<'a>,
-    image_bytes: &[u8],
-    event_bytes: &[u8],
-) -> Result<Vec<Event>, Stop<'a>>
-    requires stands { ImageOf image_bytes.now image.now }
-    requires image_within { length image_bytes.now ≤ IMAGE_MOST }
-    requires events_within { length event_bytes.now ≤ EVENTS_MOST }
-    ensures built { OnOk result (IsBuilt image.now) }
-    ensures recorded { IfOk result (λ events. EventsOf event_bytes.now events.items) }
-    ensures in_order { IfOk result (λ events. InOrder events.items) }
-    ensures stopped { (told : Option FileMap) → TypedImage told run.entry.image.now image.now
-        → FileRead told run.entry.events.now EVENTS_MOST event_bytes.now
-        → IfErr result (λ s. StopsBy told (Unbuilt run.entry.image.now ∷ BadEvents run.entry.events.now ∷ []) s) }
-{
-    one_meaning();
-    if let Some(offset) = first_unbuilt_call(image) {
-        return Err(Stop::NucleusCall {
-            name: run.image,
-            at: code_byte(image, image_bytes) + offset,
-        });
-    }
-    Ok(read_events(alloc, event_bytes)?)
-}
-
 // Reads the image's file, and the image that its bytes stand for.
 pub(crate) fn hold_image<'a, F: Files>(
     alloc: Global,
@@ -158,6 +127,6 @@ pub(crate) fn load_run<'a, F: Files>(
     let event_bytes = read_file(alloc, files, run.events, EVENTS_MOST)?;
     let image = read_image(alloc, run.image, &image_bytes)?;
     let checked = accept(alloc, image)?;
-    let events = read_run_events(alloc, checked.image(), run, &image_bytes, &event_bytes)?;
+    let events = read_events(alloc, &event_bytes)?;
     Ok((checked, events))
 }

@@ -26,8 +26,6 @@ pub enum Status {
     KernelFault,
     /// Memory was wanting; nothing was written.
     NoMemory,
-    /// The image of a run calls an entry of the Nucleus that is not built.
-    NotBuilt,
 }
 
 impl Status {
@@ -46,7 +44,6 @@ impl Status {
             Status::TooLong => 9,
             Status::KernelFault => 10,
             Status::NoMemory => 11,
-            Status::NotBuilt => 12,
         }
     }
 }

@@ -23,8 +23,6 @@ pub(crate) enum Stop<'a> {
     Image(&'a str, ImageFault),
     // An image is not accepted, or memory was wanting for its check.
     NotAccepted(CheckAnswer),
-    // The image of the file of this name has a CALL at this byte of the file, of an entry of the Nucleus that is not built.
-    NucleusCall { name: &'a str, at: u32 },
     // No list of events stands for the event file, or memory was wanting for it.
     Events(EventFault),
     // Memory was wanting.
@@ -46,7 +44,6 @@ impl Stop<'_> {
             | Stop::NoMemory => Status::NoMemory,
             Stop::Image(..) => Status::Malformed,
             Stop::NotAccepted(_) => Status::Refused,
-            Stop::NucleusCall { .. } => Status::NotBuilt,
             Stop::Events(_) => Status::Events,
         }
     }

@@ -4,9 +4,18 @@ ghost use Rattle.verve_tool.specs.Runs.{RunWords, AllowsRun};
 ghost use Rattle.verve_tool.specs.Commands.{WordsOf, NoCommand};
 ghost use Rattle.verve_tool.specs.Stops.{run_of, request_of};
 
-use crate::journals::JOURNAL_TURNS;
+use crate::runs::JOURNAL_TURNS;
 use itoa::Buffer;
 use kernel_machine::MOST_TURNS;
+
+// What a command tells of a run.
+#[derive(Clone, Copy)]
+pub(crate) enum RunText {
+    // The report.
+    Report,
+    // The report, and the entries of the journal.
+    Journal,
+}
 
 // A run of an image over events for so many turns at most.
 #[derive(Clone, Copy)]
@@ -21,8 +30,7 @@ pub(crate) struct RunCommand<'a> {
 pub(crate) enum Command<'a> {
     Check(&'a str),
     List(&'a str),
-    Run(RunCommand<'a>),
-    Journal(RunCommand<'a>),
+    Run(RunText, RunCommand<'a>),
 }
 
 // The turns are a decimal number as it is printed, so without leading zeros or a sign.
@@ -84,8 +92,8 @@ pub(crate) fn read_words(words: &[String]) -> Option<Command<'_>>
     match word.as_str() {
         "check" => Some(Command::Check(read_name(operands)?)),
         "list" => Some(Command::List(read_name(operands)?)),
-        "run" => Some(Command::Run(read_run(operands, MOST_TURNS)?)),
-        "journal" => Some(Command::Journal(read_run(operands, JOURNAL_TURNS)?)),
+        "run" => Some(Command::Run(RunText::Report, read_run(operands, MOST_TURNS)?)),
+        "journal" => Some(Command::Run(RunText::Journal, read_run(operands, JOURNAL_TURNS)?)),
         _ => None,
     }
 }

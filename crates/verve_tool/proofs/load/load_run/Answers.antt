@@ -30,18 +30,18 @@ pub returns-in_err-events-clause-stopped : goal.returns-in_err-events-clause-sto
 returns-in_err-events-clause-stopped g c =
     let p = err_from_is_err_and c.from_residual-in_err-events.result c.from_residual-in_err-events.ensures.1 in
     let seen = files_seen g.F.Files.told g.F.Files.steady g.F.Files.read_faults g.F.Files.write_faults in
-    let typed : TypedImage (g.F.Files.told c.args.files.now) c.args.run.image.now c.image.result.now = record {
+    let typed : TypedImage (g.F.Files.told c.args.files.now) c.args.run.image.now c.in_ok-image.image = record {
       held = record {
         bytes = c.deref.result.now;
         file = rw c.deref.ensures.value c.in_ok-image_bytes.ensures.read;
-        stands = rw (c.image.ensures.value, c.in_ok-checked.ensures.same) c.in_ok-image.ensures.stands;
+        stands = c.in_ok-image.ensures.stands;
       };
-      well_typed = rw (c.image.ensures.value, c.in_ok-checked.ensures.same) c.in_ok-checked.ensures.well_typed;
+      well_typed = c.in_ok-checked.ensures.well_typed;
     } in
-    let events : FileRead (g.F.Files.told c.args.files.now) c.args.run.events.now EVENTS_MOST c.deref-3.result.now =
-    rw (c.deref-3.ensures.value, ← c.in_ok-image_bytes.ensures.reads.told) c.in_ok-event_bytes.ensures.read in
+    let events : FileRead (g.F.Files.told c.args.files.now) c.args.run.events.now EVENTS_MOST c.deref-2.result.now =
+    rw (c.deref-2.ensures.value, ← c.in_ok-image_bytes.ensures.reads.told) c.in_ok-event_bytes.ensures.read in
     rw (p.1, p.2) (events_stop_run c.one_meaning.ensures c.one_refusal.ensures (seen c.args.files.now) (seen c.read_file-2.new.files) (run_of c.args.run)
-    c.deref-3.result.now c.image.result.now _ typed events (c.in_err-events.ensures.stopped _ typed events))
+    c.deref-2.result.now c.in_ok-image.image c.in_err-events.field-0.0 typed events c.in_err-events.ensures.fault)
 
 pub returns-in_err-image-clause-reads : goal.returns-in_err-image-clause-reads
 returns-in_err-image-clause-reads g c = reads_both _ _ _ _ c.in_ok-image_bytes.ensures.reads c.in_ok-event_bytes.ensures.reads
