@@ -2,7 +2,7 @@
 ghost use Rattle.std.specs.Prelude.{◌≡◌, length, IfOk, IfSome};
 ghost use Rattle.std.specs.Option.{unwrap_or};
 ghost use Rattle.tal_names.specs.Declarations.{names_shown};
-ghost use Rattle.tal_rows.specs.Lines.{slots_given, is_twice};
+ghost use Rattle.tal_rows.specs.Lines.{is_twice};
 ghost use Rattle.asm_faults.specs.Answers.{AnswersBy, at_line};
 ghost use Rattle.tal_code.specs.Holes.{PlacesWithin};
 ghost use Rattle.tal_code.specs.Functions.{UnitCodeView, line_code, inst_line, begins_with_inst, is_placed, slot_types, block_line, has_code, with_lines, function_code};
@@ -16,7 +16,7 @@ use no_memory::NoMemory;
 use std::alloc::Global;
 use tal_names::{ModuleNames, NameSet};
 use tal_operands::{Instruction, instruction_of};
-use tal_rows::label_line;
+use tal_rows::{label_line, slots_given};
 use tal_syntax::{Arg, Form, Name, RegType, TextLine, TypeText, TypeTextList};
 use tal_types::Ty;
 
@@ -59,17 +59,6 @@ fn is_twice(names: &NameSet, name: &Name, labels: u32) -> bool
     match names.number(name.bytes()) {
         Some(number) => number < labels,
         None => false,
-    }
-}
-
-// The slots of a label: none where no list is given.
-#[tactic(auto, unfolding(tal_rows::specs::Lines::slots_given))]
-fn slots_of(slots: &Option<TypeTextList>) -> &[TypeText]
-    ensures { result.now ≡ slots_given slots.now }
-{
-    match slots {
-        Some(types) => types.items(),
-        None => &[],
     }
 }
 
@@ -138,7 +127,7 @@ impl UnitCode {
         match label_line(names, regs, slots, is_placed, self.block_count()) {
             Err(code) => Err(AsmAnswer::Fault(AsmFault { line: number, code })),
             Ok(types) => {
-                let slots = slot_types(alloc, names, slots_of(slots))?;
+                let slots = slot_types(alloc, names, slots_given(slots))?;
                 Ok(self.with_block(types, slots)?)
             }
         }

@@ -13,4 +13,4 @@ pub use lines::{
     DataLine, EntryLine, class_line, data_line, entry_line, field_type, function_line, kind_line,
     label_line, sig_line, static_line,
 };
-pub use registers::{repeats, types_in};
+pub use registers::{repeats, slots_given, types_in};

@@ -5,7 +5,7 @@ ghost use Rattle.std.specs.Prelude.{◌≡◌, ◌<◌, ◌^◌, IfSome};
 ghost use Rattle.tal_names.specs.Declarations.{names_shown};
 ghost use Rattle.tal_rows.specs.Lines.{is_twice, field_type, natural, sig_line, kind_line, static_line, is_too_long, numbers_fit, data_line, function_line, parent_row_fits, class_line, entry_line, label_line};
 
-use crate::registers::{all_known, repeats, slots_known, slots_of, types_in};
+use crate::registers::{all_known, repeats, slots_given, slots_known, types_in};
 use object_layout::FieldTy;
 use tal_names::{ModuleNames, NameSet};
 use tal_syntax::{Name, NumberList, RegType, TypeText, TypeTextList};
@@ -314,7 +314,7 @@ pub fn label_line(
     if !all_known(names, regs) {
         return Err(11);
     }
-    if !slots_known(names, slots_of(slots)) {
+    if !slots_known(names, slots_given(slots)) {
         return Err(11);
     }
     if repeats(regs) {
@@ -323,7 +323,7 @@ pub fn label_line(
     if !is_placed {
         return Err(15);
     }
-    if slots_of(slots).len() > 64 || blocks >= 65536 {
+    if slots_given(slots).len() > 64 || blocks >= 65536 {
         return Err(16);
     }
     Ok(types_in(names, regs))

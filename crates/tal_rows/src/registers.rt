@@ -23,7 +23,7 @@ pub(crate) fn all_known(names: &ModuleNames, rows: &[RegType]) -> bool
 
 /// The slots of a label: none where no list is given.
 #[tactic(auto, unfolding(crate::specs::Lines::slots_given))]
-pub(crate) fn slots_of(slots: &Option<TypeTextList>) -> &[TypeText]
+pub fn slots_given(slots: &Option<TypeTextList>) -> &[TypeText]
     ensures { result.now ≡ slots_given slots.now }
 {
     match slots {
