@@ -53,7 +53,7 @@ use Rattle.tal_rows.specs.Lines.{is_twice, natural, field_type, type_in, numbers
 use Rattle.tal_classes.specs.Members.{ClassSoFar, field_count, field_line, method_line, with_field, with_method, then_made as then_taken, take_member, take_members, class_goes_on, class_row}
 use Rattle.tal_classes.specs.Formed.{TypesKnown, AreDeclared, AreFirst, FitsBelow, AreClasses}
 use Rattle.tal_tables.specs.Rows.{ModuleTablesView, no_tables, heap_line, stacks_line, has_entry, array_numbers, name_number, make, and_sig, and_kind, and_static, and_array, and_class, and_function, and_entry, take_row}
-use Rattle.tal_tables.specs.Formed.{StartsWith, DeclaredBefore, AreMentioned, MakesRow, array_words, holds_numbers, OwnLength, IsFunctionRow, IsArrayRow, KindsDeclared, TablesKeep}
+use Rattle.tal_tables.specs.Formed.{StartsWith, DeclaredBefore, AreMentioned, MakesRow, arrays_take, holds_numbers, OwnLength, IsFunctionRow, IsArrayRow, KindsDeclared, TablesKeep}
 use Rattle.tal_tables.proofs.Limits.{sig_room, kind_room, static_room, data_room, function_room, class_room, stack_room}
 use Rattle.tal_tables.proofs.Declared.{is_new, is_declared, name_below, number_below, same_early, class_parent}
 use Rattle.tal_tables.proofs.LineSteps.{made, then_made, made_of, heap_steps, stacks_steps, sig_steps, kind_steps, static_steps, data_steps, function_steps, root_steps, below_steps, entry_steps}
@@ -257,8 +257,8 @@ static_kept m first names u ext n text held k named h =
 
 -- ---- data arrays
 
-words_with : (arrays : List UnitArray) (a : UnitArray) → array_words (arrays ++ a ∷ []) ≡ array_words arrays + (2 + a.row.length)
-unfolding array_words
+words_with : (arrays : List UnitArray) (a : UnitArray) → arrays_take (arrays ++ a ∷ []) ≡ arrays_take arrays + (2 + a.row.length)
+unfolding arrays_take
 words_with [] a = omega arith
 words_with (x ∷ arrays) a = let rest = words_with arrays a in omega (arith, rest)
 
@@ -803,7 +803,7 @@ rows_kept law m first names u v line (form.Inst mnemonic args) behind makes begi
 
 -- empty tables
 pub empty_kept : (m : Names) (names : ℕ) → TablesKeep m no_names names no_tables
-unfolding array_words field_count IsDistinct
+unfolding arrays_take field_count IsDistinct
 empty_kept m names = record {
   counted = record {
     limits = record { sigs = omega arith; functions = omega arith; classes = omega arith; kinds = omega arith; statics = omega arith; arrays = omega arith; words = omega arith };

@@ -54,9 +54,9 @@ MakesRow _ = Unit {0}
 -- ---- counts
 
 -- how many words data arrays take, each with the two before its elements
-unfoldable pub array_words : List UnitArray → ℕ
-array_words [] = 0
-array_words (a ∷ arrays) = 2 + a.row.length + array_words arrays
+unfoldable pub arrays_take : List UnitArray → ℕ
+arrays_take [] = 0
+arrays_take (a ∷ arrays) = 2 + a.row.length + arrays_take arrays
 
 -- an array kind's elements are numbers
 abbrev pub holds_numbers : UnitKind → Bool
@@ -78,7 +78,7 @@ pub record AreCounted (m first : Names) (u : ModuleTablesView) : Type 0 where
   pub parents : map (λ (c : UnitClass). c.row.parent) u.classes ≡ map (λ (k : ClassNames). k.parent) first.members
   pub entries_below : Each (λ (e : UnitEntry). e.stack ≤ 63) u.entries
   pub entries_apart : IsDistinct nat_eq (map (λ (e : UnitEntry). e.stack) u.entries)
-  pub words : u.words ≡ length u.statics + array_words u.arrays
+  pub words : u.words ≡ length u.statics + arrays_take u.arrays
 
 -- ---- rows
 

@@ -8,7 +8,7 @@ use Rattle.outside.specs.FileMaps.{FileMap}
 use Rattle.outside.specs.Faults.{Faulted, Quiet}
 use Rattle.tal_image.specs.Image.{ImageParts}
 use Rattle.verve_tool.specs.Commands.{Request, Check, Listing, Run, command_form, WordsOf, NoCommand, NothingStops}
-use Rattle.verve_tool.specs.Runs.{RunWords, AllowsRun, word_of, turns_most}
+use Rattle.verve_tool.specs.Runs.{RunWords, AllowsRun, command_word, turns_most}
 use Rattle.verve_tool.specs.declared.words.RunText.{RunText}
 use Rattle.verve_tool.specs.declared.words.RunText.TheVariants.{Report, Journal}
 use Rattle.verve_tool.specs.Causes.{Cause, Missing, IsFirstCause, NoneHolds, OneCause, TypedImage, status_of}
@@ -35,7 +35,7 @@ same_run w a b few fewer e =
     λ i. record { image = parts.0 i; events = parts.1 i; turns = turns i }
 
 -- a word tells what is told of a run
-same_kind : (k m : RunText) → word_of k ≡ word_of m → k ≡ m
+same_kind : (k m : RunText) → command_word k ≡ command_word m → k ≡ m
 same_kind Report Report h = refl
 same_kind Journal Journal h = refl
 same_kind k m h = absurd (cc h)
@@ -52,7 +52,7 @@ same_request words (Listing a) (Listing b) p q = ap (λ (n : List ℕ). Listing 
 same_request words (Run k a) (Run m b) p q =
     let spelled = sym p.spelled ∙ q.spelled in
     let same : k ≡ m = same_kind k m (cc spelled) in
-    let run = same_run (word_of k) a b (few_turns k a p.allowed) (few_turns m b q.allowed) (spelled ∙ rw same refl) in
+    let run = same_run (command_word k) a b (few_turns k a p.allowed) (few_turns m b q.allowed) (spelled ∙ rw same refl) in
     rw (same, run) refl
 same_request words a b p q = absurd (cc (sym p.spelled ∙ q.spelled))
 

@@ -73,9 +73,9 @@ status_at (end.KernelFault vector) = KernelFault
 status_at e = Done
 
 -- the word of the command that tells this text of a run, and how many turns it takes at most
-abbrev pub word_of : RunText → List ℕ
-word_of Report = codes "run"
-word_of Journal = codes "journal"
+abbrev pub command_word : RunText → List ℕ
+command_word Report = codes "run"
+command_word Journal = codes "journal"
 
 abbrev pub turns_most : RunText → ℕ
 turns_most Report = MOST_TURNS
@@ -97,7 +97,7 @@ Ran kind run c s text = (ran : RanWithin run c.files.told c.kept c.entries) × I
 
 abbrev pub a_run : RunText → RunWords → Form
 a_run kind run = record {
-  words = word_of kind ∷ run.image ∷ run.events ∷ decimal run.turns ∷ [];
+  words = command_word kind ∷ run.image ∷ run.events ∷ decimal run.turns ∷ [];
   Allowed = AllowsRun (turns_most kind) run;
   causes = run_causes run;
   writes = None;
