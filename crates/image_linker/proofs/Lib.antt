@@ -1,0 +1,2 @@
+-- What is linked is an image.
+pub mod Formed
