@@ -7,7 +7,7 @@ use Rattle.free_index.specs.Lists.{In}
 use Rattle.mark_sweep.specs.Objects.{address, IsReference}
 use Rattle.mark_sweep.specs.Reached.Reached.{listed, named}
 use Rattle.mark_sweep.specs.Swept.{Kept}
-use Rattle.mark_sweep.specs.Marking.{Pushed, Marks, IsBlack, IsPlaced, IsMarked, Linked, MarkedSoFar, MarksReached, Rooted, Scanned, Listing, whites, left}
+use Rattle.mark_sweep.specs.Marking.{Pushed, Marks, IsBlack, IsPlaced, IsMarked, LinkedBlocks, MarkedSoFar, MarksReached, Rooted, Scanned, Listing, whites, left}
 use Rattle.free_index.specs.Steps.{links_from}
 use Rattle.object_layout.specs.Classes.{ShapesView}
 use Rattle.mark_sweep.proofs.Keeping.{kept-refl, kept-trans, reached-used}
@@ -36,7 +36,7 @@ named_block v w (inr (i, e, b)) h = go ((w - 8388608) / 4 - 2) (same w e)
     go j q = rw q (e, b)
 
 -- a list of waiting blocks stays where their links stay
-linked-same : (u v list : List ℕ) (first : ℕ) → ((j : ℕ) → In j list → get_or v (j + 1) 0 ≡ get_or u (j + 1) 0) → Linked u first list → Linked v first list
+linked-same : (u v list : List ℕ) (first : ℕ) → ((j : ℕ) → In j list → get_or v (j + 1) 0 ≡ get_or u (j + 1) 0) → LinkedBlocks u first list → LinkedBlocks v first list
 linked-same u v [] first h l = l
 linked-same u v (i ∷ list) first h l = (l.0, rw (h i (inl refl)) (linked-same u v list (get_or u (i + 1) 0) (λ j m. h j (inr m)) l.1))
 
@@ -58,7 +58,7 @@ black_not : (u : List ℕ) (i j : ℕ) → marked_at u i ≡ false → IsBlack u
 black_not u i j h b e = let m : marked_at u i ≡ true = subst (λ k. marked_at u k ≡ true) e b.marked in cc
 
 -- the list with a pushed block in front
-pushed-links : (v w list : List ℕ) (first i : ℕ) → Pushed v w i first → ((j : ℕ) → In j list → IsBlack v j) → Linked v first list → Linked w (i + 1) (i ∷ list)
+pushed-links : (v w list : List ℕ) (first i : ℕ) → Pushed v w i first → ((j : ℕ) → In j list → IsBlack v j) → LinkedBlocks v first list → LinkedBlocks w (i + 1) (i ∷ list)
 pushed-links v w list first i p g l = (refl, rw p.link (linked-same v w list first (λ j m. let b = g j m in p.links j b.begins (black_not v i j p.white b)) l))
 
 -- what is known of marking after a block was pushed
@@ -97,7 +97,7 @@ state-push shapes u list at n v w first i f s p r = record {
     closed j b m (inr d) = later j (s.closed j (p.kept.blocks.back j b) (was j b m d))
 
 -- the links that lead on are those of the list
-links-linked : (u list : List ℕ) (n first : ℕ) → Linked u first list → length list ≤ n → links_from n u first ≡ length list
+links-linked : (u list : List ℕ) (n first : ℕ) → LinkedBlocks u first list → length list ≤ n → links_from n u first ≡ length list
 unfolding links_from
 links-linked u [] zero first c l = refl
 links-linked u [] (suc n) first c l = rw c refl
@@ -110,7 +110,7 @@ links-linked u (x ∷ xs) (suc n) first c l =
     rw e (ap suc q)
 
 -- what is left to do, by the list of waiting blocks
-left-linked : (u v list : List ℕ) (first : ℕ) → Linked v first list → whites v + length list ≤ length u → length v ≡ length u → left v first ≡ whites v + length list
+left-linked : (u v list : List ℕ) (first : ℕ) → LinkedBlocks v first list → whites v + length list ≤ length u → length v ≡ length u → left v first ≡ whites v + length list
 left-linked u v list first l h n = ap (λ k. whites v + k) (links-linked v list (length v) first l (omega arith))
 
 -- a pushed block takes one that had no mark
@@ -215,7 +215,7 @@ popped shapes u list v first s h = go s.waiting refl s.linked s.total
     Closed : ℕ → Type 0
     Closed j = (k : ℕ) → IsReference shapes u j k → (j ≡ length u → k < 0) → IsMarked v (get_or u (j + 2 + k) 0)
 
-    made : (g : ℕ) (rest : List ℕ) → s.waiting ≡ g ∷ rest → Linked v (get_or v (g + 1) 0) rest → whites v + suc (length rest) ≤ length u
+    made : (g : ℕ) (rest : List ℕ) → s.waiting ≡ g ∷ rest → LinkedBlocks v (get_or v (g + 1) 0) rest → whites v + suc (length rest) ≤ length u
         → MarkedSoFar shapes u list g 1 v (get_or v (g + 1) 0)
     made g rest e l t = record {
       waiting = rest;
@@ -235,19 +235,19 @@ popped shapes u list v first s h = go s.waiting refl s.linked s.total
     front : (g : ℕ) (rest : List ℕ) → s.waiting ≡ g ∷ rest → IsBlack v g
     front g rest e = s.grey g (rw e (inl refl))
 
-    fewer : (g : ℕ) (rest : List ℕ) → Linked v first (g ∷ rest) → whites v + suc (length rest) ≤ length u → left v (get_or v (g + 1) 0) < left v first
+    fewer : (g : ℕ) (rest : List ℕ) → LinkedBlocks v first (g ∷ rest) → whites v + suc (length rest) ≤ length u → left v (get_or v (g + 1) 0) < left v first
     fewer g rest l t =
         let n = s.kept.blocks.size in
         let a = left-linked u v (g ∷ rest) first l t n in
         let b = left-linked u v rest (get_or v (g + 1) 0) l.1 (omega arith) n in
         omega arith
 
-    whole : (g : ℕ) (rest : List ℕ) → s.waiting ≡ g ∷ rest → first - 1 ≡ g → Linked v first (g ∷ rest) → whites v + suc (length rest) ≤ length u → Popped shapes u list v first
+    whole : (g : ℕ) (rest : List ℕ) → s.waiting ≡ g ∷ rest → first - 1 ≡ g → LinkedBlocks v first (g ∷ rest) → whites v + suc (length rest) ≤ length u → Popped shapes u list v first
     whole g rest e q l t =
         let b = front g rest e in
         record { black = rw q b; reached = rw q (s.sound g b.begins b.marked); state = rw q (made g rest e l.1 t); less = rw q (fewer g rest l t) }
 
-    go : (ws : List ℕ) → s.waiting ≡ ws → Linked v first ws → whites v + length ws ≤ length u → Popped shapes u list v first
+    go : (ws : List ℕ) → s.waiting ≡ ws → LinkedBlocks v first ws → whites v + length ws ≤ length u → Popped shapes u list v first
     go [] e l t = absurd (omega arith)
     go (g ∷ rest) e l t = whole g rest e (let f = l.0 in omega arith) l t
 
@@ -261,7 +261,7 @@ pub marks-all : (shapes : ShapesView) (u list : List ℕ) (v : List ℕ) (first 
     → ((w : ℕ) → In w list → IsMarked v w) → MarksReached shapes u list v
 marks-all shapes u list v first s z h = record { kept = s.kept; sound = λ i b m. s.sound i (s.kept.blocks.forth i b) m; all = all }
   where
-    none : (j : ℕ) (list : List ℕ) → Linked v first list → In j list → ⊥
+    none : (j : ℕ) (list : List ℕ) → LinkedBlocks v first list → In j list → ⊥
     none j [] l m = m
     none j (x ∷ list) l m = let q = l.0 in absurd (omega arith)
 

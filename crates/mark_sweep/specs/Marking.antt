@@ -52,9 +52,9 @@ abbrev pub Marks : List ℕ → List ℕ → ℕ → ℕ → ℕ → Type 0
 Marks u v w first first' = Skips u v w first first' ⊎ ((i : ℕ) × Pushes u v w i first first')
 
 -- the blocks of a list, each linked to the next
-abbrev pub Linked : List ℕ → ℕ → List ℕ → Type 0
-Linked words first [] = first ≡ 0
-Linked words first (i ∷ list) = (first ≡ i + 1) × Linked words (slice_index words (i + 1)) list
+abbrev pub LinkedBlocks : List ℕ → ℕ → List ℕ → Type 0
+LinkedBlocks words first [] = first ≡ 0
+LinkedBlocks words first (i ∷ list) = (first ≡ i + 1) × LinkedBlocks words (slice_index words (i + 1)) list
 
 -- the k-th block is there and not marked
 unfoldable pub white : List ℕ → ℕ → Bool
@@ -77,7 +77,7 @@ left words first = whites words + links_from (length words) words first
 -- word n or a later one of the block at `at`
 pub record MarkedSoFar (s : ShapesView) (u list : List ℕ) (at n : ℕ) (v : List ℕ) (first : ℕ) : Type 0 where
   pub waiting : List ℕ
-  pub linked : Linked v first waiting
+  pub linked : LinkedBlocks v first waiting
   pub grey : (j : ℕ) → In j waiting → IsBlack v j
   pub kept : Kept u v
   pub sound : (j : ℕ) → Begins v j → marked_at v j ≡ true → Reached s u list j
