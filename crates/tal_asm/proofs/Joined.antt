@@ -32,7 +32,7 @@ use Rattle.tal_names.specs.Mentions.{mentioned_names}
 use Rattle.tal_tables.specs.Rows.{make}
 use Rattle.tal_code.specs.Formed.{tables_named}
 use Rattle.tal_classes.specs.Formed.{function_sig, AreDeclared, AreClasses}
-use Rattle.tal_tables.specs.Formed.{array_words, holds_numbers, OwnLength, IsFunctionRow, IsArrayRow}
+use Rattle.tal_tables.specs.Formed.{arrays_take, holds_numbers, OwnLength, IsFunctionRow, IsArrayRow}
 use Rattle.tal_asm.specs.Lines.{Made, nothing, take_lines}
 use Rattle.tal_asm.specs.UnitFor.{first_mention, names_fault, unless_before, unit_made, UnitFor}
 use Rattle.tal_asm.proofs.UnitNames.{lines_mentioned}
@@ -94,9 +94,9 @@ functions_are names left t (f ∷ fs) le is (row, rows) = (
 -- ---- data arrays
 
 -- Data arrays that take so many words are a unit's.
-arrays_are : (names used : ℕ) (t : Tables) (kinds : List KindRow) (found : List UnitArray) → used + array_words found ≤ most_words → Each (IsArrayRow names t kinds) found
+arrays_are : (names used : ℕ) (t : Tables) (kinds : List KindRow) (found : List UnitArray) → used + arrays_take found ≤ most_words → Each (IsArrayRow names t kinds) found
     → EachAfter with_unit_array (λ later used a. IsUnitArray names t kinds used a) used found
-unfolding array_words
+unfolding arrays_take
 arrays_are names used t kinds [] le rows = tt
 arrays_are names used t kinds (a ∷ more) le (row, rows) = (
   record {

@@ -3,13 +3,14 @@ ghost use Rattle.std.specs.Prelude.{◌≡◌, length, Some, Err, IfOk};
 ghost use Rattle.tal_names.specs.Declarations.{names_shown};
 ghost use Rattle.tal_rows.specs.Lines.{function_line};
 ghost use Rattle.tal_code.specs.Functions.{has_code, function_code};
-ghost use Rattle.asm_faults.specs.Answers.{at_line};
+ghost use Rattle.asm_faults.specs.Answers.{AnswersBy, at_line};
 ghost use Rattle.tal_tables.specs.Rows.{make, then_make, name_number, take_row};
 ghost use Rattle.unit_files.specs.Unit.{unit_of};
 ghost use Rattle.tal_asm.specs.Lines.{with_tables, with_code, take_line, take_lines, nothing};
 ghost use Rattle.tal_asm.specs.Steps.{LineIsMade, LinesAreMade, GivesUnitRows};
 ghost use Rattle.tal_asm.specs.UnitFor.{is_before, names_fault, unless_before, unit_made, UnitFor};
 
+use crate::laws;
 use crate::mentions::first_mention;
 use asm_faults::{AsmAnswer, AsmFault};
 use no_memory::NoMemory;
@@ -18,7 +19,7 @@ use tal_code::{UnitCode, has_code};
 use tal_names::{ModuleNames, NameSet};
 use tal_syntax::{Form, Module, Name, TextLine};
 use tal_tables::ModuleTables;
-use unit_files::UnitRows;
+use unit_files::{Unit, UnitRows};
 
 // What the lines so far have made.
 #[derive(Drop)]
@@ -203,13 +204,11 @@ fn first_fault(
     }
 }
 
-/// The rows of the unit that a module stands for; or its first line with a fault, and there the least code; or there is no
-/// memory for them. Each line is read once.
+// The rows of the unit that lines stand for; or their first fault.
 #[tactic(auto, unfolding(crate::specs::UnitFor::UnitFor, crate::specs::UnitFor::unless_before))]
-pub fn assembled_rows(alloc: Global, module: &Module) -> Result<UnitRows, AsmAnswer>
-    ensures { GivesUnitRows result (UnitFor module.now) }
+fn assembled_rows(alloc: Global, lines: &[TextLine]) -> Result<UnitRows, AsmAnswer>
+    ensures { GivesUnitRows result (UnitFor lines.now) }
 {
-    let lines = module.lines();
     let names = ModuleNames::of(alloc, lines)?;
     let Ok(unit_names) = names.unit_names(alloc, lines) else {
         return Err(AsmAnswer::NoMemory);
@@ -217,5 +216,18 @@ pub fn assembled_rows(alloc: Global, module: &Module) -> Result<UnitRows, AsmAns
     match names_fault(&unit_names, lines) {
         Some(excess) => Err(first_fault(alloc, &names, &unit_names, lines, excess)),
         None => unit_rows(alloc, &names, &unit_names, lines),
+    }
+}
+
+/// The unit of a module; or its first line with a fault, and there the least code; or there is no memory for it. Each line is
+/// read once.
+pub fn assemble(alloc: Global, module: &Module) -> Result<Unit, AsmAnswer>
+    ensures { AnswersBy result (UnitFor module.now) }
+{
+    laws::lines_make_units();
+    laws::names_are_names();
+    match assembled_rows(alloc, module.lines()) {
+        Ok(rows) => Ok(Unit::of(alloc, rows)?),
+        Err(answer) => Err(answer),
     }
 }

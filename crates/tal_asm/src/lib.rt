@@ -1,10 +1,10 @@
-// The assembler: a module of assembly text has the rows of a unit, or its first line with a fault is told.
+// The assembler: a module of assembly text has its unit, or its first line with a fault is told.
 //
-// `assembled_rows` goes over the lines once. Each line makes rows in the tables of the unit (`tal_tables`), and a function's lines
-// make its code (`tal_code`). Names are found by hash.
+// `assemble` goes over the lines once. Each line makes rows in the tables of the unit (`tal_tables`), and a function's lines make
+// its code (`tal_code`). Names are found by hash.
 //
 // `UnitFor` (in specs/) is the unit of a module by its lines, or the first line with a fault and the least code there. The module
-// `laws` has that it keeps the conditions of unit files, where the names of its rows are names.
+// `laws` has that it keeps the conditions of unit files.
 #![tactic(auto)]
 
 mod assembling;
@@ -12,4 +12,4 @@ pub mod laws;
 mod mentions;
 
 pub use asm_faults::{AsmAnswer, AsmFault};
-pub use assembling::assembled_rows;
+pub use assembling::assemble;

@@ -1,6 +1,4 @@
 use Rattle.std.proofs.Common.{sym, ◌∙◌}
-use Rattle.std.proofs.lemmas.List.{drop_all}
-use Rattle.tal_asm.specs.UnitFor.{first_mention}
 use Rattle.tal_asm.proofs.Mentioned.{first_here, first_behind}
 use Rattle.tal_asm.proofs.mentions.first_mention.Goals as goal
 
