@@ -1,6 +1,7 @@
 -- How a command ends, from what its parts did.
 use Rattle.std.specs.Prelude.{Option, Some, None, Result, Ok, Err, IsErrAnd}
 use Rattle.std.proofs.Common.{◌≡◌, ◌≤◌, ◌<◌, ℕ, List, [], inl, inr, refl, sym, ◌∙◌, ap, subst, arith}
+use Rattle.outside.specs.FileMaps.{FileMap, Writes, LeavesFront}
 use Rattle.tal_checker.specs.WellTyped.{WellTyped}
 use Rattle.typed_machine.specs.declared.ending.Ending.{Ending}
 use Rattle.stack_states.specs.declared.journal_entry.Entry.{Entry}
@@ -12,9 +13,9 @@ use Rattle.verve_tool.specs.Commands.{Request, Run, command_form}
 use Rattle.verve_tool.specs.Runs.{RunWords, IsOver, run_text, text_of, status_at}
 use Rattle.verve_tool.specs.declared.words.RunText.{RunText}
 use Rattle.verve_tool.specs.Forms.{Unrun}
-use Rattle.verve_tool.specs.Seen.{FilesSeen, SinkSeen, Call, OnlyReads, OnlyPuts, Leaves}
+use Rattle.verve_tool.specs.Seen.{FilesSeen, SinkSeen, Call, KeptBut, OnlyReads, OnlyPuts, OnlyWrites, Leaves}
 use Rattle.verve_tool.specs.Outcome.{Ends, finished, unwritten, unread, stopped, wanting, Idle}
-use Rattle.verve_tool.specs.Stops.{Acted, Made, IsPut, StopsAt, IsUnread, status_of, line_of, told_status, told_line}
+use Rattle.verve_tool.specs.Stops.{Acted, Made, IsPut, IsWritten, StopsAt, IsUnread, status_of, line_of, told_status, told_line}
 use Rattle.verve_tool.specs.declared.status.Status.{Status}
 use Rattle.verve_tool.specs.declared.status.Status.TheVariants as status
 use Rattle.verve_tool.specs.declared.stop.Stop.{Stop}
@@ -51,11 +52,27 @@ reads_both before mid after Told a b = record {
   failed_alone = λ h. absurd (no_rise _ _ _ a.failed_alone b.failed_alone h);
 }
 
--- a command that writes no file only read files and put text, and told each fault
-leaves_all : (c : Call) (s : Status) (writes : Option (List ℕ)) (R P : Type 0) → writes ≡ None → OnlyReads c.files c.files_after R → OnlyPuts c.out c.out_after P
+-- files that stay are as before but for any one
+kept_same : (written : Option (List ℕ)) (before after : Option FileMap) → after ≡ before → KeptBut written before after
+kept_same None before after same = same
+kept_same (Some name) None after same = same
+kept_same (Some name) (Some files) after same = rw same (λ other differs. refl)
+
+-- reads of which none failed
+pub quiet_reads : (before after : FilesSeen) (Told : Type 0) → OnlyReads before after ⊥ → OnlyReads before after Told
+quiet_reads before after Told r = record {
+  told = r.told;
+  steady = r.steady;
+  write_faults = r.write_faults;
+  never_falls = r.never_falls;
+  failed_alone = λ rose. absurd (r.failed_alone rose);
+}
+
+-- a command only read files and put text, and told each fault
+leaves_all : (c : Call) (s : Status) (writes : Option (List ℕ)) (R P : Type 0) → OnlyReads c.files c.files_after R → OnlyPuts c.out c.out_after P
     → (R → s ≡ status.ReadFault) → (P → s ≡ status.WriteFault) → Leaves writes c s
-leaves_all c s writes R P none reads puts r p = subst (λ w. Leaves w c s) (sym none) (record {
-  files = reads.told;
+leaves_all c s writes R P reads puts r p = record {
+  files = kept_same writes c.files.told c.files_after.told reads.told;
   steady = reads.steady;
   reads = reads.never_falls;
   reads_told = λ h. r (reads.failed_alone h);
@@ -63,7 +80,7 @@ leaves_all c s writes R P none reads puts r p = subst (λ w. Leaves w c s) (sym 
   writes_told = λ h. absurd (omega (arith, h, reads.write_faults));
   puts = puts.never_falls;
   puts_told = λ h. p (puts.failed_alone h);
-})
+}
 
 -- the files of a command stopped it before anything was done
 ends_stopped : (c : Call) (request : Request) (s : Stop) → Idle c → (command_form request).MayHaveRun c → StopsAt c.files c.files_after (command_form request).causes s
@@ -73,22 +90,22 @@ ends_stopped c request (Read n) idle left h =
 ends_stopped c request s idle left (inl want) = wanting (record { silent = idle.silent; left = left; status = want.status; line_is = want.line })
 ends_stopped c request s idle left (inr h) = stopped (record { cause = h.cause; first = h.first; idle = idle; status = h.status })
 
-pub acted_stopped : (c : Call) (request : Request) (s : Stop) → (command_form request).writes ≡ None → c.out_after.told ≡ c.out.told → c.entries ≡ [] → c.kept ≡ None
+pub acted_stopped : (c : Call) (request : Request) (s : Stop) → c.out_after.told ≡ c.out.told → c.entries ≡ [] → c.kept ≡ None
     → (Unrun c → (command_form request).MayHaveRun c) → StopsAt c.files c.files_after (command_form request).causes s → OnlyReads c.files c.files_after (IsUnread s)
     → OnlyPuts c.out c.out_after ⊥ → Acted request c (Err s)
-acted_stopped c request s none silent entries kept left stops reads puts = record {
+acted_stopped c request s silent entries kept left stops reads puts = record {
   ends =
       let unrun : Unrun c = record { no_entries = entries; none_kept = kept } in
       ends_stopped c request s (record { silent = record { out = silent; files = reads.told }; unrun = unrun }) (left unrun) stops;
-  leaves = leaves_all c (status_of s) _ (IsUnread s) ⊥ none reads puts (unread_status s) (λ h. absurd h);
+  leaves = leaves_all c (status_of s) _ (IsUnread s) ⊥ reads puts (unread_status s) (λ h. absurd h);
 }
 
 -- memory was wanting before anything was put
-pub acted_wanting : (c : Call) (request : Request) → (command_form request).writes ≡ None → c.out_after.told ≡ c.out.told → (command_form request).MayHaveRun c
+pub acted_wanting : (c : Call) (request : Request) → c.out_after.told ≡ c.out.told → (command_form request).MayHaveRun c
     → OnlyReads c.files c.files_after ⊥ → OnlyPuts c.out c.out_after ⊥ → Acted request c (Err NoMemory)
-acted_wanting c request none silent left reads puts = record {
+acted_wanting c request silent left reads puts = record {
   ends = wanting (record { silent = record { out = silent; files = reads.told }; left = left; status = refl; line_is = refl });
-  leaves = leaves_all c status.NoMemory _ ⊥ ⊥ none reads puts (λ h. absurd h) (λ h. absurd h);
+  leaves = leaves_all c status.NoMemory _ ⊥ ⊥ reads puts (λ h. absurd h) (λ h. absurd h);
 }
 
 -- a command did its work, and its text was put
@@ -104,7 +121,57 @@ pub acted_put : (c : Call) (request : Request) (whole : Status) (text : List ℕ
     → OnlyPuts c.out c.out_after (IsErrAnd r (λ s. s ≡ Write)) → Acted request c r
 acted_put c request whole text r none did put reads puts = record {
   ends = ends_put c request whole text r none did put;
-  leaves = leaves_all c (told_status r) _ ⊥ (IsErrAnd r (λ s. s ≡ Write)) none reads puts (λ h. absurd h) (put_status r);
+  leaves = leaves_all c (told_status r) _ ⊥ (IsErrAnd r (λ s. s ≡ Write)) reads puts (λ h. absurd h) (put_status r);
+}
+
+-- ---- files that are written
+
+-- a file that was written whole, and one that was not, leave every other as it was
+kept_whole : (name bytes : List ℕ) (before after : Option FileMap) → Writes before after name bytes → KeptBut (Some name) before after
+kept_whole name bytes None after h = h
+kept_whole name bytes (Some files) None h = absurd h
+kept_whole name bytes (Some files) (Some more) h = h.1
+
+kept_part : (name bytes : List ℕ) (before after : Option FileMap) → LeavesFront before after name bytes → KeptBut (Some name) before after
+kept_part name bytes before after (inl h) = kept_whole name h.0 before after h.2
+kept_part name bytes before after (inr h) = kept_same (Some name) before after h.1
+
+kept_written : (name bytes : List ℕ) (before after : FilesSeen) (r : Result Status Stop) → IsWritten before after name bytes r → KeptBut (Some name) before.told after.told
+kept_written name bytes before after (Ok s) h = kept_whole name bytes before.told after.told h.0
+kept_written name bytes before after (Err Write) h = kept_part name bytes before.told after.told h.1
+kept_written name bytes before after (Err _) h = absurd h
+
+-- a command did its work, and its text was written into a file
+ends_written : (c : Call) (mid : FilesSeen) (request : Request) (name text : List ℕ) (r : Result Status Stop) → (command_form request).writes ≡ Some name
+    → (command_form request).Did c status.Done text → c.out_after ≡ c.out → mid.told ≡ c.files.told → mid.write_faults ≡ c.files.write_faults
+    → IsWritten mid c.files_after name text r → Ends c (command_form request) (told_status r) (told_line r)
+ends_written c mid request name text (Ok s) is did out told faults h =
+    rw h.1 (finished (record { text = text; did = did; written = rw is (rw told at h.0, rw out refl); line_is = refl }))
+ends_written c mid request name text (Err Write) is did out told faults h = unwritten (record {
+  whole = status.Done;
+  text = text;
+  did = did;
+  part = rw is (rw faults at h.0, rw told at h.1, rw out refl);
+  status = refl;
+  line_is = refl;
+})
+ends_written c mid request name text (Err _) is did out told faults h = absurd h
+
+pub acted_written : (c : Call) (mid : FilesSeen) (request : Request) (name text : List ℕ) (r : Result Status Stop) → (command_form request).writes ≡ Some name
+    → (command_form request).Did c status.Done text → c.out_after ≡ c.out → OnlyReads c.files mid ⊥ → IsWritten mid c.files_after name text r
+    → OnlyWrites mid c.files_after (IsErrAnd r (λ s. s ≡ Write)) → Acted request c r
+acted_written c mid request name text r is did out reads h writes = record {
+  ends = ends_written c mid request name text r is did out reads.told reads.write_faults h;
+  leaves = subst (λ w. Leaves w c (told_status r)) (sym is) (record {
+    files = rw reads.told at (kept_written name text mid c.files_after r h);
+    steady = writes.steady ∙ reads.steady;
+    reads = omega (arith, reads.never_falls, writes.read_faults);
+    reads_told = λ rose. absurd (reads.failed_alone (omega (arith, rose, writes.read_faults)));
+    writes = omega (arith, reads.write_faults, writes.never_falls);
+    writes_told = λ rose. (refl, put_status r (writes.failed_alone (omega (arith, rose, reads.write_faults))));
+    puts = omega (arith, ap (λ o. o.faults) out);
+    puts_told = λ rose. absurd (omega (arith, rose, ap (λ o. o.faults) out));
+  });
 }
 
 -- ---- runs

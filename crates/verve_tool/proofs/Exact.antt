@@ -7,7 +7,7 @@ use Rattle.std.proofs.lemmas.Fmt.{decimal_injective}
 use Rattle.outside.specs.FileMaps.{FileMap}
 use Rattle.outside.specs.Faults.{Faulted, Quiet}
 use Rattle.tal_image.specs.Image.{ImageParts}
-use Rattle.verve_tool.specs.Commands.{Request, Check, Listing, Run, command_form, WordsOf, NoCommand, NothingStops}
+use Rattle.verve_tool.specs.Commands.{Request, Check, Listing, Run, Assemble, command_form, WordsOf, NoCommand, NothingStops}
 use Rattle.verve_tool.specs.Runs.{RunWords, AllowsRun, command_word, turns_most}
 use Rattle.verve_tool.specs.declared.words.RunText.{RunText}
 use Rattle.verve_tool.specs.declared.words.RunText.TheVariants.{Report, Journal}
@@ -21,6 +21,10 @@ use Rattle.verve_tool.specs.declared.status.Status.TheVariants.{Done, Usage, Rea
 -- two words have one second
 same_names : (w i j : List ℕ) → (w ∷ i ∷ []) ≡ (w ∷ j ∷ []) → i ≡ j
 same_names w i j h = cc
+
+-- three words have one second and one third
+same_pair : (w i j k l : List ℕ) → (w ∷ i ∷ k ∷ []) ≡ (w ∷ j ∷ l ∷ []) → (i ≡ j) × (k ≡ l)
+same_pair w i j k l h = (cc, cc)
 
 -- equal lists of words have equal words
 same_words : (w i j e f s t : List ℕ) → (w ∷ i ∷ e ∷ s ∷ []) ≡ (w ∷ j ∷ f ∷ t ∷ []) → (i ≡ j) × (e ≡ f) × (s ≡ t)
@@ -54,6 +58,9 @@ same_request words (Run k a) (Run m b) p q =
     let same : k ≡ m = same_kind k m (cc spelled) in
     let run = same_run (command_word k) a b (few_turns k a p.allowed) (few_turns m b q.allowed) (spelled ∙ rw same refl) in
     rw (same, run) refl
+same_request words (Assemble a u) (Assemble b v) p q =
+    let same = same_pair _ a b u v (sym p.spelled ∙ q.spelled) in
+    rw (same.0, same.1) refl
 same_request words a b p q = absurd (cc (sym p.spelled ∙ q.spelled))
 
 -- the words of a command ended as that command

@@ -1,5 +1,9 @@
 -- What was read of files tells which causes do not hold of them, and which do.
 use Rattle.std.specs.Prelude.{Option, Some, None, IsSomeAnd, Result, Ok, Err, IfErr}
+use Rattle.tal_syntax.specs.declared.fault.TextFault.{TextFault}
+use Rattle.unit_files.specs.Unit.{UnitParts}
+use Rattle.verve_tool.specs.Texts.{unit_at}
+use Rattle.verve_tool.proofs.WordLemmas.{no_err}
 use Rattle.std.proofs.Common.{◌≡◌, ◌≢◌, ◌⊎◌, ◌≤◌, ◌<◌, ℕ, ◌+◌, List, [], ◌∷◌, take, length, Bor, inl, inr, refl, sym, ◌∙◌, subst, append-nil, arith}
 use Rattle.outside.specs.FileMaps.{FileMap, Gives}
 use Rattle.device_model.specs.EventFile.{IsFirstFault}
@@ -18,15 +22,15 @@ use Rattle.tal_checker.specs.declared.answer.CheckAnswer.{CheckAnswer}
 use Rattle.tal_checker.specs.declared.answer.CheckAnswer.TheVariants as answer
 use Rattle.verve_tool.specs.Checks.{a_check}
 use Rattle.verve_tool.specs.Listings.{a_listing}
-use Rattle.verve_tool.specs.Commands.{Check, Listing, Run, NothingStops}
+use Rattle.verve_tool.specs.Commands.{Check, Listing, Run, Assemble, NothingStops}
 use Rattle.verve_tool.specs.Runs.{RunWords, run_causes, HoldsEvents, Loaded}
-use Rattle.verve_tool.specs.Causes.{Cause, Missing, Long, Malformed, IllTyped, BadEvents, Holds, CauseFails, NoneHolds, FileRead, HoldsImage, TypedImage, status_of as status_of_cause}
+use Rattle.verve_tool.specs.Causes.{Cause, Missing, Long, Malformed, IllTyped, BadEvents, Unassembled, Holds, CauseFails, NoneHolds, FileRead, HoldsImage, TypedImage, status_of as status_of_cause}
 use Rattle.verve_tool.specs.Seen.{FilesSeen}
 use Rattle.verve_tool.specs.Stops.{StopsBy, StopsAt, TellsFirst, status_of, line_of}
 use Rattle.verve_tool.proofs.CauseLists.{stops_between, stops_by_bytes}
-use Rattle.verve_tool.specs.declared.load.TheConstants.{IMAGE_MOST, EVENTS_MOST}
+use Rattle.verve_tool.specs.declared.load.TheConstants.{IMAGE_MOST, EVENTS_MOST, TEXT_MOST}
 use Rattle.verve_tool.specs.declared.stop.Stop.{Stop}
-use Rattle.verve_tool.specs.declared.stop.Stop.TheVariants.{Image, NotAccepted, Events}
+use Rattle.verve_tool.specs.declared.stop.Stop.TheVariants.{Image, NotAccepted, Events, Text}
 
 -- a file has one front of a length
 one_front : (o : Option (List ℕ)) (n : ℕ) (a b : List ℕ) → IsSomeAnd o (λ whole. a ≡ take n whole) → IsSomeAnd o (λ whole. b ≡ take n whole) → a ≡ b
@@ -85,6 +89,13 @@ not_bad_events either None name events held = tt
 not_bad_events either (Some files) name events held = λ line h. h.1.real (either held.bytes events h.0 held.list
     (subst (λ (b : List ℕ). IsFirstFault b h.0) (gives_one files name EVENTS_MOST h.1.bytes held.bytes h.1.file.read held.file.read) h.1.first))
 
+-- a text that has a unit has no fault
+not_unassembled : (told : Option FileMap) (name bytes : List ℕ) (unit : UnitParts) → FileRead told name TEXT_MOST bytes → unit_at bytes ≡ Ok unit
+    → CauseFails told (Unassembled name)
+not_unassembled None name bytes unit file made = tt
+not_unassembled (Some files) name bytes unit file made = λ line h. no_err (unit_at bytes) unit h.0 made
+    (subst (λ (b : List ℕ). unit_at b ≡ Err h.0) (gives_one files name TEXT_MOST h.1.bytes bytes h.1.file.read file.read) h.1.first)
+
 -- a run that was loaded had no cause to stop
 loaded_stops_none : OneImageMeaning → OneRefusal → ListOrFault → (told : Option FileMap) (run : RunWords) (image : ImageParts) (events : List Event)
     → Loaded told run image events → NoneHolds told (run_causes run)
@@ -106,6 +117,9 @@ nothing_stops meaning refusal either c (Listing name) s text d =
     (a.0, (a.1.0, (not_malformed meaning c.files.told name d.0 d.1, tt)))
 nothing_stops meaning refusal either c (Run kind run) s text d =
     loaded_stops_none meaning refusal either c.files.told run d.0.machine.image d.0.machine.events d.0.loaded
+nothing_stops meaning refusal either c (Assemble text unit) s bytes d =
+    let a = read_stops_none c.files.told text TEXT_MOST d.0 d.1 in
+    (a.0, (a.1.0, (not_unassembled c.files.told text d.0 d.2.unit d.1 d.2.made, tt)))
 
 -- ---- what stops a command
 
@@ -136,19 +150,25 @@ event_fault_stops told events bytes event_fault.NoMemory file first = inl (recor
 event_fault_stops told events bytes f file first = inr (first_of_one told (BadEvents events) [] (Events f)
     (f, record { bytes = bytes; file = file; first = first; real = λ e. cc e }, refl) refl)
 
+-- a fault of a text
+pub text_fault_stops : (told : Option FileMap) (name bytes : List ℕ) (f : TextFault) → FileRead told name TEXT_MOST bytes → unit_at bytes ≡ Err f
+    → StopsBy told (Unassembled name ∷ []) (Text f)
+text_fault_stops told name bytes f file first =
+    inr (first_of_one told (Unassembled name) [] (Text f) (f, record { bytes = bytes; file = file; first = first }, refl) refl)
+
 -- ---- steps of a command, one after another
 
--- an image file that was not read stops a command that begins with it
-pub unread_stops : (before after : FilesSeen) (name : List ℕ) (rest : List Cause) (s : Stop)
-    → StopsAt before after (Missing name ∷ Long name IMAGE_MOST ∷ []) s → StopsAt before after (Missing name ∷ Long name IMAGE_MOST ∷ rest) s
-unread_stops before after name rest s h = stops_between before after [] (Missing name ∷ Long name IMAGE_MOST ∷ []) rest s tt h
+-- a file that was not read stops a command that begins with it
+pub unread_stops : (before after : FilesSeen) (name : List ℕ) (most : ℕ) (rest : List Cause) (s : Stop)
+    → StopsAt before after (Missing name ∷ Long name most ∷ []) s → StopsAt before after (Missing name ∷ Long name most ∷ rest) s
+unread_stops before after name most rest s h = stops_between before after [] (Missing name ∷ Long name most ∷ []) rest s tt h
 
 -- one that was read stops it by what it holds
-pub held_stops : {T : Type 0} (before after : FilesSeen) (name bytes : List ℕ) (rest : List Cause) (r : Result T Stop) → FileRead before.told name IMAGE_MOST bytes
-    → IfErr r (λ s. StopsBy before.told rest s) → IfErr r (λ s. StopsAt before after (Missing name ∷ Long name IMAGE_MOST ∷ rest) s)
-held_stops before after name bytes rest (Ok x) file h = tt
-held_stops before after name bytes rest (Err s) file h = subst (λ cs. StopsAt before after (Missing name ∷ Long name IMAGE_MOST ∷ cs) s) (append-nil rest)
-    (stops_between before after (Missing name ∷ Long name IMAGE_MOST ∷ []) rest [] s (read_stops_none before.told name IMAGE_MOST bytes file)
+pub held_stops : {T : Type 0} (before after : FilesSeen) (name bytes : List ℕ) (most : ℕ) (rest : List Cause) (r : Result T Stop) → FileRead before.told name most bytes
+    → IfErr r (λ s. StopsBy before.told rest s) → IfErr r (λ s. StopsAt before after (Missing name ∷ Long name most ∷ rest) s)
+held_stops before after name bytes most rest (Ok x) file h = tt
+held_stops before after name bytes most rest (Err s) file h = subst (λ cs. StopsAt before after (Missing name ∷ Long name most ∷ cs) s) (append-nil rest)
+    (stops_between before after (Missing name ∷ Long name most ∷ []) rest [] s (read_stops_none before.told name most bytes file)
     (stops_by_bytes before after rest s h))
 
 -- so does a file that holds no image, and one whose image is not accepted

@@ -24,6 +24,13 @@ one_word [] a len h0 = let bad : ⊥ = omega arith in absurd bad
 one_word (w ∷ []) a len h0 = cc
 one_word (w ∷ x ∷ rest) a len h0 = let bad : ⊥ = omega arith in absurd bad
 
+-- two words are the list of them
+pub two_words : (words : List (String Global)) (a b : String Global) → length words ≡ 2 → a ≡ get_or words 0 a → b ≡ get_or words 1 b → words ≡ a ∷ b ∷ []
+two_words [] a b len h0 h1 = let bad : ⊥ = omega arith in absurd bad
+two_words (w ∷ []) a b len h0 h1 = let bad : ⊥ = omega arith in absurd bad
+two_words (w ∷ x ∷ []) a b len h0 h1 = cc
+two_words (w ∷ x ∷ y ∷ rest) a b len h0 h1 = let bad : ⊥ = omega arith in absurd bad
+
 -- three words are the list of them
 pub three_words : (words : List (String Global)) (a b c : String Global) → length words ≡ 3
     → a ≡ get_or words 0 a → b ≡ get_or words 1 b → c ≡ get_or words 2 c → words ≡ a ∷ b ∷ c ∷ []

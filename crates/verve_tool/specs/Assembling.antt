@@ -1,16 +1,25 @@
--- `asm TEXT UNIT`, which is not built yet: the form of a command that writes a file, and stops by a cause of its own.
-use Rattle.std.specs.Prelude.{◌≡◌, ◌≢◌, ℕ, List, [], ◌∷◌, codes, Some}
-use Rattle.verve_tool.specs.Causes.{Cause, Missing, Long, FileRead}
+-- `asm TEXT UNIT`: the unit of a text, written into a file.
+use Rattle.std.specs.Prelude.{◌≡◌, ◌≢◌, ℕ, List, [], ◌∷◌, codes, Some, Ok}
+use Rattle.unit_files.specs.Unit.{UnitParts}
+use Rattle.unit_files.specs.Formed.{UnitOf}
+use Rattle.verve_tool.specs.Texts.{unit_at}
+use Rattle.verve_tool.specs.Causes.{Missing, Long, Unassembled, FileRead}
 use Rattle.verve_tool.specs.Forms.{Form, Unrun}
+use Rattle.verve_tool.specs.declared.load.TheConstants.{TEXT_MOST}
 use Rattle.verve_tool.specs.declared.status.Status.TheVariants.{Done}
 
--- over which unit's bytes a text has, the cause that it has none, and how many bytes a text has at most
-abbrev pub an_assembling : (List ℕ → List ℕ → Type 0) → (List ℕ → Cause) → ℕ → List ℕ → List ℕ → Form
-an_assembling HasUnit no_unit most text unit = record {
+-- the text has a unit, for which these bytes stand
+pub record HasUnit (text bytes : List ℕ) : Type 0 where
+  pub unit : UnitParts
+  pub made : unit_at text ≡ Ok unit
+  pub stands : UnitOf bytes unit
+
+abbrev pub an_assembling : List ℕ → List ℕ → Form
+an_assembling text unit = record {
   words = codes "asm" ∷ text ∷ unit ∷ [];
   Allowed = (text ≢ []) × (unit ≢ []);
-  causes = Missing text ∷ Long text most ∷ no_unit text ∷ [];
+  causes = Missing text ∷ Long text TEXT_MOST ∷ Unassembled text ∷ [];
   writes = Some unit;
-  Did = λ c s bytes. (read : List ℕ) × FileRead c.files.told text most read × HasUnit read bytes × Unrun c × (s ≡ Done);
+  Did = λ c s bytes. (read : List ℕ) × FileRead c.files.told text TEXT_MOST read × HasUnit read bytes × Unrun c × (s ≡ Done);
   MayHaveRun = Unrun;
 }

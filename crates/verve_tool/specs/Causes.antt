@@ -1,5 +1,5 @@
 -- Why the files of a command stop it: the causes, which come in an order, and of which the first that holds decides.
-use Rattle.std.specs.Prelude.{◌≡◌, ◌≢◌, ◌⊎◌, ◌<◌, ◌≤◌, ℕ, List, [], ◌∷◌, length, Option, Some, None}
+use Rattle.std.specs.Prelude.{◌≡◌, ◌≢◌, ◌⊎◌, ◌<◌, ◌≤◌, ℕ, List, [], ◌∷◌, length, Option, Some, None, Err}
 use Rattle.outside.specs.FileMaps.{FileMap, Gives, Lacks}
 use Rattle.device_model.specs.EventFile.{IsFirstFault}
 use Rattle.device_model.specs.declared.events.EventFault.{EventFault}
@@ -10,8 +10,10 @@ use Rattle.tal_image.specs.Fields.{FirstFault}
 use Rattle.file_fields.specs.declared.fault.ImageFault.{ImageFault}
 use Rattle.file_fields.specs.declared.fault.ImageFault.TheVariants.{NoMemory}
 use Rattle.tal_checker.specs.WellTyped.{WellTyped, FirstRefusal}
-use Rattle.verve_tool.specs.Lines.{read_line, long_line, fault_line, event_fault_line, refused_line}
-use Rattle.verve_tool.specs.declared.load.TheConstants.{IMAGE_MOST, EVENTS_MOST}
+use Rattle.tal_syntax.specs.declared.fault.TextFault.{TextFault}
+use Rattle.verve_tool.specs.Texts.{unit_at}
+use Rattle.verve_tool.specs.Lines.{read_line, long_line, fault_line, event_fault_line, text_line, refused_line}
+use Rattle.verve_tool.specs.declared.load.TheConstants.{IMAGE_MOST, EVENTS_MOST, TEXT_MOST}
 use Rattle.verve_tool.specs.declared.status.Status.{Status}
 use Rattle.verve_tool.specs.declared.status.Status.TheVariants as status
 
@@ -27,6 +29,8 @@ pub data Cause : Type 0 where
   IllTyped : List ℕ → Cause
   -- it is no event file
   BadEvents : List ℕ → Cause
+  -- its text has no unit
+  Unassembled : List ℕ → Cause
 
 -- the status by which a cause is told
 abbrev pub status_of : Cause → Status
@@ -35,6 +39,7 @@ status_of (Long name most) = status.TooLong
 status_of (Malformed name) = status.Malformed
 status_of (IllTyped name) = status.Refused
 status_of (BadEvents name) = status.Events
+status_of (Unassembled name) = status.Text
 
 -- a file was read, and has at most so many bytes
 pub record FileRead (told : Option FileMap) (name : List ℕ) (most : ℕ) (bytes : List ℕ) : Type 0 where
@@ -78,6 +83,12 @@ pub record HasEventFault (told : Option FileMap) (name : List ℕ) (fault : Even
   pub first : IsFirstFault bytes fault
   pub real : fault ≢ event_fault.NoMemory
 
+-- the text of the file has no unit, and this is its first fault
+pub record HasTextFault (told : Option FileMap) (name : List ℕ) (fault : TextFault) : Type 0 where
+  pub bytes : List ℕ
+  pub file : FileRead told name TEXT_MOST bytes
+  pub first : unit_at bytes ≡ Err fault
+
 -- The cause holds of the files, and this is its line. Of files that tell nothing it says that there are such bytes.
 abbrev pub Holds : Option FileMap → Cause → List ℕ → Type 0
 Holds told (Missing name) line = Lacks told name × (line ≡ read_line name)
@@ -85,6 +96,7 @@ Holds told (Long name most) line = IsLong told name most × (line ≡ long_line 
 Holds told (Malformed name) line = (fault : ImageFault) × HasFault told name fault × (line ≡ fault_line name fault)
 Holds told (IllTyped name) line = (address rule : ℕ) × IsIllTyped told name address rule × (line ≡ refused_line address rule)
 Holds told (BadEvents name) line = (fault : EventFault) × HasEventFault told name fault × (line ≡ event_fault_line fault)
+Holds told (Unassembled name) line = (fault : TextFault) × HasTextFault told name fault × (line ≡ text_line fault)
 
 -- The cause does not hold. Of files that tell nothing nobody knows.
 abbrev pub CauseFails : Option FileMap → Cause → Type 0

@@ -7,6 +7,7 @@ use Rattle.verve_tool.specs.Forms.{Form}
 use Rattle.verve_tool.specs.Checks.{a_check}
 use Rattle.verve_tool.specs.Listings.{a_listing}
 use Rattle.verve_tool.specs.Runs.{RunWords, a_run}
+use Rattle.verve_tool.specs.Assembling.{an_assembling}
 use Rattle.verve_tool.specs.declared.words.RunText.{RunText}
 use Rattle.verve_tool.specs.declared.status.Status.{Status}
 
@@ -15,12 +16,14 @@ pub data Request : Type 0 where
   Check : List ℕ → Request
   Listing : List ℕ → Request
   Run : RunText → RunWords → Request
+  Assemble : List ℕ → List ℕ → Request
 
 -- the form of each
 abbrev pub command_form : Request → Form
 command_form (Check image) = a_check image
 command_form (Listing image) = a_listing image
 command_form (Run text run) = a_run text run
+command_form (Assemble text unit) = an_assembling text unit
 
 -- the words ask for this
 pub record WordsOf (words : List (String Global)) (request : Request) : Type 0 where

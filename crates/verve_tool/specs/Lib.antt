@@ -1,5 +1,7 @@
 -- Lines on the error stream.
 pub mod Lines
+-- What an assembly text comes to.
+pub mod Texts
 -- Why the files of a command stop it.
 pub mod Causes
 -- What is seen of a call from outside.

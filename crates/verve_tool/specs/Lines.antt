@@ -4,6 +4,7 @@ use Rattle.outside.specs.Faults.{Quiet}
 use Rattle.outside.specs.Sinks.{Gained, GainedFront}
 use Rattle.device_model.specs.declared.events.EventFault.{EventFault}
 use Rattle.device_model.specs.declared.events.EventFault.TheVariants as event_fault
+use Rattle.tal_syntax.specs.declared.fault.TextFault.{TextFault}
 use Rattle.hex_text.specs.Words.{word_text}
 use Rattle.tal_checker.specs.declared.answer.CheckAnswer.{CheckAnswer}
 use Rattle.tal_checker.specs.declared.answer.CheckAnswer.TheVariants as answer
@@ -57,6 +58,10 @@ event_fault_line (event_fault.Syntax number) = events_line number (codes " synta
 event_fault_line (event_fault.Range number) = events_line number (codes " range\n")
 event_fault_line (event_fault.TooMany number) = events_line number (codes " many\n")
 event_fault_line event_fault.NoMemory = no_memory_line
+
+-- the place and the code of the first fault of a text
+abbrev pub text_line : TextFault → List ℕ
+text_line f = codes "text line " ++ decimal f.line ++ codes " column " ++ decimal f.column ++ codes " code " ++ decimal f.code ++ codes "\n"
 
 -- the first address at which a rule fails, and the least rule failing there
 abbrev pub refused_line : ℕ → ℕ → List ℕ

@@ -9,7 +9,7 @@ use Rattle.verve_tool.specs.Seen.{Call, Leaves}
 use Rattle.verve_tool.specs.Forms.{Form, Unrun, Written, PartWritten}
 use Rattle.verve_tool.specs.Commands.{Request, command_form, WordsOf, NoCommand}
 use Rattle.verve_tool.specs.declared.status.Status.{Status}
-use Rattle.verve_tool.specs.declared.status.Status.TheVariants.{Done, Usage, ReadFault, WriteFault, Events, Malformed, Refused, TooLong, KernelFault, NoMemory}
+use Rattle.verve_tool.specs.declared.status.Status.TheVariants.{Done, Usage, ReadFault, WriteFault, Events, Malformed, Refused, Text, TooLong, KernelFault, NoMemory}
 
 -- nothing was put into the output, and no file written
 pub record Silent (c : Call) : Type 0 where
@@ -101,6 +101,7 @@ exit_number WriteFault = 3
 exit_number Events = 4
 exit_number Malformed = 5
 exit_number Refused = 6
+exit_number Text = 7
 exit_number TooLong = 9
 exit_number KernelFault = 10
 exit_number NoMemory = 11

@@ -41,6 +41,13 @@ pub record OnlyReads (before after : FilesSeen) (Told : Type 0) : Type 0 where
   pub never_falls : before.read_faults ≤ after.read_faults
   pub failed_alone : before.read_faults < after.read_faults → Told
 
+-- One file was written, and this is so where that failed.
+pub record OnlyWrites (before after : FilesSeen) (Told : Type 0) : Type 0 where
+  pub steady : after.steady ≡ before.steady
+  pub read_faults : after.read_faults ≡ before.read_faults
+  pub never_falls : before.write_faults ≤ after.write_faults
+  pub failed_alone : before.write_faults < after.write_faults → Told
+
 -- A stream was only put into, and this is so where that failed.
 pub record OnlyPuts (before after : SinkSeen) (Told : Type 0) : Type 0 where
   pub never_falls : before.faults ≤ after.faults

@@ -1,6 +1,6 @@
 -- What stops a command in the code, with its status and its line, and what the code reads from the words.
 use Rattle.std.specs.Prelude.{◌≡◌, ◌≤◌, ◌<◌, ◌⊎◌, ℕ, List, [], true, Option, Result, Ok, Err}
-use Rattle.outside.specs.FileMaps.{FileMap, Lacks}
+use Rattle.outside.specs.FileMaps.{FileMap, Lacks, Writes, LeavesFront}
 use Rattle.outside.specs.Faults.{Faulted}
 use Rattle.outside.specs.Sinks.{Gained, GainedFront}
 use Rattle.device_model.specs.declared.events.EventFault.TheVariants as event_fault
@@ -11,8 +11,8 @@ use Rattle.run_report.specs.declared.run_end.RunEnd.{RunEnd}
 use Rattle.run_report.specs.declared.run_end.RunEnd.TheVariants as run_end
 use Rattle.kernel_machine.specs.Machine.{MachineView, run_answer}
 use Rattle.verve_tool.specs.Runs.{RunWords, RanWithin}
-use Rattle.verve_tool.specs.Commands.{Request, Check, Listing, Run, command_form}
-use Rattle.verve_tool.specs.Lines.{usage_line, read_line, write_line, long_line, no_memory_line, fault_line, event_fault_line, answer_line}
+use Rattle.verve_tool.specs.Commands.{Request, Check, Listing, Run, Assemble, command_form}
+use Rattle.verve_tool.specs.Lines.{usage_line, read_line, write_line, long_line, no_memory_line, fault_line, event_fault_line, text_line, answer_line}
 use Rattle.verve_tool.specs.Causes.{Cause, Missing, ComesTo, IsFirstCause, status_of as status_of_cause}
 use Rattle.verve_tool.specs.Seen.{FilesSeen, SinkSeen, Call, Leaves}
 use Rattle.verve_tool.specs.Outcome.{Ends}
@@ -22,7 +22,7 @@ use Rattle.verve_tool.specs.declared.words.Command.TheVariants as command
 use Rattle.verve_tool.specs.declared.status.Status.{Status}
 use Rattle.verve_tool.specs.declared.status.Status.TheVariants as status
 use Rattle.verve_tool.specs.declared.stop.Stop.{Stop}
-use Rattle.verve_tool.specs.declared.stop.Stop.TheVariants.{Usage, Read, Write, Long, Image, NotAccepted, Events, NoMemory}
+use Rattle.verve_tool.specs.declared.stop.Stop.TheVariants.{Usage, Read, Write, Long, Image, NotAccepted, Events, Text, NoMemory}
 
 -- the run that a command asks for
 abbrev pub run_of : RunCommand → RunWords
@@ -33,6 +33,7 @@ abbrev pub request_of : Command → Request
 request_of (command.Check image) = Check image.now
 request_of (command.List image) = Listing image.now
 request_of (command.Run text run) = Run text (run_of run)
+request_of (command.Asm text unit) = Assemble text.now unit.now
 
 -- the status of a command that stopped
 abbrev pub status_of : Stop → Status
@@ -46,6 +47,7 @@ status_of (NotAccepted answer.NoMemory) = status.NoMemory
 status_of (NotAccepted a) = status.Refused
 status_of (Events event_fault.NoMemory) = status.NoMemory
 status_of (Events f) = status.Events
+status_of (Text f) = status.Text
 status_of NoMemory = status.NoMemory
 
 -- its line on the error stream
@@ -57,6 +59,7 @@ line_of (Long name) = long_line name.now
 line_of (Image name f) = fault_line name.now f
 line_of (NotAccepted a) = answer_line a
 line_of (Events f) = event_fault_line f
+line_of (Text f) = text_line f
 line_of NoMemory = no_memory_line
 
 -- memory was wanting
@@ -97,6 +100,12 @@ abbrev pub IsPut : SinkSeen → SinkSeen → List ℕ → Status → Result Stat
 IsPut before after text whole (Ok s) = Gained before.told after.told text × (s ≡ whole)
 IsPut before after text whole (Err Write) = Faulted before.faults after.faults × GainedFront before.told after.told text
 IsPut before after text whole (Err _) = ⊥
+
+-- a file was written after which a command is done, or it was not written whole
+abbrev pub IsWritten : FilesSeen → FilesSeen → List ℕ → List ℕ → Result Status Stop → Type 0
+IsWritten before after name bytes (Ok s) = Writes before.told after.told name bytes × (s ≡ status.Done)
+IsWritten before after name bytes (Err Write) = Faulted before.write_faults after.write_faults × LeavesFront before.told after.told name bytes
+IsWritten before after name bytes (Err _) = ⊥
 
 -- the status and the line of what a command answers
 abbrev pub told_status : Result Status Stop → Status

@@ -12,6 +12,7 @@ ghost use Rattle.verve_tool.specs.Seen.{call_of, Leaves};
 ghost use Rattle.verve_tool.specs.Stops.{told_status, told_line};
 ghost use Rattle.verve_tool.specs.declared.status.Status.{Status};
 
+use crate::assembling::act_asm;
 use crate::checks::act_check;
 use crate::complaint::complain;
 use crate::laws::{nothing_stops, one_cause};
@@ -45,6 +46,7 @@ fn act<'a, F: Files, K: Sink>(
     match command {
         Command::Check(image) => act_check(alloc, image, files, out),
         Command::List(image) => act_list(alloc, image, files, out),
+        Command::Asm { text, unit } => act_asm(alloc, text, unit, files, out),
         Command::Run(text, run) => act_run(alloc, text, run, files, out, journal, kept),
     }
 }
@@ -69,8 +71,8 @@ fn tell<E: Sink>(err: &mut E, answer: Result<Status, Stop<'_>>) -> Status
 /// one file over the events of another for so many turns at most, from 1 to [`kernel_machine::MOST_TURNS`], and puts the
 /// report into `out` in one piece; `journal IMAGE EVENTS TURNS` does so for at most 5000000 turns, and puts the entries of the
 /// run's journal behind the report; `check IMAGE` puts `accepted` into `out` where the image of a file is well typed;
-/// `list IMAGE` puts the listing of a file's image into `out` in one piece, well typed or not. An image file has at most
-/// 4 MiB, an event file 32 MiB.
+/// `list IMAGE` puts the listing of a file's image into `out` in one piece, well typed or not; `asm TEXT UNIT` writes the unit of
+/// a text into a file. An image file and a text have at most 4 MiB, an event file 32 MiB.
 ///
 /// [`Status`] says for each answer when it comes. What stops the command goes to `err` as one line, for which no memory is
 /// taken; a failure of `err` changes nothing but the line, of which `err` then has a front. The journal is cleared first, and

@@ -4,7 +4,8 @@ ghost use Rattle.std.specs.List.{flat_map};
 ghost use Rattle.device_model.specs.declared.events.EventFault.{EventFault};
 ghost use Rattle.hex_text.specs.Words.{word_text};
 ghost use Rattle.file_fields.specs.declared.fault.ImageFault.{ImageFault};
-ghost use Rattle.verve_tool.specs.Lines.{Says, file_line, bad_line, fault_line, events_line, event_fault_line, refused_line, answer_line};
+ghost use Rattle.tal_syntax.specs.declared.fault.TextFault.{TextFault};
+ghost use Rattle.verve_tool.specs.Lines.{Says, file_line, bad_line, fault_line, events_line, event_fault_line, text_line, refused_line, answer_line};
 ghost use Rattle.verve_tool.specs.Stops.{line_of};
 
 use crate::stop::Stop;
@@ -14,6 +15,7 @@ use itoa::Buffer;
 use outside::Sink;
 use tal_checker::CheckAnswer;
 use tal_image::ImageFault;
+use tal_syntax::TextFault;
 
 // Puts these pieces, up to the first that is not taken: so the stream has a front of them, and no later piece behind a gap.
 fn say<E: Sink>(err: &mut E, pieces: &[&[u8]])
@@ -90,6 +92,29 @@ fn say_event_fault<E: Sink>(err: &mut E, fault: EventFault)
     }
 }
 
+fn say_text<E: Sink>(err: &mut E, fault: TextFault)
+    ensures { Says (E.faults err.old) (E.faults err.new) (E.told err.old) (E.told err.new) (text_line fault) }
+{
+    let mut number = Buffer::new();
+    let line = number.format(fault.line);
+    let mut second = Buffer::new();
+    let column = second.format(fault.column);
+    let mut third = Buffer::new();
+    let code = third.format(fault.code);
+    say(
+        err,
+        &[
+            b"text line ",
+            line.as_bytes(),
+            b" column ",
+            column.as_bytes(),
+            b" code ",
+            code.as_bytes(),
+            b"\n",
+        ],
+    );
+}
+
 fn say_refused<E: Sink>(err: &mut E, address: u32, rule: u8)
     ensures { Says (E.faults err.old) (E.faults err.new) (E.told err.old) (E.told err.new) (refused_line address rule) }
 {
@@ -128,6 +153,7 @@ pub(crate) fn complain<E: Sink>(err: &mut E, stop: &Stop<'_>)
         Stop::Image(name, fault) => say_fault(err, name, fault),
         Stop::NotAccepted(answer) => say_answer(err, answer),
         Stop::Events(fault) => say_event_fault(err, fault),
+        Stop::Text(fault) => say_text(err, fault),
         Stop::NoMemory => say(err, &[b"no memory\n"]),
     }
 }

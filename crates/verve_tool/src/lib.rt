@@ -2,7 +2,8 @@
 //
 // `verve` does what the words of a command line say, over files and sinks that it is given, and answers a `Status`, whose
 // number is the program's exit status. `run` and `journal` run an image, and leave the journal of the run and the machine that
-// ran; `check` tells whether an image is accepted, and `list` prints the listing of an image; neither runs anything.
+// ran; `check` tells whether an image is accepted, `list` prints the listing of an image, and `asm` writes the unit of a text;
+// none of these runs anything.
 //
 // `Outcome` (in specs/) says what a call came to: the words are no command, or the command ended in one of five ways. All that
 // is said of one command stands in a record of the type `Form`: its words, the causes by which its files can stop it, of which
@@ -14,6 +15,7 @@
 // `status_of` and `Holds`, and its line in complaint.rt. specs/Assembling.antt is an example.
 #![tactic(auto)]
 
+mod assembling;
 mod checks;
 mod command;
 mod complaint;

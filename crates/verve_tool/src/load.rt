@@ -27,8 +27,11 @@ pub(crate) const IMAGE_MOST: usize = 4194304;
 // 32 MiB.
 const EVENTS_MOST: usize = 33554432;
 
+// 4 MiB.
+pub(crate) const TEXT_MOST: usize = 4194304;
+
 // The bytes of a file that has at most so many.
-fn read_file<'a, F: Files>(
+pub(crate) fn read_file<'a, F: Files>(
     alloc: Global,
     files: &mut F,
     name: &'a str,

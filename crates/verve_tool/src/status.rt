@@ -6,7 +6,7 @@ ghost use Rattle.verve_tool.specs.Outcome.{exit_number};
 /// file, both before what they hold is looked at, and the image is judged before the events.
 #[derive(Clone, Copy, Debug, PartialEq, Eq)]
 pub enum Status {
-    /// The command did its work: the image is accepted, or the run was made and its report written.
+    /// The command did its work: the image is accepted, or the run was made and its report written, or the unit was written.
     Done,
     /// The words are no command.
     Usage,
@@ -20,7 +20,9 @@ pub enum Status {
     Malformed,
     /// The image is not well typed.
     Refused,
-    /// A file is longer than its limit: 4 MiB for an image, 32 MiB for events.
+    /// A text has no unit.
+    Text,
+    /// A file is longer than its limit: 4 MiB for an image or a text, 32 MiB for events.
     TooLong,
     /// The run ended by a fault in the kernel, and the text was written.
     KernelFault,
@@ -41,6 +43,7 @@ impl Status {
             Status::Events => 4,
             Status::Malformed => 5,
             Status::Refused => 6,
+            Status::Text => 7,
             Status::TooLong => 9,
             Status::KernelFault => 10,
             Status::NoMemory => 11,

@@ -7,6 +7,7 @@ use device_model::EventFault;
 use no_memory::NoMemory;
 use tal_checker::CheckAnswer;
 use tal_image::ImageFault;
+use tal_syntax::TextFault;
 
 // Why a command stopped short of its work, with what its line on the error stream tells.
 #[derive(Clone, Copy)]
@@ -25,6 +26,8 @@ pub(crate) enum Stop<'a> {
     NotAccepted(CheckAnswer),
     // No list of events stands for the event file, or memory was wanting for it.
     Events(EventFault),
+    // A text has no unit.
+    Text(TextFault),
     // Memory was wanting.
     NoMemory,
 }
@@ -45,6 +48,7 @@ impl Stop<'_> {
             Stop::Image(..) => Status::Malformed,
             Stop::NotAccepted(_) => Status::Refused,
             Stop::Events(_) => Status::Events,
+            Stop::Text(_) => Status::Text,
         }
     }
 }

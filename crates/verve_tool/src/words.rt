@@ -31,6 +31,7 @@ pub(crate) enum Command<'a> {
     Check(&'a str),
     List(&'a str),
     Run(RunText, RunCommand<'a>),
+    Asm { text: &'a str, unit: &'a str },
 }
 
 // The turns are a decimal number as it is printed, so without leading zeros or a sign.
@@ -84,6 +85,21 @@ fn read_name(words: &[String]) -> Option<&str>
     Some(name.as_str())
 }
 
+// The names of two files, if the words are these.
+fn read_names(words: &[String]) -> Option<(&str, &str)>
+    ensures { MatchOption result
+        ((first second : List ℕ) → map string_bytes words.now ≡ first ∷ second ∷ [] → first ≢ [] → second ≢ [] → ⊥)
+        (λ names. (map string_bytes words.now ≡ names.0.now ∷ names.1.now ∷ []) × (names.0.now ≢ []) × (names.1.now ≢ [])) }
+{
+    let [first, second] = words else {
+        return None;
+    };
+    if first.is_empty() || second.is_empty() {
+        return None;
+    }
+    Some((first.as_str(), second.as_str()))
+}
+
 // What the words ask for, if they are a command: the list of words.
 pub(crate) fn read_words(words: &[String]) -> Option<Command<'_>>
     ensures { MatchOption result (NoCommand words.now) (λ command. WordsOf words.now (request_of command)) }
@@ -94,6 +110,10 @@ pub(crate) fn read_words(words: &[String]) -> Option<Command<'_>>
         "list" => Some(Command::List(read_name(operands)?)),
         "run" => Some(Command::Run(RunText::Report, read_run(operands, MOST_TURNS)?)),
         "journal" => Some(Command::Run(RunText::Journal, read_run(operands, JOURNAL_TURNS)?)),
+        "asm" => {
+            let (text, unit) = read_names(operands)?;
+            Some(Command::Asm { text, unit })
+        }
         _ => None,
     }
 }

@@ -9,7 +9,7 @@ use Rattle.verve_tool.proofs.checks.act_check.Goals as goal
 pub returns-in_err-load_image : goal.returns-in_err-load_image
 returns-in_err-load_image g c =
     let p = err_from_is_err_and c.from_residual.result c.from_residual.ensures.1 in
-    rw (p.1, p.2) (acted_stopped _ (Check c.args.image.now) _ refl refl refl refl (λ u. u)
+    rw (p.1, p.2) (acted_stopped _ (Check c.args.image.now) _ refl refl refl (λ u. u)
     c.in_err-load_image.ensures.stopped c.in_err-load_image.ensures.reads (no_puts _))
 
 pub returns : goal.returns

@@ -9,13 +9,13 @@ use Rattle.verve_tool.proofs.listings.act_list.Goals as goal
 pub returns-in_err-image : goal.returns-in_err-image
 returns-in_err-image g c =
     let p = err_from_is_err_and c.from_residual.result c.from_residual.ensures.1 in
-    rw (p.1, p.2) (acted_stopped _ (Listing c.args.name.now) _ refl refl refl refl (λ u. u)
+    rw (p.1, p.2) (acted_stopped _ (Listing c.args.name.now) _ refl refl refl (λ u. u)
     c.in_err-image.ensures.stopped c.in_err-image.ensures.reads (no_puts _))
 
 pub returns-in_err-text : goal.returns-in_err-text
 returns-in_err-text g c =
     let p = err_from_is_err_and c.from_residual-in_err-text.result c.from_residual-in_err-text.ensures.1 in
-    rw (p.1, p.2) (acted_wanting _ (Listing c.args.name.now) refl refl (record { no_entries = refl; none_kept = refl }) c.in_ok-image.ensures.reads (no_puts _))
+    rw (p.1, p.2) (acted_wanting _ (Listing c.args.name.now) refl (record { no_entries = refl; none_kept = refl }) c.in_ok-image.ensures.reads (no_puts _))
 
 pub returns : goal.returns
 returns g c =

@@ -13,13 +13,13 @@ text_kept-requires g c =
 pub returns-in_err-end : goal.returns-in_err-end
 returns-in_err-end g c =
     let p = err_from_is_err_and c.from_residual.result c.from_residual.ensures.1 in
-    rw (p.1, p.2) (acted_stopped _ (Run c.args.text (run_of c.args.run)) _ refl refl c.in_err-end.ensures.idle.0 c.in_err-end.ensures.idle.1 (λ u. inl u)
+    rw (p.1, p.2) (acted_stopped _ (Run c.args.text (run_of c.args.run)) _ refl c.in_err-end.ensures.idle.0 c.in_err-end.ensures.idle.1 (λ u. inl u)
     c.in_err-end.ensures.stopped c.in_err-end.ensures.reads (no_puts _))
 
 pub returns-in_err-told : goal.returns-in_err-told
 returns-in_err-told g c =
     let p = err_from_is_err_and c.from_residual-in_err-told.result c.from_residual-in_err-told.ensures.1 in
-    rw (p.1, p.2) (acted_wanting _ (Run c.args.text (run_of c.args.run)) refl refl (inr c.in_ok-end.ensures.made.ran) c.in_ok-end.ensures.reads (no_puts _))
+    rw (p.1, p.2) (acted_wanting _ (Run c.args.text (run_of c.args.run)) refl (inr c.in_ok-end.ensures.made.ran) c.in_ok-end.ensures.reads (no_puts _))
 
 pub returns : goal.returns
 returns g c =
