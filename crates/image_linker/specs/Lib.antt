@@ -1,5 +1,7 @@
 -- Rows by their names over all units.
 pub mod RowMentions
+-- What a table of names keeps of them.
+pub mod NameRows
 -- What rows hold in the linked image.
 pub mod LinkedRows
 -- The linked code.

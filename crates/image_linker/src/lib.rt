@@ -5,3 +5,6 @@
 #![tactic(auto)]
 
 pub mod laws;
+mod name_table;
+
+pub use name_table::{NameTable, Owner};
