@@ -15,6 +15,6 @@ returns c rows was =
 
 pub loop-i-preserved : goal.loop-i-preserved
 loop-i-preserved c = c.loop-i.invariant ∙ places_step c.loop-i.places.items c.args.self.now c.loop-i.i _ c.row.ensures ∙ ap (λ l. l ++ places_in (drop (c.loop-i.i + 1) c.args.self.now)) (elim c.match-owner.branch [
-    in-Some+in_ok-push w ↦ ap (λ o. c.loop-i.places.items ++ option_to_list o) w.in-Some.is ∙ sym w.in_ok-push.ensures.items ∙ ap (λ (v : Vec ℕ). v.items) (sym w.places-is)
-    | in_default w ↦ ap (λ o. c.loop-i.places.items ++ option_to_list o) w.in_default.is ∙ append-nil c.loop-i.places.items ∙ ap (λ (v : Vec ℕ). v.items) (sym w.places-is)
-    ])
+  | in-Some+in_ok-push w ↦ ap (λ o. c.loop-i.places.items ++ option_to_list o) w.in-Some.is ∙ sym w.in_ok-push.ensures.items ∙ ap (λ (v : Vec ℕ). v.items) (sym w.places-is)
+  | in_default w ↦ ap (λ o. c.loop-i.places.items ++ option_to_list o) w.in_default.is ∙ append-nil c.loop-i.places.items ∙ ap (λ (v : Vec ℕ). v.items) (sym w.places-is)
+])
