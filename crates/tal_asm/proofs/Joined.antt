@@ -33,7 +33,7 @@ use Rattle.tal_tables.specs.Rows.{make}
 use Rattle.tal_code.specs.Formed.{tables_named}
 use Rattle.tal_classes.specs.Formed.{function_sig, AreDeclared, AreClasses}
 use Rattle.tal_tables.specs.Formed.{arrays_take, holds_numbers, OwnLength, IsFunctionRow, IsArrayRow}
-use Rattle.tal_asm.specs.Lines.{Made, nothing, take_lines}
+use Rattle.tal_asm.specs.Lines.{MadeSoFar, nothing, take_lines}
 use Rattle.tal_asm.specs.UnitFor.{first_mention, names_fault, unless_before, unit_made, UnitFor}
 use Rattle.tal_asm.proofs.UnitNames.{lines_mentioned}
 use Rattle.tal_asm.proofs.Types.{types_known}
@@ -186,7 +186,7 @@ tables_same : (a b c d e f : ℕ) → a ≡ b → c ≡ d → e ≡ f → ◌≡
 tables_same a b c d e f x y z = rw (x, y, z) refl
 
 -- What the lines of a module made is a unit.
-pub formed : (m : Names) (names : List (List ℕ)) (d : Made) → LinesKept m m names d → length names ≤ 65536 → Each IsName names → UnitFormed (unit_made names d)
+pub formed : (m : Names) (names : List (List ℕ)) (d : MadeSoFar) → LinesKept m m names d → length names ≤ 65536 → Each IsName names → UnitFormed (unit_made names d)
 formed m names d kept few are_names =
     let c = kept.tables.counted in
     let l = c.limits in
@@ -268,7 +268,7 @@ unit_formed lines u laws names e = by_names (slice_get (mentioned_names lines) 6
     m : Names
     m = names_of lines
 
-    by_names : (o : Option (List ℕ)) → slice_get (mentioned_names lines) 65536 ≡ o → (r : Result Made AsmFault) → take_lines m (mentioned_names lines) nothing lines ≡ r
+    by_names : (o : Option (List ℕ)) → slice_get (mentioned_names lines) 65536 ≡ o → (r : Result MadeSoFar AsmFault) → take_lines m (mentioned_names lines) nothing lines ≡ r
         → unless_before (option_map (λ n. record { line = first_mention n lines; code = 16 }) o) (make (unit_made (mentioned_names lines)) r) ≡ Ok u → UnitFormed u
     by_names (Some n) is (Ok d) made e = cc
     by_names (Some n) is (Err f) made e = cc

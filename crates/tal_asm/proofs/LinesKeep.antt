@@ -20,7 +20,7 @@ use Rattle.tal_tables.specs.Rows.{ModuleTablesView, no_tables, name_number, make
 use Rattle.tal_code.specs.Functions.{UnitCodeView, no_code, has_code, function_code}
 use Rattle.tal_code.specs.Formed.{NumbersFit, CodeFormed, LeadsOn, Grows}
 use Rattle.tal_tables.specs.Formed.{DeclaredBefore, AreMentioned, MakesRow, TablesKeep}
-use Rattle.tal_asm.specs.Lines.{Made, nothing, with_tables, with_code, take_line, take_lines}
+use Rattle.tal_asm.specs.Lines.{MadeSoFar, nothing, with_tables, with_code, take_line, take_lines}
 
 -- what is known of the tables and of the code
 pub record RowLaws : Type 0 where
@@ -43,7 +43,7 @@ function_bytes [] = 0
 function_bytes (f ∷ fs) = f.length + function_bytes fs
 
 -- The tables and the code keep what they keep, and the functions have as many bytes as there are.
-pub record LinesKept (m first : Names) (names : List (List ℕ)) (u : Made) : Type 0 where
+pub record LinesKept (m first : Names) (names : List (List ℕ)) (u : MadeSoFar) : Type 0 where
   pub tables : TablesKeep m first (length names) u.tables
   pub few : length u.code.code ≤ most_code
   pub code : NumbersFit m → CodeFormed m (own_functions u.tables.functions) u.code
@@ -148,7 +148,7 @@ at_line_is line (Ok y) x e = one y x e
 at_line_is line (Err code) x e = cc
 
 -- A line that makes a row.
-row_kept : (laws : RowLaws) (m first : Names) (names : List (List ℕ)) (u d : Made) (line : ℕ) (f : Form) (behind : List TextLine)
+row_kept : (laws : RowLaws) (m first : Names) (names : List (List ℕ)) (u d : MadeSoFar) (line : ℕ) (f : Form) (behind : List TextLine)
     → MakesRow f → DeclaredBefore (declare first f behind) m → AreMentioned m names f → LinesKept m first names u
     → make (with_tables u) (take_row m names u.tables line f behind) ≡ Ok d → LinesKept m (declare first f behind) names d
 row_kept laws m first names u d line f behind makes begins mentioned kept e =
@@ -162,7 +162,7 @@ row_kept laws m first names u d line f behind makes begins mentioned kept e =
     })
 
 -- A line with those of a function.
-function_kept : (laws : RowLaws) (m first : Names) (names : List (List ℕ)) (u d : Made) (line : ℕ) (n s : List ℕ) (behind : List TextLine)
+function_kept : (laws : RowLaws) (m first : Names) (names : List (List ℕ)) (u d : MadeSoFar) (line : ℕ) (n s : List ℕ) (behind : List TextLine)
     → DeclaredBefore (declare first (form.Func false n s) behind) m → AreMentioned m names (form.Func false n s) → LinesKept m first names u
     → take_line m names u line (form.Func false n s) behind ≡ Ok d → LinesKept m (declare first (form.Func false n s) behind) names d
 unfolding take_line
@@ -182,7 +182,7 @@ function_kept laws m first names u d line n s behind begins mentioned kept e =
     })
 
 -- Any line.
-line_kept : (laws : RowLaws) (m first : Names) (names : List (List ℕ)) (u d : Made) (line : ℕ) (f : Form) (behind : List TextLine)
+line_kept : (laws : RowLaws) (m first : Names) (names : List (List ℕ)) (u d : MadeSoFar) (line : ℕ) (f : Form) (behind : List TextLine)
     → DeclaredBefore (declare first f behind) m → AreMentioned m names f → LinesKept m first names u → take_line m names u line f behind ≡ Ok d → LinesKept m (declare first f behind) names d
 unfolding take_line
 line_kept laws m first names u d line (form.Func false n s) behind begins mentioned kept e = function_kept laws m first names u d line n s behind begins mentioned kept e
@@ -202,12 +202,12 @@ line_kept laws m first names u d line (form.Label n rs slots) behind begins ment
 line_kept laws m first names u d line (form.Inst mnemonic args) behind begins mentioned kept e = row_kept laws m first names u d line (form.Inst mnemonic args) behind tt begins mentioned kept e
 
 -- All lines.
-pub lines_keep : (laws : RowLaws) (m first : Names) (names : List (List ℕ)) (u d : Made) (lines : List TextLine) → declared_with first lines ≡ m
+pub lines_keep : (laws : RowLaws) (m first : Names) (names : List (List ℕ)) (u d : MadeSoFar) (lines : List TextLine) → declared_with first lines ≡ m
     → Each (λ (l : TextLine). AreMentioned m names l.form) lines → LinesKept m first names u → take_lines m names u lines ≡ Ok d → LinesKept m m names d
 unfolding take_lines declared_with
 lines_keep laws m first names u d [] is mentioned kept e = subst (λ first. LinesKept m first names d) is (subst (LinesKept m first names) (one u d e) kept)
   where
-    one : (a b : Made) → ◌≡◌ {A = Result Made AsmFault} (Ok a) (Ok b) → a ≡ b
+    one : (a b : MadeSoFar) → ◌≡◌ {A = Result MadeSoFar AsmFault} (Ok a) (Ok b) → a ≡ b
     one a b e = cc
 lines_keep laws m first names u d (l ∷ lines) is (mention, mentioned) kept e =
     let (v, made, rest) = then_made _ _ d e in

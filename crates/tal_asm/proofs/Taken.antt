@@ -10,7 +10,7 @@ use Rattle.tal_rows.specs.Lines.{function_line}
 use Rattle.asm_faults.specs.Answers.{at_line}
 use Rattle.tal_tables.specs.Rows.{make, then_make, name_number}
 use Rattle.tal_code.specs.Functions.{has_code, function_code}
-use Rattle.tal_asm.specs.Lines.{Made, with_code, take_line}
+use Rattle.tal_asm.specs.Lines.{MadeSoFar, with_code, take_line}
 
 -- the names with the next one
 pub next_name : (xs list new : List (List ℕ)) (i : ℕ) (x : List ℕ) → list ≡ take i xs → i < length xs → slice_get xs i ≡ Some x → new ≡ list ++ x ∷ [] → new ≡ take (i + 1) xs
@@ -22,7 +22,7 @@ pub no_next : (xs : List (List ℕ)) (i : ℕ) → slice_get xs i ≡ None → i
 no_next xs i none lt = none-some (get_or xs i []) (sym none ∙ slice_get-get_or xs i [] lt)
 
 -- a function that is not extern is taken with its code
-pub function_taken : (m : Names) (names : List (List ℕ)) (u : Made) (line : ℕ) (f : Form) (behind : List TextLine) (ext : Bool) (n s : List ℕ) → f ≡ form.Func ext n s → ext ≡ false
+pub function_taken : (m : Names) (names : List (List ℕ)) (u : MadeSoFar) (line : ℕ) (f : Form) (behind : List TextLine) (ext : Bool) (n s : List ℕ) → f ≡ form.Func ext n s → ext ≡ false
     → take_line m names u line f behind
     ≡ then_make (at_line line (function_line m n s (has_code behind) (length u.tables.functions))) (λ sig. make (with_code u (name_number names n) sig) (function_code m u.code behind))
 unfolding take_line

@@ -8,15 +8,15 @@ use Rattle.tal_code.specs.Functions.{UnitCodeView}
 use Rattle.unit_files.specs.Unit.{UnitParts, unit_of}
 use Rattle.unit_files.specs.declared.parts.UnitRows.{UnitRows}
 use Rattle.tal_asm.specs.declared.assembling.Assembled.{Assembled}
-use Rattle.tal_asm.specs.Lines.{Made}
+use Rattle.tal_asm.specs.Lines.{MadeSoFar}
 
 -- The code and the tables are by definition what was made, or there is the fault.
-abbrev pub LineIsMade : Result UnitCodeView AsmAnswer → Result Made AsmFault → ModuleTablesView → Type 0
+abbrev pub LineIsMade : Result UnitCodeView AsmAnswer → Result MadeSoFar AsmFault → ModuleTablesView → Type 0
 LineIsMade (Ok code) made tables = made ≡ Ok (record { tables = tables; code = code })
 LineIsMade (Err (answer.Fault f)) made tables = made ≡ Err f
 LineIsMade (Err answer.NoMemory) made tables = Unit {0}
 
-abbrev pub LinesAreMade : Result Assembled AsmAnswer → Result Made AsmFault → Type 0
+abbrev pub LinesAreMade : Result Assembled AsmAnswer → Result MadeSoFar AsmFault → Type 0
 LinesAreMade (Ok made) all = all ≡ Ok (record { tables = made.tables; code = made.code })
 LinesAreMade (Err (answer.Fault f)) all = all ≡ Err f
 LinesAreMade (Err answer.NoMemory) all = Unit {0}

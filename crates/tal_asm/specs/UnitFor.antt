@@ -8,7 +8,7 @@ use Rattle.tal_names.specs.Declarations.{names_of}
 use Rattle.tal_names.specs.NameSets.{is_named}
 use Rattle.tal_names.specs.Mentions.{line_names, mentioned_names}
 use Rattle.tal_tables.specs.Rows.{make, unit_with}
-use Rattle.tal_asm.specs.Lines.{Made, nothing, take_lines}
+use Rattle.tal_asm.specs.Lines.{MadeSoFar, nothing, take_lines}
 
 -- ---- too many names: a unit has 65536 at most
 
@@ -35,7 +35,7 @@ unless_before (Some f) (Err g) = Err (if is_before f g then f else g)
 -- ---- the unit
 
 -- the unit of what all lines have made, with its names
-abbrev pub unit_made : List (List ℕ) → Made → UnitParts
+abbrev pub unit_made : List (List ℕ) → MadeSoFar → UnitParts
 unit_made names u = unit_with u.tables names u.code.code u.code.blocks u.code.marks u.code.fixups
 
 -- the unit of these lines, or their first fault
