@@ -222,7 +222,7 @@ fn assembled_rows(alloc: Global, lines: &[TextLine]) -> Result<UnitRows, AsmAnsw
 /// The unit of a module; or its first line with a fault, and there the least code; or there is no memory for it. Each line is
 /// read once.
 pub fn assemble(alloc: Global, module: &Module) -> Result<Unit, AsmAnswer>
-    ensures { AnswersBy result (UnitFor module.now) }
+    ensures { AnswersBy result (UnitFor «module».now) }
 {
     laws::lines_make_units();
     laws::names_are_names();
