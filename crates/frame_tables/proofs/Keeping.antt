@@ -60,9 +60,9 @@ get_or-end (y ∷ xs) x zero at = absurd (omega arith)
 get_or-end (y ∷ xs) x (suc i) at = get_or-end xs x i (omega arith)
 
 -- Addresses rise with a greater one at the end.
-pub rising-append : (xs : List ℕ) (x : ℕ) → ((i j : ℕ) → i < j → j < length xs → get_or xs i 0 < get_or xs j 0) → ((i : ℕ) → i < length xs → get_or xs i 0 < x)
+pub rising_append : (xs : List ℕ) (x : ℕ) → ((i j : ℕ) → i < j → j < length xs → get_or xs i 0 < get_or xs j 0) → ((i : ℕ) → i < length xs → get_or xs i 0 < x)
     → (i j : ℕ) → i < j → j < length (xs ++ x ∷ []) → get_or (xs ++ x ∷ []) i 0 < get_or (xs ++ x ∷ []) j 0
-rising-append xs x rising above i j before within = by_case (cases_eq j (length xs))
+rising_append xs x rising above i j before within = by_case (cases_eq j (length xs))
   where
     by_case : (j ≡ length xs) ⊎ (j ≡ length xs → ⊥) → get_or (xs ++ x ∷ []) i 0 < get_or (xs ++ x ∷ []) j 0
     by_case (inl last) =
@@ -88,7 +88,7 @@ pushes rows rows' as' ns pc n row kept below made few known is_row =
     record {
       kept = record {
         paired = length-append as' (pc ∷ []) ∙ ap (λ k. k + 1) kept.paired ∙ sym (length-append ns (n ∷ []));
-        rising = rising-append as' pc kept.rising (addresses_below rows as' ns pc kept.paired below);
+        rising = rising_append as' pc kept.rising (addresses_below rows as' ns pc kept.paired below);
         few = few;
         known = known-append (length rows) (length rows') n ns (rw made (length-with_row rows row)) known kept.known;
         different = made ∙ ap (λ l. with_row l row) kept.different ∙ sym (ap different_rows table ∙ different_rows-append (addressed_rows rows as' ns) (record { pc = pc; row = row }));

@@ -7,7 +7,7 @@ use Rattle.heap_words.specs.Laws.{BlockLaws}
 use Rattle.free_index.specs.Classes.{class_of_size}
 use Rattle.free_index.specs.Lists.{In, Chain, ClassList, AreListed}
 use Rattle.free_index.specs.Steps.{Removed, NewFirst, Unheaded, NamesFree}
-use Rattle.free_index.proofs.SizeClasses.{class-most}
+use Rattle.free_index.proofs.SizeClasses.{class_most}
 use Rattle.free_index.proofs.Chains.{rows, differ, chain-others, first_of}
 use Rattle.free_index.proofs.Removal.{Without, taken_out, link_in, back_in, back_none, without_in, without_not, in_without, once_without, chain-removed}
 
@@ -27,7 +27,7 @@ listed-remove laws u v heads heads' Listed i begins lists here size r h class be
     row j l = laws.places.row u j (begins j l)
 
     old : ClassList u Listed mine (get_or heads mine 0)
-    old = lists mine (class-most (size_at u i))
+    old = lists mine (class_most (size_at u i))
 
     member : In i old.list
     member = old.all i here refl
@@ -66,7 +66,7 @@ listed-remove laws u v heads heads' Listed i begins lists here size r h class be
       where
         front : get_or heads mine 0 ≡ i + 1 → get_or heads' mine 0 ≡ get_or u (i + 1) 0
         front e =
-            let l : mine < length heads = rw size (class-most (size_at u i)) in
+            let l : mine < length heads = rw size (class_most (size_at u i)) in
             rw (h.front (first_none old.list _ old.chain e)) (get_or-set_same heads mine _ 0 l)
 
         behind : get_or heads mine 0 ≢ i + 1 → (get_or u (i + 2) 0 ≡ 0) ⊎ (get_or u (i + 2) 0 ≢ 0) → get_or heads' mine 0 ≡ get_or heads mine 0
@@ -132,7 +132,7 @@ head-other u heads L class i lists below n e = let old = lists class below in n 
 -- the neighbours of a listed block
 pub next-names : (u heads : List ℕ) (i : ℕ) → AreListed u (IsFree u) heads → IsFree u i → NamesFree u (get_or u (i + 1) 0)
 next-names u heads i lists f p e =
-    let old = lists (class_of_size (size_at u i)) (class-most (size_at u i)) in
+    let old = lists (class_of_size (size_at u i)) (class_most (size_at u i)) in
     (old.each p (link_in u old.list 0 _ p i old.chain (old.all i f refl) e)).0
 
 -- the back link of a listed block names a free block
@@ -140,7 +140,7 @@ pub back-names : (u heads : List ℕ) (i : ℕ) → AreListed u (IsFree u) heads
 back-names u heads i lists f p e = cases (back_in u old.list 0 _ i p old.chain (old.all i f refl) e)
   where
     old : ClassList u (IsFree u) (class_of_size (size_at u i)) (get_or heads (class_of_size (size_at u i)) 0)
-    old = lists (class_of_size (size_at u i)) (class-most (size_at u i))
+    old = lists (class_of_size (size_at u i)) (class_most (size_at u i))
 
     cases : ((0 ≡ p + 1) × (get_or heads (class_of_size (size_at u i)) 0 ≡ i + 1)) ⊎ (In p old.list × (get_or u (p + 1) 0 ≡ i + 1)) → IsFree u p
     cases (inl q) = let z = q.0 in absurd (omega arith)

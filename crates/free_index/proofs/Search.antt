@@ -8,7 +8,7 @@ use Rattle.free_index.specs.Lists.{In, Once, Chain, ClassList, AreListed}
 use Rattle.free_index.specs.Steps.{NoneOfClass, Searching, links_from}
 use Rattle.free_index.proofs.Removal.{Without, taken_out, without_in, without_not, once_without}
 use Rattle.free_index.proofs.Removal.Without.{here, there}
-use Rattle.free_index.proofs.SizeClasses.{class-most, class-mono}
+use Rattle.free_index.proofs.SizeClasses.{class_most, class_mono}
 
 -- a list of different numbers below n has at most n
 length-without : (i : ℕ) (list rest : List ℕ) → Without i list rest → length list ≡ suc (length rest)
@@ -53,8 +53,8 @@ once-most (suc n) xs o h = choose (member n xs) (once-most n)
     choose (inr f) r = let s = r xs o (λ i m. below i (h i m) (in_not n i xs f m)) in omega arith
 
 -- the search begins at the head
-pub searching-first : (u heads : List ℕ) (class need : ℕ) → AreListed u (IsFree u) heads → class < 32 → Searching u class need (get_or heads class 0)
-searching-first u heads class need s l = record {
+pub searching_first : (u heads : List ℕ) (class need : ℕ) → AreListed u (IsFree u) heads → class < 32 → Searching u class need (get_or heads class 0)
+searching_first u heads class need s l = record {
   rest = c.list;
   before = 0;
   chain = c.chain;
@@ -73,14 +73,14 @@ pub record SearchStep (u : List ℕ) (class need link : ℕ) : Type 0 where
   pub nearer : links_from (length u) u (get_or u (link - 1 + 1) 0) < links_from (length u) u link
 
 -- the links that lead on are those of the list
-links-chain : (u list : List ℕ) (n back link : ℕ) → Chain u back link list → length list ≤ n → links_from n u link ≡ length list
+links_chain : (u list : List ℕ) (n back link : ℕ) → Chain u back link list → length list ≤ n → links_from n u link ≡ length list
 unfolding links_from
-links-chain u [] zero back link c l = refl
-links-chain u [] (suc n) back link c l = rw c refl
-links-chain u (x ∷ xs) zero back link c l = absurd (omega arith)
-links-chain u (x ∷ xs) (suc n) back link c l =
+links_chain u [] zero back link c l = refl
+links_chain u [] (suc n) back link c l = rw c refl
+links_chain u (x ∷ xs) zero back link c l = absurd (omega arith)
+links_chain u (x ∷ xs) (suc n) back link c l =
     let e : link ≡ suc x = let q = c.0 in omega arith in
-    let r : links_from n u (get_or u (x + 1) 0) ≡ length xs = links-chain u xs n (x + 1) (get_or u (x + 1) 0) c.2 (omega arith) in
+    let r : links_from n u (get_or u (x + 1) 0) ≡ length xs = links_chain u xs n (x + 1) (get_or u (x + 1) 0) c.2 (omega arith) in
     let p : suc x ≡ x + 1 = omega arith in
     let q : links_from n u (get_or u (suc x) 0) ≡ length xs = rw p r in
     rw e (ap suc q)
@@ -96,7 +96,7 @@ search-step u class need link s h = go s.rest s.chain s.free s.seen s.few
     go (x ∷ xs) c f g n = record {
       free = rw e (f x (inl refl));
       next = λ l. rw e (record { rest = xs; before = x + 1; chain = c.2; free = λ i m. f i (inr m); seen = λ i q d. seen (rw e at l) i (g i q d); few = omega arith });
-      nearer = rw (links-chain u (x ∷ xs) (length u) s.before link c n, e, links-chain u xs (length u) (x + 1) (get_or u (x + 1) 0) c.2 (omega arith)) (omega arith);
+      nearer = rw (links_chain u (x ∷ xs) (length u) s.before link c n, e, links_chain u xs (length u) (x + 1) (get_or u (x + 1) 0) c.2 (omega arith)) (omega arith);
     }
       where
         e : link - 1 ≡ x
@@ -108,8 +108,8 @@ search-step u class need link s h = go s.rest s.chain s.free s.seen s.few
         seen small i (inr m) = inr m
 
 -- at the end no block of the class fits
-pub searching-none : (u : List ℕ) (class need link : ℕ) → Searching u class need link → link ≡ 0 → NoneOfClass u class need
-searching-none u class need link s h = go s.rest s.chain s.seen
+pub searching_none : (u : List ℕ) (class need link : ℕ) → Searching u class need link → link ≡ 0 → NoneOfClass u class need
+searching_none u class need link s h = go s.rest s.chain s.seen
   where
     go : (xs : List ℕ) → Chain u s.before link xs → ((i : ℕ) → IsFree u i → class_of_size (size_at u i) ≡ class → In i xs ⊎ (size_at u i < need)) → NoneOfClass u class need
     go [] c g i f e = out (g i f e)
@@ -128,8 +128,8 @@ none-fits u need h i f = choose (order (class_of_size need) (class_of_size (size
 
     choose : (class_of_size need ≤ class_of_size (size_at u i)) ⊎ (class_of_size (size_at u i) < class_of_size need) → (need ≤ size_at u i) ⊎ (size_at u i < need) → size_at u i < need
     choose p (inr l) = l
-    choose (inl l) (inl m) = h (class_of_size (size_at u i)) l (class-most (size_at u i)) i f refl
-    choose (inr l) (inl m) = let q = class-mono need (size_at u i) m in absurd (omega arith)
+    choose (inl l) (inl m) = h (class_of_size (size_at u i)) l (class_most (size_at u i)) i f refl
+    choose (inr l) (inl m) = let q = class_mono need (size_at u i) m in absurd (omega arith)
 
 -- no block is larger than the heap
 pub none-large : (u : List ℕ) (need : ℕ) → FormedHeap u → length u < need → NoneSuffices u need

@@ -15,14 +15,14 @@ count-mono : (ls : List ℕ) (a b : ℕ) → a ≤ b → count_by (λ l. nat_lt 
 count-mono ls a b h = sum_by-le-sum_by (λ l. cond (nat_lt l a) 1 0) (λ l. cond (nat_lt l b) 1 0) ls (λ l. one_less l a b h)
 
 -- there are 32 classes
-pub class-most : (size : ℕ) → class_of_size size < 32
+pub class_most : (size : ℕ) → class_of_size size < 32
 unfolding class_of_size limits
-class-most size = let r = count_by-le-length (λ limit. nat_lt limit size) limits in let n : length limits ≡ 31 = refl in omega arith
+class_most size = let r = count_by-le-length (λ limit. nat_lt limit size) limits in let n : length limits ≡ 31 = refl in omega arith
 
 -- a greater size has no lower class
-pub class-mono : (a b : ℕ) → a ≤ b → class_of_size a ≤ class_of_size b
+pub class_mono : (a b : ℕ) → a ≤ b → class_of_size a ≤ class_of_size b
 unfolding class_of_size
-class-mono a b h = count-mono limits a b h
+class_mono a b h = count-mono limits a b h
 
 -- a test that holds of each number below n
 all_below : (ℕ → Bool) → ℕ → Bool
@@ -82,8 +82,8 @@ unfolding large_at
 large_true j l = at-below large_at 16 j all_large l
 
 -- up to 64 words there is a class for each size
-pub class-small : (size : ℕ) → size % 4 ≡ 0 → 0 < size → size ≤ 64 → class_of_size size ≡ size / 4 - 1
-class-small size r p l =
+pub class_small : (size : ℕ) → size % 4 ≡ 0 → 0 < size → size ≤ 64 → class_of_size size ≡ size / 4 - 1
+class_small size r p l =
     let e : size ≡ 4 * (size / 4 - 1 + 1) = omega arith in
     let t : class_of_size (4 * (size / 4 - 1 + 1)) ≡ size / 4 - 1 = small (size / 4 - 1) (omega arith) in
     subst (λ n. class_of_size n ≡ size / 4 - 1) (sym e) t
@@ -92,21 +92,21 @@ class-small size r p l =
     small k l = same-number _ _ (small-true k l)
 
 -- above, for each doubling
-pub class-large : (size j : ℕ) → j < 16 → 64 * 2 ^ j < size → size ≤ 128 * 2 ^ j → class_of_size size ≡ 16 + j
-class-large size j l g h =
+pub class_large : (size j : ℕ) → j < 16 → 64 * 2 ^ j < size → size ≤ 128 * 2 ^ j → class_of_size size ≡ 16 + j
+class_large size j l g h =
     let t = large_true j l in
     let a : class_of_size (64 * 2 ^ j + 1) ≡ 16 + j = same-number _ _ (first-of _ _ t) in
     let b : class_of_size (128 * 2 ^ j) ≡ 16 + j = same-number _ _ (second-of _ _ t) in
-    let m : class_of_size (64 * 2 ^ j + 1) ≤ class_of_size size = class-mono (64 * 2 ^ j + 1) size low in
-    let n : class_of_size size ≤ class_of_size (128 * 2 ^ j) = class-mono size (128 * 2 ^ j) h in
+    let m : class_of_size (64 * 2 ^ j + 1) ≤ class_of_size size = class_mono (64 * 2 ^ j + 1) size low in
+    let n : class_of_size size ≤ class_of_size (128 * 2 ^ j) = class_mono size (128 * 2 ^ j) h in
     omega arith
   where
     low : 64 * 2 ^ j + 1 ≤ size
     low = omega arith
 
 -- the class by the logarithm to base 2
-pub class-log : (size r : ℕ) → 64 < size → size ≤ 4194304 → 2 ^ r ≤ size - 1 → size - 1 < 2 * 2 ^ r → class_of_size size ≡ 10 + r
-class-log size r g h a b = choose (order r 5) (order r 21)
+pub class_log : (size r : ℕ) → 64 < size → size ≤ 4194304 → 2 ^ r ≤ size - 1 → size - 1 < 2 * 2 ^ r → class_of_size size ≡ 10 + r
+class_log size r g h a b = choose (order r 5) (order r 21)
   where
     order : (m n : ℕ) → (m ≤ n) ⊎ (n < m)
     order m n = grind arith
@@ -115,7 +115,7 @@ class-log size r g h a b = choose (order r 5) (order r 21)
     middle m n =
         let e : r ≡ 6 + (r - 6) = omega arith in
         let p : 2 ^ r ≡ 64 * 2 ^ (r - 6) = ap (λ k. 2 ^ k) e ∙ pow-add 2 6 (r - 6) in
-        let c = class-large size (r - 6) (omega arith) (omega arith) (omega arith) in
+        let c = class_large size (r - 6) (omega arith) (omega arith) (omega arith) in
         omega arith
 
     choose : (r ≤ 5) ⊎ (5 < r) → (r ≤ 21) ⊎ (21 < r) → class_of_size size ≡ 10 + r

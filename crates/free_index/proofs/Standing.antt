@@ -10,7 +10,7 @@ use Rattle.free_index.specs.Free.{OnlyLinks}
 use Rattle.free_index.specs.Lists.{In, Chain, AreListed, FreeLists, IsEmptyClass, IsFirstOfClass}
 use Rattle.free_index.specs.Steps.{Inserted, NamesFree, Rebuilding}
 use Rattle.free_index.proofs.Chains.{header_apart, More, listed-insert}
-use Rattle.free_index.proofs.SizeClasses.{class-most}
+use Rattle.free_index.proofs.SizeClasses.{class_most}
 use Rattle.free_index.proofs.Listing.{listed-change, head-names, head-other, Fewer}
 use Rattle.free_index.proofs.LinkWrites.{free-through}
 use Rattle.free_index.proofs.LinkChanges.{only-refl, only-trans, only-headers, only-words, only-inserted, free-only, free-only_back}
@@ -27,8 +27,8 @@ zeros-get (x ∷ xs) zero z = z.0
 zeros-get (x ∷ xs) (suc k) z = zeros-get xs k z.1
 
 -- before the first block nothing is listed
-pub rebuilding-first : BlockLaws → (u heads : List ℕ) → FormedHeap u → Zeros heads → length heads ≡ 32 → Rebuilding u u 0 heads
-rebuilding-first laws u heads f z n = record {
+pub rebuilding_first : BlockLaws → (u heads : List ℕ) → FormedHeap u → Zeros heads → length heads ≡ 32 → Rebuilding u u 0 heads
+rebuilding_first laws u heads f z n = record {
   stands = inr (laws.places.first u (let l = f.least in omega arith));
   only = only-refl u;
   lists = λ class _. record { list = []; chain = zeros-get heads class z; once = tt; each = λ i m. absurd m; all = λ i l e. let q = l.1 in absurd (omega arith) };
@@ -45,8 +45,8 @@ earlier laws v at i b d l = choose (cases_order i at)
     choose (inr (inr h)) = let a = laws.places.apart v at i b d h in absurd (omega arith)
 
 -- a used block is passed over
-pub rebuilding-used : BlockLaws → (u v heads : List ℕ) (at : ℕ) → Rebuilding u v at heads → Begins v at → FormedHeap v → used_at v at ≡ true → Rebuilding u v (at + size_at v at) heads
-rebuilding-used laws u v heads at r b f h = record {
+pub rebuilding_used : BlockLaws → (u v heads : List ℕ) (at : ℕ) → Rebuilding u v at heads → Begins v at → FormedHeap v → used_at v at ≡ true → Rebuilding u v (at + size_at v at) heads
+rebuilding_used laws u v heads at r b f h = record {
   stands = laws.places.next v at f b;
   only = r.only;
   lists = listed-change v v heads _ _ r.lists (λ _ _. refl) (λ _ _. refl) (λ _ _. refl) (λ j l. let q = l.1 in (l.0, omega arith))
@@ -59,18 +59,18 @@ rebuilding-used laws u v heads at r b f h = record {
     back j l (inr e) = let k : used_at v at ≡ false = subst (λ i. used_at v i ≡ false) e l.free in absurd (cc)
 
 -- while the lists are made anew, their first links name free blocks
-pub rebuilding-names : (u v heads : List ℕ) (at : ℕ) → Rebuilding u v at heads → NamesFree v (get_or heads (class_of_size (size_at v at)) 0)
-rebuilding-names u v heads at r = head-names v heads _ _ r.lists (λ j l. l.0) (class-most (size_at v at))
+pub rebuilding_names : (u v heads : List ℕ) (at : ℕ) → Rebuilding u v at heads → NamesFree v (get_or heads (class_of_size (size_at v at)) 0)
+rebuilding_names u v heads at r = head-names v heads _ _ r.lists (λ j l. l.0) (class_most (size_at v at))
 
 -- and none names the block that is next
-pub rebuilding-other : (u v heads : List ℕ) (at : ℕ) → Rebuilding u v at heads → get_or heads (class_of_size (size_at v at)) 0 ≢ at + 1
-rebuilding-other u v heads at r = head-other v heads _ _ at r.lists (class-most (size_at v at)) (λ l. let q = l.1 in omega arith)
+pub rebuilding_other : (u v heads : List ℕ) (at : ℕ) → Rebuilding u v at heads → get_or heads (class_of_size (size_at v at)) 0 ≢ at + 1
+rebuilding_other u v heads at r = head-other v heads _ _ at r.lists (class_most (size_at v at)) (λ l. let q = l.1 in omega arith)
 
 -- a free block is listed
-pub rebuilding-free : BlockLaws → (u v w heads heads' : List ℕ) (at : ℕ) → Rebuilding u v at heads → IsFree v at → FormedHeap v
+pub rebuilding_free : BlockLaws → (u v w heads heads' : List ℕ) (at : ℕ) → Rebuilding u v at heads → IsFree v at → FormedHeap v
     → Inserted v w at (get_or heads (class_of_size (size_at v at)) 0) → heads' ≡ set heads (class_of_size (size_at v at)) (at + 1) → FormedHeap w
     → Rebuilding u w (at + size_at v at) heads'
-rebuilding-free laws u v w heads heads' at r g f p e z = record {
+rebuilding_free laws u v w heads heads' at r g f p e z = record {
   stands = rw (← p.blocks.sizes at g.begins) (laws.places.next w at z (p.blocks.forth at g.begins));
   only = only-trans laws u v w r.only only;
   lists = rw e (listed-change w w _ _ _ lists (λ _ _. refl) (λ _ _. refl) (λ _ _. refl) forth (λ j l. back j l.0 (earlier laws v at j g.begins (p.blocks.back j l.0.begins) l.1)));
@@ -78,10 +78,10 @@ rebuilding-free laws u v w heads heads' at r g f p e z = record {
 }
   where
     only : OnlyLinks v w
-    only = only-inserted v w at _ g (rebuilding-names u v heads at r) p
+    only = only-inserted v w at _ g (rebuilding_names u v heads at r) p
 
     lists : AreListed w (More (λ j. IsFree v j × (j < at)) at) (set heads (class_of_size (size_at v at)) (at + 1))
-    lists = listed-insert laws v w heads (λ j. IsFree v j × (j < at)) at (λ j l. l.0.begins) r.lists g.begins (λ l. let q = l.1 in omega arith) r.size (class-most (size_at v at)) p
+    lists = listed-insert laws v w heads (λ j. IsFree v j × (j < at)) at (λ j l. l.0.begins) r.lists g.begins (λ l. let q = l.1 in omega arith) r.size (class_most (size_at v at)) p
 
     positive : 0 < size_at v at
     positive = (f.whole at g.begins).positive
@@ -95,8 +95,8 @@ rebuilding-free laws u v w heads heads' at r g f p e z = record {
     back j l (inr q) = inr q
 
 -- at the end the heads stand for the free blocks
-pub rebuilding-last : (u v heads : List ℕ) (at : ℕ) → Rebuilding u v at heads → length v ≤ at → FreeLists heads v
-rebuilding-last u v heads at r h = record { count = r.size; lists = listed }
+pub rebuilding_last : (u v heads : List ℕ) (at : ℕ) → Rebuilding u v at heads → length v ≤ at → FreeLists heads v
+rebuilding_last u v heads at r h = record { count = r.size; lists = listed }
   where
     listed : AreListed v (IsFree v) heads
     listed = listed-change v v heads _ _ r.lists (λ _ _. refl) (λ _ _. refl) (λ _ _. refl) (λ j l. l.0) (λ j l. (l, let n = l.begins.inside in omega arith))
@@ -123,11 +123,11 @@ give-listed laws u v heads i x s e b h =
 
 -- the one that is not listed is put in
 pub put-names : (v heads : List ℕ) (i : ℕ) → AreListed v (Fewer (IsFree v) i) heads → NamesFree v (get_or heads (class_of_size (size_at v i)) 0)
-put-names v heads i l = head-names v heads _ _ l (λ j m. m.0) (class-most (size_at v i))
+put-names v heads i l = head-names v heads _ _ l (λ j m. m.0) (class_most (size_at v i))
 
 -- a block that is not listed is no first of a list
 pub put-other : (v heads : List ℕ) (i : ℕ) → AreListed v (Fewer (IsFree v) i) heads → get_or heads (class_of_size (size_at v i)) 0 ≢ i + 1
-put-other v heads i l = head-other v heads _ _ i l (class-most (size_at v i)) (λ m. m.1 refl)
+put-other v heads i l = head-other v heads _ _ i l (class_most (size_at v i)) (λ m. m.1 refl)
 
 -- once the free block that was not listed is put in, the heads stand for the free blocks
 pub put-stands : BlockLaws → (v w heads heads' : List ℕ) (i : ℕ) → AreListed v (Fewer (IsFree v) i) heads → IsFree v i → length heads ≡ 32
@@ -138,7 +138,7 @@ put-stands laws v w heads heads' i l g n p e = rw e (record { count = rw length-
     only = only-inserted v w i _ g (put-names v heads i l) p
 
     lists : AreListed w (More (Fewer (IsFree v) i) i) (set heads (class_of_size (size_at v i)) (i + 1))
-    lists = listed-insert laws v w heads (Fewer (IsFree v) i) i (λ j m. m.0.begins) l g.begins (λ m. m.1 refl) n (class-most (size_at v i)) p
+    lists = listed-insert laws v w heads (Fewer (IsFree v) i) i (λ j m. m.0.begins) l g.begins (λ m. m.1 refl) n (class_most (size_at v i)) p
 
     forth : (j : ℕ) → More (Fewer (IsFree v) i) i j → IsFree w j
     forth j (inl m) = free-only laws v w j only m.0
@@ -195,8 +195,8 @@ head-some heads class i l e words s =
     (q.0, q.1, f.1)
 
 -- an object's word is none of the lists'
-pub object-write : BlockLaws → (heads u : List ℕ) (k x : ℕ) → FreeLists heads u → IsObjectWord u k → FreeLists heads (set u k x)
-object-write laws heads u k x s w = record { count = s.count; lists = listed }
+pub object_write : BlockLaws → (heads u : List ℕ) (k x : ℕ) → FreeLists heads u → IsObjectWord u k → FreeLists heads (set u k x)
+object_write laws heads u k x s w = record { count = s.count; lists = listed }
   where
     blocks : SameBlocks u (set u k x)
     blocks = laws.headers.written u k x (λ b. absurd (w.header k b refl))

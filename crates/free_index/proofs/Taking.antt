@@ -26,8 +26,8 @@ pub cut-only : (u v heads : List ℕ) (i : ℕ) → AreListed u (IsFree u) heads
 cut-only u v heads i s f r = only-removed u v i (next-names u heads i s f) (back-names u heads i s f) r
 
 -- there are as many heads afterwards
-pub unheaded-length : (u heads heads' : List ℕ) (i class : ℕ) → Unheaded u heads heads' i class → length heads ≡ 32 → length heads' ≡ 32
-unheaded-length u heads heads' i class h n = choose (zero_or (get_or u (i + 2) 0))
+pub unheaded_length : (u heads heads' : List ℕ) (i class : ℕ) → Unheaded u heads heads' i class → length heads ≡ 32 → length heads' ≡ 32
+unheaded_length u heads heads' i class h n = choose (zero_or (get_or u (i + 2) 0))
   where
     zero_or : (n : ℕ) → (n ≡ 0) ⊎ (n ≢ 0)
     zero_or n = grind arith

@@ -65,15 +65,15 @@ fresh-reference s (Kind q) n m k l h = choose (nat_lt 1 k) refl h
 
 module _ (s : ShapesView) (few : (shape : Shape) → IsShape s shape → shape_named (shape_word shape) ≡ shape) (shape : Shape) (there : IsShape s shape) (n : ℕ) (v : List ℕ) (i : ℕ) (p : IsFresh s v shape n i) where
   -- its first two words are within its need
-  need-four : 4 ≤ Need s shape n
-  need-four = let a = need_some s shape n in let b = need_rows s shape n in omega arith
+  need_four : 4 ≤ Need s shape n
+  need_four = let a = need_some s shape n in let b = need_rows s shape n in omega arith
 
   -- so they stand in the heap
   first-word : get_or v (i + 2) 0 ≡ shape_word shape
-  first-word = let e : i + 2 + 0 ≡ i + 2 = omega arith in subst (λ k. get_or v k 0 ≡ shape_word shape) e (p.fresh 0 (let z = need-four in omega arith) ∙ fresh-first shape n)
+  first-word = let e : i + 2 + 0 ≡ i + 2 = omega arith in subst (λ k. get_or v k 0 ≡ shape_word shape) e (p.fresh 0 (let z = need_four in omega arith) ∙ fresh-first shape n)
 
   second-word : get_or v (i + 3) 0 ≡ fresh_word shape n 1
-  second-word = let e : i + 2 + 1 ≡ i + 3 = omega arith in subst (λ k. get_or v k 0 ≡ fresh_word shape n 1) e (p.fresh 1 (let z = need-four in omega arith))
+  second-word = let e : i + 2 + 1 ≡ i + 3 = omega arith in subst (λ k. get_or v k 0 ≡ fresh_word shape n 1) e (p.fresh 1 (let z = need_four in omega arith))
 
   -- and tell the shape
   shape-first : shape_named (get_or v (i + 2) 0) ≡ shape
@@ -111,51 +111,51 @@ module _ (laws : BlockLaws) (s : ShapesView) (u list v : List ℕ) (f : FormedHe
   second-same i r = let z = reached-four i r in kept.words i (i + 3) r (omega arith) (omega arith)
 
   -- so it stays an object, with the references that it had
-  object-same : (i : ℕ) → Reached s u list i → IsObject s u i → IsObject s v i
-  object-same i r o = record {
+  object_same : (i : ℕ) → Reached s u list i → IsObject s u i → IsObject s v i
+  object_same i r o = record {
     used = kept.used i r;
     there = rw (first-same i r) o.there;
     named = rw (first-same i r) o.named;
     exact = rw (kept.sizes i r, first-same i r, second-same i r) o.exact;
   }
 
-  reference-same : (i k : ℕ) → Reached s u list i → IsReference s v i k → IsReference s u i k
-  reference-same i k r g = record {
+  reference_same : (i k : ℕ) → Reached s u list i → IsReference s v i k → IsReference s u i k
+  reference_same i k r g = record {
     behind = g.behind;
     within = subst (λ n. k + 2 < n) (kept.sizes i r) g.within;
     holds_reference = rw (← first-same i r, ← second-same i r) g.holds_reference;
   }
 
-  reference-stays : (i k : ℕ) → Reached s u list i → IsReference s u i k → IsReference s v i k
-  reference-stays i k r g = record { behind = g.behind; within = rw (kept.sizes i r) g.within; holds_reference = rw (first-same i r, second-same i r) g.holds_reference }
+  reference_stays : (i k : ℕ) → Reached s u list i → IsReference s u i k → IsReference s v i k
+  reference_stays i k r g = record { behind = g.behind; within = rw (kept.sizes i r) g.within; holds_reference = rw (first-same i r, second-same i r) g.holds_reference }
 
   -- and it is reached, whatever is listed besides
   pub reached-stays : (w i : ℕ) → Reached s u list i → Reached s v (w ∷ list) i
   reached-stays w i (listed _ m h) = listed i (inr m) (kept.used i (listed i m h))
-  reached-stays w i (named j k _ r g e h) = named j k i (reached-stays w j r) (reference-stays j k r g) (word-same j k r g.within ∙ e) (kept.used i (named j k i r g e h))
+  reached-stays w i (named j k _ r g e h) = named j k i (reached-stays w j r) (reference_stays j k r g) (word-same j k r g.within ∙ e) (kept.used i (named j k i r g e h))
 
   -- what a good word names is used
-  good-used : (w i : ℕ) → IsGood s u w → w ≡ address i → IsObject s u i
-  good-used w i (inl l) e = absurd (address-low i (subst (λ x. x < heap_start) e l))
-  good-used w i (inr (j, d, o)) e = subst (IsObject s u) (address-block j i (sym d ∙ e)) o
+  good_used : (w i : ℕ) → IsGood s u w → w ≡ address i → IsObject s u i
+  good_used w i (inl l) e = absurd (address-low i (subst (λ x. x < heap_start) e l))
+  good_used w i (inr (j, d, o)) e = subst (IsObject s u) (address-block j i (sym d ∙ e)) o
 
   -- a good word stays good, where what it names is reached
-  good-same : (w : ℕ) → IsGood s u w → ((i : ℕ) → w ≡ address i → IsUsed u i → Reached s u list i) → IsGood s v w
-  good-same w (inl l) r = inl l
-  good-same w (inr (i, e, o)) r = inr (i, e, object-same i (r i e o.used) o)
+  good_same : (w : ℕ) → IsGood s u w → ((i : ℕ) → w ≡ address i → IsUsed u i → Reached s u list i) → IsGood s v w
+  good_same w (inl l) r = inl l
+  good_same w (inr (i, e, o)) r = inr (i, e, object_same i (r i e o.used) o)
 
   module _ (few : (shape : Shape) → IsShape s shape → shape_named (shape_word shape) ≡ shape) (shape : Shape) (there : IsShape s shape) (n at : ℕ) (p : Allocated s u list v shape n at) where
     -- what is reached after is the fresh object, or was reached before
     pub reached-after : (i : ℕ) → Reached s v (at ∷ list) i → Reached s u list i ⊎ (at ≡ address i)
     reached-after i (listed _ (inl e) h) = inr (sym e)
-    reached-after i (listed _ (inr m) h) = inl (listed i m (good-used (address i) i (good.roots (address i) m) refl).used)
+    reached-after i (listed _ (inr m) h) = inl (listed i m (good_used (address i) i (good.roots (address i) m) refl).used)
     reached-after i (named j k _ r g e h) = choose (reached-after j r)
       where
         choose : Reached s u list j ⊎ (at ≡ address j) → Reached s u list i ⊎ (at ≡ address i)
         choose (inl q) =
-            let d = reference-same j k q g in
+            let d = reference_same j k q g in
             let w : get_or u (j + 2 + k) 0 ≡ address i = sym (word-same j k q d.within) ∙ e in
-            inl (named j k i q d w (good-used _ i (good.fields j k q d) w).used)
+            inl (named j k i q d w (good_used _ i (good.fields j k q d) w).used)
         choose (inr q) =
             let b : p.block ≡ j = address-block p.block j (sym p.named ∙ q) in
             let z : get_or v (j + 2 + k) 0 ≡ 0 = fresh-names_none s few shape there n v j (subst (IsFresh s v shape n) b p.fresh) k g in
@@ -167,17 +167,17 @@ module _ (laws : BlockLaws) (s : ShapesView) (u list v : List ℕ) (f : FormedHe
     reached-again i (inr q) = listed i (inl (sym q)) (subst (IsUsed v) (address-block p.block i (sym p.named ∙ q)) p.fresh.used)
 
     -- so all is good
-    pub good-after : AllGood s v (at ∷ list)
-    good-after = record { roots = roots; fields = λ j k r g. fields j k g (reached-after j r) }
+    pub good_after : AllGood s v (at ∷ list)
+    good_after = record { roots = roots; fields = λ j k r g. fields j k g (reached-after j r) }
       where
         roots : (w : ℕ) → In w (at ∷ list) → IsGood s v w
         roots w (inl e) = inr (p.block, e ∙ p.named, fresh-object s few shape there n v p.block p.fresh)
-        roots w (inr m) = good-same w (good.roots w m) (λ i e h. listed i (subst (λ x. In x list) e m) h)
+        roots w (inr m) = good_same w (good.roots w m) (λ i e h. listed i (subst (λ x. In x list) e m) h)
 
         fields : (j k : ℕ) → IsReference s v j k → Reached s u list j ⊎ (at ≡ address j) → IsGood s v (get_or v (j + 2 + k) 0)
         fields j k g (inl q) =
-            let d = reference-same j k q g in
-            subst (IsGood s v) (sym (word-same j k q d.within)) (good-same _ (good.fields j k q d) (λ i e h. named j k i q d e h))
+            let d = reference_same j k q g in
+            subst (IsGood s v) (sym (word-same j k q d.within)) (good_same _ (good.fields j k q d) (λ i e h. named j k i q d e h))
         fields j k g (inr q) =
             let b : p.block ≡ j = address-block p.block j (sym p.named ∙ q) in
             let z : get_or v (j + 2 + k) 0 ≡ 0 = fresh-names_none s few shape there n v j (subst (IsFresh s v shape n) b p.fresh) k g in

@@ -40,9 +40,9 @@ sum-remove f x (y ∷ ys) h = go (cases_eq y x) h (λ k. sum-remove f x ys k)
     go (inr n) (inr h) more = let r = more h in let a = sum-cons (f y) (map f ys) in let b = sum-cons (f y) (map f (remove x ys)) in let c = ap (λ zs. sum (map f zs)) (remove-other y x ys n) in omega arith
 
 -- other members stay
-in-remove : (x y : ℕ) (ys : List ℕ) → In y ys → y ≢ x → In y (remove x ys)
-in-remove x y [] h n = absurd h
-in-remove x y (z ∷ ys) h n = go (cases_eq z x) h (λ k. in-remove x y ys k n)
+in_remove : (x y : ℕ) (ys : List ℕ) → In y ys → y ≢ x → In y (remove x ys)
+in_remove x y [] h n = absurd h
+in_remove x y (z ∷ ys) h n = go (cases_eq z x) h (λ k. in_remove x y ys k n)
   where
     go : (z ≡ x) ⊎ (z ≢ x) → In y (z ∷ ys) → (In y ys → In y (remove x ys)) → In y (remove x (z ∷ ys))
     go (inl e) (inl h) more = absurd (n (h ∙ e))
@@ -72,10 +72,10 @@ once-remove x (z ∷ ys) o = go (cases_eq z x) (once-remove x ys o.1)
     go (inr m) more = subst Once (sym (remove-other z x ys m)) ((λ h. o.0 (remove-in x z ys h)), more)
 
 -- and the number that was removed stands there no more
-removed-not_in : (x : ℕ) (ys : List ℕ) → Once ys → In x (remove x ys) → ⊥
+removed_not_in : (x : ℕ) (ys : List ℕ) → Once ys → In x (remove x ys) → ⊥
 unfolding remove
-removed-not_in x [] o h = h
-removed-not_in x (z ∷ ys) o h = go (cases_eq z x) h (λ k. removed-not_in x ys o.1 k)
+removed_not_in x [] o h = h
+removed_not_in x (z ∷ ys) o h = go (cases_eq z x) h (λ k. removed_not_in x ys o.1 k)
   where
     go : (z ≡ x) ⊎ (z ≢ x) → In x (remove x (z ∷ ys)) → (In x (remove x ys) → ⊥) → ⊥
     go (inl e) h more = o.0 (subst (λ w. In w ys) (sym e) (subst (In x) (remove-first z x ys e) h))
@@ -90,11 +90,11 @@ pub same-sum : (f : ℕ → ℕ) (as' bs : List ℕ) → Once as' → Once bs �
 same-sum f [] [] o p h g = refl
 same-sum f [] (b ∷ bs) o p h g = absurd (g b (inl refl))
 same-sum f (a ∷ as') bs o p h g =
-    let rest = same-sum f as' (remove a bs) o.1 (once-remove a bs p) (λ x k. in-remove a x bs (h x (inr k)) (λ e. o.0 (subst (λ w. In w as') e k))) (λ x k. side x k (g x (remove-in a x bs k))) in
+    let rest = same-sum f as' (remove a bs) o.1 (once-remove a bs p) (λ x k. in_remove a x bs (h x (inr k)) (λ e. o.0 (subst (λ w. In w as') e k))) (λ x k. side x k (g x (remove-in a x bs k))) in
     sum-cons (f a) (map f as') ∙ (ap (λ n. f a + n) rest ∙ sym (sum-remove f a bs (h a (inl refl))))
   where
     side : (x : ℕ) → In x (remove a bs) → In x (a ∷ as') → In x as'
-    side x k (inl e) = absurd (removed-not_in a bs p (subst (λ w. In w (remove a bs)) e k))
+    side x k (inl e) = absurd (removed_not_in a bs p (subst (λ w. In w (remove a bs)) e k))
     side x k (inr j) = j
 
 -- functions that agree on a list have the same sum over it

@@ -22,8 +22,8 @@ reached-used s u list i (named j k _ r g m h) = h
 pub keeps-refl : (s : ShapesView) (u list : List ℕ) → KeepsReached s u list u
 keeps-refl s u list = record { size = refl; used = reached-used s u list; sizes = λ _ _. refl; words = λ _ _ _ _ _. refl }
 
-pub collected-keeps : (s : ShapesView) (u list v : List ℕ) → Collects s u list v → KeepsReached s u list v
-collected-keeps s u list v c = record {
+pub collected_keeps : (s : ShapesView) (u list v : List ℕ) → Collects s u list v → KeepsReached s u list v
+collected_keeps s u list v c = record {
   size = c.size;
   used = λ i r. (c.used i).1 r;
   sizes = λ i r. c.sizes i ((c.used i).1 r);
@@ -35,8 +35,8 @@ pub used-not_free : (v : List ℕ) (i j : ℕ) → IsUsed v j → IsFree v i →
 used-not_free v i j h f e = let z : used_at v i ≡ true = subst (λ n. used_at v n ≡ true) e h.used in let y = f.free in cc
 
 -- the words of a free block that suffices are clear
-pub suffices-clear : BlockLaws → (s : ShapesView) (u list v : List ℕ) (n i : ℕ) → FormedHeap v → KeepsReached s u list v → Suffices v n i → IsClear s u list i n
-suffices-clear laws s u list v n i f k t = record {
+pub suffices_clear : BlockLaws → (s : ShapesView) (u list v : List ℕ) (n i : ℕ) → FormedHeap v → KeepsReached s u list v → Suffices v n i → IsClear s u list i n
+suffices_clear laws s u list v n i f k t = record {
   within = let w = (f.whole i t.free.begins).within in let q = t.enough in let z = k.size in omega arith;
   clear = clear;
 }
@@ -66,7 +66,7 @@ taken-keeps s u list v w n i k t = record {
 -- and the block that is taken was clear
 pub taken-found : BlockLaws → (s : ShapesView) (u list v w : List ℕ) (n i : ℕ) → FormedHeap v → KeepsReached s u list v → Taken v w n i → IsFound s u list w n i
 taken-found laws s u list v w n i f k t = record {
-  clear = suffices-clear laws s u list v n i f k t.fitted;
+  clear = suffices_clear laws s u list v n i f k t.fitted;
   row = laws.places.row v i t.fitted.free.begins;
   used = t.used;
   exact = t.exact;
@@ -77,8 +77,8 @@ module _ (laws : BlockLaws) (s : ShapesView) (u list v w : List ℕ) (need : ℕ
   pub second-found : (o : Option ℕ) → 0 < need → MatchOption o (NoneSuffices v need) (λ i. Suffices v need i) → IfSome o (λ i. Taken v w need i)
       → MatchOption o (NoGap s u list need) (λ i. IsFound s u list w need i)
   second-found None p e t = none-no_gap laws s u list v need f c p e
-  second-found (Some i) p e t = taken-found laws s u list v w need i f (collected-keeps s u list v c) t
+  second-found (Some i) p e t = taken-found laws s u list v w need i f (collected_keeps s u list v c) t
 
   pub second-keeps : (x y : List ℕ) (o : Option ℕ) → IfSome o (λ i. Taken v w need i) → IfNone o ((w ≡ v) × (x ≡ y)) → KeepsReached s u list w
-  second-keeps x y None t e = subst (KeepsReached s u list) (sym e.0) (collected-keeps s u list v c)
-  second-keeps x y (Some i) t e = taken-keeps s u list v w need i (collected-keeps s u list v c) t
+  second-keeps x y None t e = subst (KeepsReached s u list) (sym e.0) (collected_keeps s u list v c)
+  second-keeps x y (Some i) t e = taken-keeps s u list v w need i (collected_keeps s u list v c) t

@@ -30,7 +30,7 @@ use Rattle.heap_calls.specs.Finding.{CallFinds}
 use Rattle.heap_calls.specs.Telling.{IsRooted, AllocationTold}
 use Rattle.heap_calls.proofs.AtCalls.{listed, roots-stand, rooted-lives, places-differ}
 use Rattle.heap_calls.proofs.Keeping.{ReachIsLeast, names-first, reached-more, has-front, last-cases, last-there}
-use Rattle.heap_calls.proofs.Collecting.{replaced, replaced-alone, heap-holds}
+use Rattle.heap_calls.proofs.Collecting.{replaced, replaced_alone, heap_holds}
 
 -- an object has words in the heap
 need-some : (s : ShapesView) (shape : ObjectShape) → 0 < need s shape
@@ -129,7 +129,7 @@ module _ {image : ImageParts} {live : ℕ → Bool} {s : State} {t : Ty} {next e
   holds-kept : (shape : ObjectShape) (words : List ℕ) (over : ℕ → Bool) → Kept over → FormedHeap words → length words ≡ length m.heap
       → AllocationStands image s (Roots image next s) shape None words → HeapHolds image over s.store m.heap words
   holds-kept shape words over among formed size told =
-      heap-holds f over words (λ i o e here. old i o here (among i e)) formed size
+      heap_holds f over words (λ i o e here. old i o here (among i e)) formed size
       (λ i o e behind here. told.stands i o (reached i behind (old i o here (among i e))) behind here)
     where
       old : (i : ℕ) (o : Object) → slice_get s.store i ≡ Some o → IsRooted image next s i ⊎ (i ≡ length s.store) → IsRooted image next s i
@@ -145,15 +145,15 @@ module _ {image : ImageParts} {live : ℕ → Bool} {s : State} {t : Ty} {next e
       → MatchOption result (NoGap (shown image).shapes m.heap (listed f) (need (shown image).shapes shape))
       (λ a. Allocated (shown image).shapes m.heap (listed f) words (shape_in shape) (elements_in shape) a)
       → AllocationStands image s (Roots image next s) shape result words → MemoryStands image over (after_allocation image shape result s) (with_heap words m)
-  stands-after shape words None over among formed size placed told = replaced-alone f law over words (holds-kept shape words over among formed size told)
+  stands-after shape words None over among formed size placed told = replaced_alone f law over words (holds-kept shape words over among formed size told)
   stands-after shape words (Some a) over among formed size placed told =
       replaced f law over (fresh shape a ∷ []) words (holds-fresh shape words a over among formed size placed told)
 
-  pub allocation-told : AllocationsStand → (asked : ObjectShape) (shape : Shape) (n : ℕ) → shape_in asked ≡ shape → elements_in asked ≡ n → IsShape shapes shape
+  pub allocation_told : AllocationsStand → (asked : ObjectShape) (shape : Shape) (n : ℕ) → shape_in asked ≡ shape → elements_in asked ≡ n → IsShape shapes shape
       → (result : Option ℕ) (words : List ℕ) → FormedHeap words
       → MatchOption result (NoGap shapes m.heap (listed f) (Need shapes shape n)) (λ a. Allocated shapes m.heap (listed f) words shape n a)
       → KeepsReached shapes m.heap (listed f) words → AllocationTold image next s asked result (with_heap words m)
-  allocation-told allocations asked shape n is long there result words formed placed keeps =
+  allocation_told allocations asked shape n is long there result words formed placed keeps =
       let there' : IsShape (shown image).shapes (shape_in asked) = rw (f.classes, ← is) at there in
       let placed' : MatchOption result (NoGap (shown image).shapes m.heap (listed f) (need (shown image).shapes asked))
       (λ a. Allocated (shown image).shapes m.heap (listed f) words (shape_in asked) (elements_in asked) a) = rw (f.classes, ← is, ← long) at placed in

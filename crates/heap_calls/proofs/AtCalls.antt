@@ -81,9 +81,9 @@ array-area image s d o few (inl (front, above, below)) = (omega (arith, above), 
 array-area image s d o few (inr (behind, above, below)) = absurd (omega (arith, few, behind))
 
 -- an object has a word
-object-long : (o : Object) → 1 ≤ length (object_values o)
+object_long : (o : Object) → 1 ≤ length (object_values o)
 unfolding object_values head_values
-object-long o = go o.shape
+object_long o = go o.shape
   where
     go : (shape : ObjectShape) → 1 ≤ length (head_values shape ++ o.values)
     go (InstanceOf c) = omega arith
@@ -118,17 +118,17 @@ module _ {image : ImageParts} {live : ℕ → Bool} {s : State} {t : Ty} {next e
   there : (n : ℕ) (stack : Stack) → slice_get s.stacks n ≡ Some stack → n < image.stacks
   there n stack e = let low = slice_get_within s.stacks n stack e in let count = f.typed.count in omega (arith, low, count)
 
-  stack-holds : (n : ℕ) (values : List Value) → n < image.stacks → length values ≤ most_values → values_at s n ≡ values
+  stack_holds : (n : ℕ) (values : List Value) → n < image.stacks → length values ≤ most_values → values_at s n ≡ values
       → WordsHold m.stacks (places_of s) (first_word n (length values)) values
-  stack-holds n values low room is k w e =
+  stack_holds n values low room is k w e =
       let held = subst (λ (xs : List Value). HoldsValues m (places_of s) (stack_pointer n (length xs)) xs) is (f.memory.stacks n low) k w e in
       let within = slice_get_within values k w e in
       let at : stack_pointer n (length values) + 4 * k ≡ stacks_start + 4 * (first_word n (length values) + k) = omega (arith, room, within) in
       sym (stack_there m (first_word n (length values) + k) (omega (arith, low, few, room, within))) ∙ (ap (word_of m) (sym at) ∙ held)
 
-  running-values : values_at s s.current ≡ s.values
+  running_values : values_at s s.current ≡ s.values
   unfolding values_at
-  running-values = let same : nat_eq s.current s.current ≡ true = grind (arith, nat_tests) in rw same refl
+  running_values = let same : nat_eq s.current s.current ≡ true = grind (arith, nat_tests) in rw same refl
 
   other-values : (n : ℕ) (stack : Stack) → slice_get s.stacks n ≡ Some stack → n ≢ s.current → values_at s n ≡ kept_values stack
   unfolding values_at
@@ -139,9 +139,9 @@ module _ {image : ImageParts} {live : ℕ → Bool} {s : State} {t : Ty} {next e
   others-hold n EmptyStack e = tt
   others-hold n RunningStack e = tt
   others-hold n (YieldedStack place values) e =
-      stack-holds n values (there n _ e) (f.typed.others n _ e).room (other-values n (YieldedStack place values) e (λ is. let one = f.typed.one in absurd (cc)))
+      stack_holds n values (there n _ e) (f.typed.others n _ e).room (other-values n (YieldedStack place values) e (λ is. let one = f.typed.one in absurd (cc)))
   others-hold n (InterruptedStack thread values) e =
-      stack-holds n values (there n _ e) (f.typed.others n _ e).room (other-values n (InterruptedStack thread values) e (λ is. let one = f.typed.one in absurd (cc)))
+      stack_holds n values (there n _ e) (f.typed.others n _ e).room (other-values n (InterruptedStack thread values) e (λ is. let one = f.typed.one in absurd (cc)))
 
   statics-hold : WordsHold m.statics (places_of s) 0 s.statics
   statics-hold k w e =
@@ -167,7 +167,7 @@ module _ {image : ImageParts} {live : ℕ → Bool} {s : State} {t : Ty} {next e
     caller = f.awaited;
     statics = statics-hold;
     arrays = arrays-hold;
-    running = stack-holds s.current s.values (there s.current RunningStack f.typed.one) f.awaited.room running-values;
+    running = stack_holds s.current s.values (there s.current RunningStack f.typed.one) f.awaited.room running_values;
     others = others-hold;
     states = f.states;
   }
@@ -185,10 +185,10 @@ module _ {image : ImageParts} {live : ℕ → Bool} {s : State} {t : Ty} {next e
 
   -- ---- the heap
 
-  object-stands : (i : ℕ) (o : Object) → live i ≡ true → length image.arrays ≤ i → slice_get s.store i ≡ Some o
+  object_stands : (i : ℕ) (o : Object) → live i ≡ true → length image.arrays ≤ i → slice_get s.store i ≡ Some o
       → ObjectStands (shown image).shapes (places_in s.store) m.heap o
   unfolding address
-  object-stands i o lives behind here =
+  object_stands i o lives behind here =
       let b = f.memory.blocks.objects i o lives behind here in
       record {
         block = b.block;
@@ -207,7 +207,7 @@ module _ {image : ImageParts} {live : ℕ → Bool} {s : State} {t : Ty} {next e
     formed = f.formed;
     typed = f.whole;
     refer = refer image s next f.whole_type f.whole f.awaited_whole;
-    stands = λ i o e behind here. object-stands i o (f.lives i e) behind here;
+    stands = λ i o e behind here. object_stands i o (f.lives i e) behind here;
     lists = rw (f.marked, f.rows, f.pointer) (exact image live t next s m.statics m.stacks kept call-stands).listed;
     size = f.memory.blocks.size;
   }
@@ -229,8 +229,8 @@ module _ {image : ImageParts} {live : ℕ → Bool} {s : State} {t : Ty} {next e
   -- objects that live have differing places
   pub places-differ : (i j : ℕ) (o p : Object) → live i ≡ true → live j ≡ true → slice_get s.store i ≡ Some o → slice_get s.store j ≡ Some p → i ≢ j → o.place ≢ p.place
   places-differ i j o p lives other here there differs same =
-      let lo = object-long o in
-      let lp = object-long p in
+      let lo = object_long o in
+      let lp = object_long p in
       ⊎_elim
       (λ (e : end_of o ≤ p.place). omega (arith, e, same, lo))
       (λ (e : end_of p ≤ o.place). omega (arith, e, same, lp))

@@ -31,16 +31,16 @@ module _ {image : ImageParts} {live : ℕ → Bool} {s : State} {t : Ty} {next e
   replaced law over more words holds = law image live over s more m words f.formed f.whole (arrays-live f) f.memory holds
 
   -- the same with no more objects
-  pub replaced-alone : HeapIsReplaced → (over : ℕ → Bool) (words : List ℕ) → HeapHolds image over s.store m.heap words → MemoryStands image over s (with_heap words m)
-  replaced-alone law over words holds =
+  pub replaced_alone : HeapIsReplaced → (over : ℕ → Bool) (words : List ℕ) → HeapHolds image over s.store m.heap words → MemoryStands image over s (with_heap words m)
+  replaced_alone law over words holds =
       let none = append-nil s.store in
       subst (λ (store : Store). MemoryStands image over (record s { store = store }) (with_heap words m)) none
       (replaced law over [] words (subst (λ (store : Store). HeapHolds image over store m.heap words) (sym none) holds))
 
   -- a heap holds objects that are kept, where it stands for those that the roots reach
-  pub heap-holds : (over : ℕ → Bool) (words : List ℕ) → ((i : ℕ) (o : Object) → over i ≡ true → slice_get s.store i ≡ Some o → IsRooted image next s i) → FormedHeap words
+  pub heap_holds : (over : ℕ → Bool) (words : List ℕ) → ((i : ℕ) (o : Object) → over i ≡ true → slice_get s.store i ≡ Some o → IsRooted image next s i) → FormedHeap words
       → length words ≡ length m.heap → HeapStands image over s.store words → HeapHolds image over s.store m.heap words
-  heap-holds over words rooted formed size stands = record {
+  heap_holds over words rooted formed size stands = record {
     formed = formed;
     size = size;
     stands = stands;
@@ -48,11 +48,11 @@ module _ {image : ImageParts} {live : ℕ → Bool} {s : State} {t : Ty} {next e
     differ = λ i j o p e g behind after here there. places-differ f i j o p (rooted-lives f i (rooted i o e here)) (rooted-lives f j (rooted j p g there)) here there;
   }
 
-  pub collection-told : RootsAreExact → TypedRootsRefer → CollectionsStand → FreeWordsAreCounted → HeapIsReplaced → (n : ℕ) (words : List ℕ) → FormedHeap words
+  pub collection_told : RootsAreExact → TypedRootsRefer → CollectionsStand → FreeWordsAreCounted → HeapIsReplaced → (n : ℕ) (words : List ℕ) → FormedHeap words
       → Collects shapes m.heap (listed f) words
       → ((reached : List ℕ) → ListsReached shapes m.heap (listed f) reached → n + sum (map (size_at m.heap) reached) ≡ length m.heap)
       → CollectionTold image next s n (with_heap words m)
-  collection-told exact refer stand count law n words formed collects counted =
+  collection_told exact refer stand count law n words formed collects counted =
       let roots = roots-stand f exact refer in
       let collected : Collects (shown image).shapes m.heap (listed f) words = rw f.classes at collects in
       record {
@@ -60,8 +60,8 @@ module _ {image : ImageParts} {live : ℕ → Bool} {s : State} {t : Ty} {next e
             (λ i j o p e g behind after here there. places-differ f i j o p (f.lives i e) (f.lives j g) here there)
             (λ reached h. counted reached (rw f.classes h));
         stands = λ over rooted.
-            replaced-alone law over words
-            (heap-holds over words (λ i o e here. rooted i e) formed collected.size
+            replaced_alone law over words
+            (heap_holds over words (λ i o e here. rooted i e) formed collected.size
             (λ i o e behind here. among i behind (rooted i e) (λ reached. stand image s (Roots image next s) m.heap (listed f) words roots collected i o reached behind here)));
       }
     where

@@ -22,15 +22,15 @@ use Rattle.heap_changes.proofs.Bounds.{table-low, descriptor-low, few-stacks}
 use Rattle.heap_changes.proofs.Replacing.{low-kept, low-mapped}
 
 -- the first store has the data arrays alone
-data-few : (s : ShapesView) (arrays : List ArrayPart) (places : List ℕ) → length (data_objects s arrays places) ≤ length arrays
-data-few s [] places = omega arith
-data-few s (a ∷ arrays) [] = omega arith
-data-few s (a ∷ arrays) (place ∷ places) = let q = data-few s arrays places in omega arith
+data_few : (s : ShapesView) (arrays : List ArrayPart) (places : List ℕ) → length (data_objects s arrays places) ≤ length arrays
+data_few s [] places = omega arith
+data_few s (a ∷ arrays) [] = omega arith
+data_few s (a ∷ arrays) (place ∷ places) = let q = data_few s arrays places in omega arith
 
 first-few : (image : ImageParts) (i : ℕ) (o : Object) → slice_get (first_state image).store i ≡ Some o → i < length image.arrays
 unfolding first_state first_store
 first-few image i o e =
-    let q = data-few (shapes_of image) image.arrays (array_places (statics_start + 4 * length image.statics) image.arrays) in
+    let q = data_few (shapes_of image) image.arrays (array_places (statics_start + 4 * length image.statics) image.arrays) in
     let l = slice_get_within (data_objects (shapes_of image) image.arrays (array_places (statics_start + 4 * length image.statics) image.arrays)) i o e in
     omega arith
 
@@ -51,8 +51,8 @@ first-short image (suc n) = go (suc n == 0)
     go false = first-stack-short (image.stacks - 1) n
 
 module _ (image : ImageParts) (live : ℕ → Bool) (m : MemoryView) (words : List ℕ) (formed : Formed image) (classes : ClassLaws (shapes_of image)) (h : MemoryStands image live (first_state image) m) where
-  objects-hold : (i : ℕ) (o : Object) → live i ≡ true → slice_get (first_state image).store i ≡ Some o → HoldsValues (with_heap words m) (places_of (first_state image)) o.place (object_values o)
-  objects-hold i o lives e k v x = go (h.lie.inside i o lives e)
+  objects_hold : (i : ℕ) (o : Object) → live i ≡ true → slice_get (first_state image).store i ≡ Some o → HoldsValues (with_heap words m) (places_of (first_state image)) o.place (object_values o)
+  objects_hold i o lives e k v x = go (h.lie.inside i o lives e)
     where
       go : IsInside image (first_state image) i o → word_of (with_heap words m) (o.place + 4 * k) ≡ Some (Word (places_of (first_state image)) v)
       go (inl z) = let l = slice_get_within (object_values o) k v x in let low = z.2 in low-kept m words (o.place + 4 * k) (omega arith) ∙ h.objects i o lives e k v x
@@ -66,7 +66,7 @@ module _ (image : ImageParts) (live : ℕ → Bool) (m : MemoryView) (words : Li
     tables = λ c k w e. low-kept m words (table_address c + 4 * k) (table-low (shapes_of image) classes c k w e) ∙ h.tables c k w e;
     descriptors = λ d k w e. low-kept m words (descriptor_address d + 4 * k) (descriptor-low (shapes_of image) classes d k w e) ∙ h.descriptors d k w e;
     statics = λ k v e. let l = slice_get_within (first_state image).statics k v e in let low = h.lie.short in low-kept m words (statics_start + 4 * k) (omega arith) ∙ h.statics k v e;
-    objects = objects-hold;
+    objects = objects_hold;
     stacks = λ n few k v e. let l = slice_get_within (values_at (first_state image) n) k v e in let short = first-short image n in let most = few-stacks image formed in
         low-kept m words (stack_pointer n (length (values_at (first_state image) n)) + 4 * k) (omega arith) ∙ h.stacks n few k v e;
     room = λ a low high aligned. let most = few-stacks image formed in low-mapped m words a (omega arith) (h.room a low high aligned);

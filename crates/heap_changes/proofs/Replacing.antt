@@ -46,9 +46,9 @@ low-mapped m words a l h =
     rw (t, low-kept m words a l) (rw t at h)
 
 -- a word of the heap stands at its address
-heap-word : (m : MemoryView) (words : List ℕ) (k : ℕ) → k < length words → word_of (with_heap words m) (heap_start + 4 * k) ≡ Some (slice_index words k)
+word_in_heap : (m : MemoryView) (words : List ℕ) (k : ℕ) → k < length words → word_of (with_heap words m) (heap_start + 4 * k) ≡ Some (slice_index words k)
 unfolding word_of word_index
-heap-word m words k l =
+word_in_heap m words k l =
     let t : nat_le heap_start (heap_start + 4 * k) ≡ true = grind (arith, nat_tests) in
     let r : ((heap_start + 4 * k - heap_start) % 4 == 0) ≡ true = grind (arith, nat_tests) in
     let q : (heap_start + 4 * k - heap_start) / 4 ≡ k = omega arith in
@@ -81,9 +81,9 @@ cases_below m n = grind arith
 -- ---- one object
 
 -- the reference among an object's values is one of its fields or elements
-reference-behind : (o : Object) (k j : ℕ) → slice_get (object_values o) k ≡ Some (Ref j) → (m : ℕ) × (slice_get o.values m ≡ Some (Ref j))
+reference_behind : (o : Object) (k j : ℕ) → slice_get (object_values o) k ≡ Some (Ref j) → (m : ℕ) × (slice_get o.values m ≡ Some (Ref j))
 unfolding object_values head_values
-reference-behind o k j e = go o.shape k e
+reference_behind o k j e = go o.shape k e
   where
     go : (x : ObjectShape) (k : ℕ) → slice_get (head_values x ++ o.values) k ≡ Some (Ref j) → (m : ℕ) × (slice_get o.values m ≡ Some (Ref j))
     go (InstanceOf c) zero e = cc
@@ -93,10 +93,10 @@ reference-behind o k j e = go o.shape k e
     go (ArrayOf q n) (suc (suc m)) e = (m, e)
 
 -- a type for each value
-type-some : (s : ShapesView) (x : ObjectShape) (m : ℕ) → IsShape s (shape_in x) → m < value_count s x → (t : FieldTy) × (value_type s x m ≡ Some t)
+type_some : (s : ShapesView) (x : ObjectShape) (m : ℕ) → IsShape s (shape_in x) → m < value_count s x → (t : FieldTy) × (value_type s x m ≡ Some t)
 unfolding value_type value_count Element
-type-some s (InstanceOf c) m h l = some-at (Fields s c) m l
-type-some s (ArrayOf k n) m h l = let t : nat_lt m n ≡ true = grind (arith, nat_tests) in let e = some-at s.kinds k h in (e.0.element, rw (t, e.1) refl)
+type_some s (InstanceOf c) m h l = some-at (Fields s c) m l
+type_some s (ArrayOf k n) m h l = let t : nat_lt m n ≡ true = grind (arith, nat_tests) in let e = some-at s.kinds k h in (e.0.element, rw (t, e.1) refl)
 
 -- an object has a value at least, and needs words for all of them behind its block's first two
 need-words : (s : ShapesView) (o : Object) → length o.values ≡ value_count s o.shape → (0 < length (object_values o)) × (length (object_values o) + 2 ≤ need s o.shape)
@@ -150,12 +150,12 @@ module _ (laws : BlockLaws) (image : ImageParts) (live after : ℕ → Bool) (s 
       go (inr x) = let z = x.0 in absurd (omega arith)
 
   -- a value of an object that was there is within the store
-  object-within : (i : ℕ) (o : Object) (k : ℕ) (v : Value) → slice_get s.store i ≡ Some o → slice_get (object_values o) k ≡ Some v → Within (length s.store) v
-  object-within i o k v e x j is =
-      let z = reference-behind o k j (x ∙ ap Some is) in
+  object_within : (i : ℕ) (o : Object) (k : ℕ) (v : Value) → slice_get s.store i ≡ Some o → slice_get (object_values o) k ≡ Some v → Within (length s.store) v
+  object_within i o k v e x j is =
+      let z = reference_behind o k j (x ∙ ap Some is) in
       let l = slice_get_within o.values z.0 (Ref j) z.1 in
       let n = typed.store.counts i o e in
-      let ty = type-some (shown image).shapes o.shape z.0 (typed.store.there i o e) (omega arith) in
+      let ty = type_some (shown image).shapes o.shape z.0 (typed.store.there i o e) (omega arith) in
       fits-within image s (Ref j) (of_field ty.0) (typed.store.fit i z.0 o ty.0 (Ref j) refl e ty.1 z.1) j refl
 
   -- ---- objects of the heap
@@ -176,34 +176,34 @@ module _ (laws : BlockLaws) (image : ImageParts) (live after : ℕ → Bool) (s 
     place-is = stands.placed ∙ address-is stands.block
 
     -- so its words are there
-    heap-holds : HoldsValues then (places_in (s.store ++ more)) o.place (object_values o)
-    heap-holds k v x =
+    heap_holds : HoldsValues then (places_in (s.store ++ more)) o.place (object_values o)
+    heap_holds k v x =
         let l = slice_get_within (object_values o) k v x in
         let r = values-room in
         let b = block-end in
         let p = place-is in
         let at : o.place + 4 * k ≡ heap_start + 4 * (stands.block + 2 + k) = omega arith in
-        ap (word_of then) at ∙ (heap-word m words (stands.block + 2 + k) (omega arith) ∙ ap Some (stands.values k v x))
+        ap (word_of then) at ∙ (word_in_heap m words (stands.block + 2 + k) (omega arith) ∙ ap Some (stands.values k v x))
 
     -- and it lies in the heap
-    heap-aligned : o.place % 4 ≡ 0
-    heap-aligned = let p = place-is in omega arith
+    heap_aligned : o.place % 4 ≡ 0
+    heap_aligned = let p = place-is in omega arith
 
-    heap-inside : (heap_start ≤ o.place) × (end_of o ≤ heap_start + 0x1000000)
-    heap-inside =
+    heap_inside : (heap_start ≤ o.place) × (end_of o ≤ heap_start + 0x1000000)
+    heap_inside =
         let p = place-is in
         let r = values-room in
         let b = block-end in
         let few = g.formed.most in
         (omega arith, omega arith)
 
-    in-block : StandsInBlock (shown image).shapes words o
-    in-block = record { block = stands.block; place = place-is; used = stands.used; exact = stands.exact }
+    in_block : StandsInBlock (shown image).shapes words o
+    in_block = record { block = stands.block; place = place-is; used = stands.used; exact = stands.exact }
 
   -- differing ones lie apart
-  heap-apart : (i j : ℕ) (o p : Object) (li : after i ≡ true) (lj : after j ≡ true) (bi : length image.arrays ≤ i) (bj : length image.arrays ≤ j) (ei : slice_get (s.store ++ more) i ≡ Some o) (ej : slice_get (s.store ++ more) j ≡ Some p) → i ≢ j
+  heap_apart : (i j : ℕ) (o p : Object) (li : after i ≡ true) (lj : after j ≡ true) (bi : length image.arrays ≤ i) (bj : length image.arrays ≤ j) (ei : slice_get (s.store ++ more) i ≡ Some o) (ej : slice_get (s.store ++ more) j ≡ Some p) → i ≢ j
       → (end_of o ≤ p.place) ⊎ (end_of p ≤ o.place)
-  heap-apart i j o p li lj bi bj ei ej ne = go (cases_order (stands i o li bi ei).block (stands j p lj bj ej).block)
+  heap_apart i j o p li lj bi bj ei ej ne = go (cases_order (stands i o li bi ei).block (stands j p lj bj ej).block)
     where
       x : ObjectStands (shown image).shapes (places_in (s.store ++ more)) words o
       x = stands i o li bi ei
@@ -228,8 +228,8 @@ module _ (laws : BlockLaws) (image : ImageParts) (live after : ℕ → Bool) (s 
 
   -- ---- all objects
 
-  objects-hold : (i : ℕ) (o : Object) → after i ≡ true → slice_get (s.store ++ more) i ≡ Some o → HoldsValues then (places_in (s.store ++ more)) o.place (object_values o)
-  objects-hold i o lives e k v x = go (cases_below i (length image.arrays))
+  objects_hold : (i : ℕ) (o : Object) → after i ≡ true → slice_get (s.store ++ more) i ≡ Some o → HoldsValues then (places_in (s.store ++ more)) o.place (object_values o)
+  objects_hold i o lives e k v x = go (cases_below i (length image.arrays))
     where
       go : (i < length image.arrays) ⊎ (length image.arrays ≤ i) → word_of then (o.place + 4 * k) ≡ Some (Word (places_in (s.store ++ more)) v)
       go (inl l) =
@@ -237,34 +237,34 @@ module _ (laws : BlockLaws) (image : ImageParts) (live after : ℕ → Bool) (s 
           let z = array-end i o l old in
           let y = slice_get_within (object_values o) k v x in
           let low = z.1 in
-          value-kept (o.place + 4 * k) v (omega arith) (object-within i o k v old x) (h.objects i o (alive i l) old k v x)
-      go (inr l) = heap-holds i o lives l e k v x
+          value-kept (o.place + 4 * k) v (omega arith) (object_within i o k v old x) (h.objects i o (alive i l) old k v x)
+      go (inr l) = heap_holds i o lives l e k v x
 
-  objects-lie : ObjectsLie image after t
-  objects-lie = record { short = h.lie.short; aligned = aligned; inside = inside; apart = apart }
+  objects_lie : ObjectsLie image after t
+  objects_lie = record { short = h.lie.short; aligned = aligned; inside = inside; apart = apart }
     where
       aligned : (i : ℕ) (o : Object) → after i ≡ true → slice_get (s.store ++ more) i ≡ Some o → o.place % 4 ≡ 0
       aligned i o lives e = go (cases_below i (length image.arrays))
         where
           go : (i < length image.arrays) ⊎ (length image.arrays ≤ i) → o.place % 4 ≡ 0
           go (inl l) = h.lie.aligned i o (alive i l) (array-old i o l e)
-          go (inr l) = heap-aligned i o lives l e
+          go (inr l) = heap_aligned i o lives l e
 
       inside : (i : ℕ) (o : Object) → after i ≡ true → slice_get (s.store ++ more) i ≡ Some o → IsInside image t i o
       inside i o lives e = go (cases_below i (length image.arrays))
         where
           go : (i < length image.arrays) ⊎ (length image.arrays ≤ i) → IsInside image t i o
           go (inl l) = let z = array-end i o l (array-old i o l e) in inl (l, z.0, z.1)
-          go (inr l) = let z = heap-inside i o lives l e in inr (l, z.0, z.1)
+          go (inr l) = let z = heap_inside i o lives l e in inr (l, z.0, z.1)
 
       apart : (i j : ℕ) (o p : Object) → after i ≡ true → after j ≡ true → i ≢ j → slice_get (s.store ++ more) i ≡ Some o → slice_get (s.store ++ more) j ≡ Some p → (end_of o ≤ p.place) ⊎ (end_of p ≤ o.place)
       apart i j o p li lj ne ei ej = go (cases_below i (length image.arrays)) (cases_below j (length image.arrays))
         where
           go : (i < length image.arrays) ⊎ (length image.arrays ≤ i) → (j < length image.arrays) ⊎ (length image.arrays ≤ j) → (end_of o ≤ p.place) ⊎ (end_of p ≤ o.place)
           go (inl a) (inl b) = h.lie.apart i j o p (alive i a) (alive j b) ne (array-old i o a ei) (array-old j p b ej)
-          go (inl a) (inr b) = let z = (array-end i o a (array-old i o a ei)).1 in let y = (heap-inside j p lj b ej).0 in inl (omega arith)
-          go (inr a) (inl b) = let z = (array-end j p b (array-old j p b ej)).1 in let y = (heap-inside i o li a ei).0 in inr (omega arith)
-          go (inr a) (inr b) = heap-apart i j o p li lj a b ei ej ne
+          go (inl a) (inr b) = let z = (array-end i o a (array-old i o a ei)).1 in let y = (heap_inside j p lj b ej).0 in inl (omega arith)
+          go (inr a) (inl b) = let z = (array-end j p b (array-old j p b ej)).1 in let y = (heap_inside i o li a ei).0 in inr (omega arith)
+          go (inr a) (inr b) = heap_apart i j o p li lj a b ei ej ne
 
   stacks-hold : (n : ℕ) → n < image.stacks → HoldsValues then (places_in (s.store ++ more)) (stack_pointer n (length (values_at s n))) (values_at s n)
   stacks-hold n few k v e =
@@ -280,12 +280,12 @@ module _ (laws : BlockLaws) (image : ImageParts) (live after : ℕ → Bool) (s 
     tables = λ c k w e. low-kept m words (table_address c + 4 * k) (table-low (shapes_of image) classes c k w e) ∙ h.tables c k w e;
     descriptors = λ d k w e. low-kept m words (descriptor_address d + 4 * k) (descriptor-low (shapes_of image) classes d k w e) ∙ h.descriptors d k w e;
     statics = λ k v e. let l = slice_get_within s.statics k v e in let low = h.lie.short in value-kept (statics_start + 4 * k) v (omega arith) (statics-within image s typed k v e) (h.statics k v e);
-    objects = objects-hold;
+    objects = objects_hold;
     stacks = stacks-hold;
     room = λ a low high aligned. let most = few-stacks image formed in low-mapped m words a (omega arith) (h.room a low high aligned);
-    lie = objects-lie;
-    blocks = record { formed = g.formed; size = g.size ∙ h.blocks.size; objects = in-block };
+    lie = objects_lie;
+    blocks = record { formed = g.formed; size = g.size ∙ h.blocks.size; objects = in_block };
   }
 
-pub heap-replaced : BlockLaws → ((image : ImageParts) → Formed image → ClassLaws (shapes_of image)) → HeapIsReplaced
-heap-replaced laws classes image live after s more m words formed typed alive h g = replaced laws image live after s more m words formed (classes image formed) typed alive h g
+pub heap_replaced : BlockLaws → ((image : ImageParts) → Formed image → ClassLaws (shapes_of image)) → HeapIsReplaced
+heap_replaced laws classes image live after s more m words formed typed alive h g = replaced laws image live after s more m words formed (classes image formed) typed alive h g

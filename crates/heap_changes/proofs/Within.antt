@@ -70,14 +70,14 @@ some-within (o ∷ os) zero e = omega arith
 some-within (o ∷ os) (suc i) e = let l = some-within os i e in omega arith
 
 -- a reference that has a type is one of the objects
-reference-fits : (v : ShownImage) (os : List ObjectShape) (i : ℕ) (t : Ty) → fits_among v all_objects os (Ref i) t ≡ true → i < length os
+reference_fits : (v : ShownImage) (os : List ObjectShape) (i : ℕ) (t : Ty) → fits_among v all_objects os (Ref i) t ≡ true → i < length os
 unfolding fits_among
-reference-fits v os i (ty.Ref c) h = some-within os i (instance-there v.shapes (slice_get os i) c h)
-reference-fits v os i (ty.Obj c) h = some-within os i (instance-there v.shapes (slice_get os i) c h)
-reference-fits v os i (ty.ArrRef k) h = some-within os i (array-there (slice_get os i) k h)
-reference-fits v os i (ty.Arr k) h = some-within os i (array-there (slice_get os i) k h)
-reference-fits v os i ty.Junk h = some-within os i h
-reference-fits v os i t h = absurd (false≢true h)
+reference_fits v os i (ty.Ref c) h = some-within os i (instance-there v.shapes (slice_get os i) c h)
+reference_fits v os i (ty.Obj c) h = some-within os i (instance-there v.shapes (slice_get os i) c h)
+reference_fits v os i (ty.ArrRef k) h = some-within os i (array-there (slice_get os i) k h)
+reference_fits v os i (ty.Arr k) h = some-within os i (array-there (slice_get os i) k h)
+reference_fits v os i ty.Junk h = some-within os i h
+reference_fits v os i t h = absurd (false≢true h)
 
 module _ (image : ImageParts) (s : State) where
   abbrev l : Scope
@@ -86,7 +86,7 @@ module _ (image : ImageParts) (s : State) where
   pub fits-within : (v : Value) (t : Ty) → fits_in l v t ≡ true → Within (length s.store) v
   fits-within v t h i e =
       let n = length-map s.store (λ (o : Object). o.shape) in
-      let m = reference-fits (shown image) (shapes_in s.store) i t (subst (λ w. fits_in l w t ≡ true) e h) in
+      let m = reference_fits (shown image) (shapes_in s.store) i t (subst (λ w. fits_in l w t ≡ true) e h) in
       omega arith
 
   ret-within : (a : ℕ) → Within (length s.store) (Ret a)
@@ -124,12 +124,12 @@ module _ (image : ImageParts) (s : State) where
       nothing : (k : ℕ) (w : Value) → slice_get [] k ≡ Some w → ⊥
       nothing k w e = cc
 
-  pub stack-within : (stack : Stack) → StackFits l stack → StackWithin (kept_values stack)
+  pub stack_within : (stack : Stack) → StackFits l stack → StackWithin (kept_values stack)
   unfolding kept_values
-  stack-within EmptyStack h = none-within
-  stack-within RunningStack h = none-within
-  stack-within (YieldedStack place values) h = record { within = frames-within h.sig.result h.context.slots values h.frames; room = h.room }
-  stack-within (InterruptedStack thread values) h = record { within = frames-within h.sig.result h.context.slots values h.frames; room = h.room }
+  stack_within EmptyStack h = none-within
+  stack_within RunningStack h = none-within
+  stack_within (YieldedStack place values) h = record { within = frames-within h.sig.result h.context.slots values h.frames; room = h.room }
+  stack_within (InterruptedStack thread values) h = record { within = frames-within h.sig.result h.context.slots values h.frames; room = h.room }
 
   -- the values of stack n
   pub values-within : TypedAmong image all_objects s → (n : ℕ) → StackWithin (values_at s n)
@@ -139,7 +139,7 @@ module _ (image : ImageParts) (s : State) where
       go : (b : Bool) (o : Option Stack) → slice_get s.stacks n ≡ o → StackWithin (cond b s.values (option_map_or kept_values o []))
       go true o e = record { within = frames-within typed.thread.sig.result typed.thread.context.slots s.values typed.thread.frames; room = typed.thread.room }
       go false None e = none-within
-      go false (Some stack) e = stack-within stack (typed.others n stack e)
+      go false (Some stack) e = stack_within stack (typed.others n stack e)
 
   -- the values of statics
   pub statics-within : TypedAmong image all_objects s → AllWithin (length s.store) s.statics
@@ -170,10 +170,10 @@ module _ (image : ImageParts) (s : State) where
   state-kept more n (YieldedStack place values) h = refl
   state-kept more n (InterruptedStack thread values) h = rw (registers-kept more thread values (stack_pointer n (length values)) h) refl
 
-  states-kept : (more : Store) (n : ℕ) (stacks : List Stack) → ((k : ℕ) (stack : Stack) → slice_get stacks k ≡ Some stack → StackFits l stack) → states_by (places_in (s.store ++ more)) n stacks ≡ states_by (places_in s.store) n stacks
+  states_kept : (more : Store) (n : ℕ) (stacks : List Stack) → ((k : ℕ) (stack : Stack) → slice_get stacks k ≡ Some stack → StackFits l stack) → states_by (places_in (s.store ++ more)) n stacks ≡ states_by (places_in s.store) n stacks
   unfolding states_by
-  states-kept more n [] h = refl
-  states-kept more n (stack ∷ stacks) h = rw (state-kept more n stack (h 0 stack refl), states-kept more (n + 1) stacks (λ k x e. h (suc k) x e)) refl
+  states_kept more n [] h = refl
+  states_kept more n (stack ∷ stacks) h = rw (state-kept more n stack (h 0 stack refl), states_kept more (n + 1) stacks (λ k x e. h (suc k) x e)) refl
 
-pub states-keep : StatesKeepWords
-states-keep image s more typed = states-kept image s more 0 s.stacks typed.others
+pub states_keep : StatesKeepWords
+states_keep image s more typed = states_kept image s more 0 s.stacks typed.others

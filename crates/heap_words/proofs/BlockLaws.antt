@@ -6,8 +6,8 @@ use Rattle.heap_words.specs.Blocks.{Begins, FormedHeap, IsFree, IsUsed, IsObject
 use Rattle.heap_words.specs.Laws.{LiesIn, PlaceLaws, HeaderLaws, ListLaws, BlockLaws}
 use Rattle.heap_words.proofs.HeaderLaws.{size-mod, whole-size, whole-free, whole-plain}
 use Rattle.heap_words.proofs.Places.{apart, begins-first, begins-next, begins-row}
-use Rattle.heap_words.proofs.BlockLists.{rest-block, rest-end, same-list, replaces-one, replaces-two}
-use Rattle.heap_words.proofs.Writes.{same-set, formed-same, room}
+use Rattle.heap_words.proofs.BlockLists.{rest-block, rest-end, same-list, replaces_one, replaces_two}
+use Rattle.heap_words.proofs.Writes.{same-set, formed_same, room}
 
 -- behind a block stands another, or the heap ends
 next-or_end : (words : List ℕ) (i : ℕ) → FormedHeap words → Begins words i → (i + size_at words i ≡ length words) ⊎ Begins words (i + size_at words i)
@@ -43,8 +43,8 @@ lies_in : (words : List ℕ) (k : ℕ) → FormedHeap words → k < length words
 lies_in words k f l = lies_from words f k (suc k) 0 (begins-first words (omega arith)) (omega arith) l (omega arith)
 
 -- a word of a used block behind its first two is an object's
-object-word : (words : List ℕ) (i k : ℕ) → IsUsed words i → 2 ≤ k → k < size_at words i → IsObjectWord words (i + k)
-object-word words i k u two less = record {
+object_word : (words : List ℕ) (i k : ℕ) → IsUsed words i → 2 ≤ k → k < size_at words i → IsObjectWord words (i + k)
+object_word words i k u two less = record {
   header = λ j b e. ahead j 0 b (cases_order i j) (omega arith) (omega arith);
   link = λ j b e. ahead j 1 b (cases_order i j) (omega arith) (omega arith);
   back = λ j f e. behind j f (cases_order i j) (omega arith);
@@ -70,17 +70,17 @@ place-laws = record {
   separate = separate;
   room = room;
   covered = lies_in;
-  object = object-word;
+  object = object_word;
 }
 
 -- what headers say of blocks
 header-laws : HeaderLaws
-header-laws = record { row = size-mod; plain_size = whole-size; plain_free = whole-free; plain_mark = whole-plain; written = same-set; formed = formed-same }
+header-laws = record { row = size-mod; plain_size = whole-size; plain_free = whole-free; plain_mark = whole-plain; written = same-set; formed = formed_same }
 
 -- how the list of blocks follows the headers
-list-laws : ListLaws
-list-laws = record { block = rest-block; end = rest-end; same = same-list; one = replaces-one; two = replaces-two }
+list_laws : ListLaws
+list_laws = record { block = rest-block; end = rest-end; same = same-list; one = replaces_one; two = replaces_two }
 
 -- all of them
 pub block-laws : BlockLaws
-block-laws = record { places = place-laws; headers = header-laws; lists = list-laws }
+block-laws = record { places = place-laws; headers = header-laws; lists = list_laws }

@@ -164,8 +164,8 @@ behind : (u v : List ℕ) (i : ℕ) → Differs u v i → rest v (i + size_at u 
 behind u v i d = same-rest u v (i + size_at u i) d.size (at-next u i d.begins) (λ j b l. d.others j b (above i j (size_at u i) (d.formed.whole i d.begins).positive l))
 
 -- the block at i kept its size
-pub replaces-one : (u v : List ℕ) (i : ℕ) → Differs u v i → size_at v i ≡ size_at u i → Replaces (Blocks u) (Blocks v) (block_at u i ∷ []) (block_at v i ∷ [])
-replaces-one u v i d e =
+pub replaces_one : (u v : List ℕ) (i : ℕ) → Differs u v i → size_at v i ≡ size_at u i → Replaces (Blocks u) (Blocks v) (block_at u i ∷ []) (block_at v i ∷ [])
+replaces_one u v i d e =
     let s = front-of u v i d in
     let r : rest v i ≡ block_at v i ∷ rest u (i + size_at u i) = rest-block v i d.formed_after s.begins ∙ rw (e, behind u v i d) refl in
     record { front = s.front; back = rest u (i + size_at u i); was = longer _ _ _ _ (rw (← rest-block u i d.formed d.begins) s.left); becomes = longer _ _ _ _ (rw (← r) s.right) }
@@ -175,9 +175,9 @@ longer_by_two : (front back all : List Block) (b c : Block) → all ≡ front ++
 longer_by_two front back all b c e = e ∙ sym (append_assoc front (b ∷ c ∷ []) back)
 
 -- the block at i was cut in two
-pub replaces-two : (u v : List ℕ) (i need : ℕ) → Differs u v i → size_at v i ≡ need → Begins v (i + need) → need + size_at v (i + need) ≡ size_at u i
+pub replaces_two : (u v : List ℕ) (i need : ℕ) → Differs u v i → size_at v i ≡ need → Begins v (i + need) → need + size_at v (i + need) ≡ size_at u i
     → Replaces (Blocks u) (Blocks v) (block_at u i ∷ []) (block_at v i ∷ block_at v (i + need) ∷ [])
-replaces-two u v i need d h b e =
+replaces_two u v i need d h b e =
     let s = front-of u v i d in
     let k : i + need + size_at v (i + need) ≡ i + size_at u i = omega arith in
     let q : rest v (i + need) ≡ block_at v (i + need) ∷ rest u (i + size_at u i) = rest-block v (i + need) d.formed_after b ∙ rw (k, behind u v i d) refl in
@@ -192,8 +192,8 @@ replaces-two u v i need d h b e =
     }
 
 -- a replacement read backwards
-pub replaces-back : (a b p q : List Block) → Replaces a b p q → Replaces b a q p
-replaces-back a b p q r = record { front = r.front; back = r.back; was = r.becomes; becomes = r.was }
+pub replaces_back : (a b p q : List Block) → Replaces a b p q → Replaces b a q p
+replaces_back a b p q r = record { front = r.front; back = r.back; was = r.becomes; becomes = r.was }
 
 -- the list has the blocks that begin, and no others
 holds-none : (b : Block) → Contains [] b → ⊥

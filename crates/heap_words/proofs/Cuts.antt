@@ -6,7 +6,7 @@ use Rattle.heap_words.specs.Blocks.{Block, Begins, IsWhole, IsFree, FormedHeap, 
 use Rattle.heap_words.specs.Laws.{Differs}
 use Rattle.heap_words.proofs.HeaderLaws.{size-mod, whole-size, whole-free}
 use Rattle.heap_words.proofs.Places.{apart, begins-first, begins-next, begins-ind}
-use Rattle.heap_words.proofs.BlockLists.{replaces-two, replaces-back}
+use Rattle.heap_words.proofs.BlockLists.{replaces_two, replaces_back}
 
 -- what one block is cut into
 pub record Cut (u v : List ℕ) (i need : ℕ) : Type 0 where
@@ -28,8 +28,8 @@ moved : (v : List ℕ) (i j : ℕ) → i ≡ j → Begins v i → Begins v j
 moved v i j e b = subst (Begins v) e b
 
 -- after a cut the blocks begin where they did, and at the rest
-pub splits-cut : (u v : List ℕ) (i need : ℕ) → Cut u v i need → Splits u v (i + need)
-splits-cut u v i need c = record { kept = kept; added = added; each = λ j b. begins-ind v P first_block (λ j b p g. next j p g) j b }
+pub splits_cut : (u v : List ℕ) (i need : ℕ) → Cut u v i need → Splits u v (i + need)
+splits_cut u v i need c = record { kept = kept; added = added; each = λ j b. begins-ind v P first_block (λ j b p g. next j p g) j b }
   where
     middle : Begins v i → Begins v (i + need)
     middle b =
@@ -84,8 +84,8 @@ splits-cut u v i need c = record { kept = kept; added = added; each = λ j b. be
     next j (inr e) g = after_rest j e g
 
 -- a cut leaves a heap
-pub formed-cut : (u v : List ℕ) (i need : ℕ) → Cut u v i need → FormedHeap u → FormedHeap v
-formed-cut u v i need c f = record { whole = λ j b. whole j ((splits-cut u v i need c).each j b); rows = rw c.size f.rows; least = rw c.size f.least; most = rw c.size f.most }
+pub formed_cut : (u v : List ℕ) (i need : ℕ) → Cut u v i need → FormedHeap u → FormedHeap v
+formed_cut u v i need c f = record { whole = λ j b. whole j ((splits_cut u v i need c).each j b); rows = rw c.size f.rows; least = rw c.size f.least; most = rw c.size f.most }
   where
     other : (j : ℕ) → Begins u j → j ≢ i → IsWhole v j
     other j b n =
@@ -140,9 +140,9 @@ cut-joined u v i f c = record {
     step j b d g h (inr n) = moved v _ _ (ap (λ s. j + s) (c.others j n)) (begins-next v j (d (omega arith)) (let e = c.others j n in let l = c.size in omega arith))
 
 -- a join leaves a heap
-pub formed-joined : (u v : List ℕ) (i : ℕ) → Joined u v i → FormedHeap u → FormedHeap v
-formed-joined u v i c f =
-    record { whole = λ j b. whole j b ((splits-cut v u i _ cut).kept j b) (cases_eq j i); rows = rw c.size f.rows; least = rw c.size f.least; most = rw c.size f.most }
+pub formed_joined : (u v : List ℕ) (i : ℕ) → Joined u v i → FormedHeap u → FormedHeap v
+formed_joined u v i c f =
+    record { whole = λ j b. whole j b ((splits_cut v u i _ cut).kept j b) (cases_eq j i); rows = rw c.size f.rows; least = rw c.size f.least; most = rw c.size f.most }
   where
     cut : Cut v u i (size_at u i)
     cut = cut-joined u v i f c
@@ -227,10 +227,10 @@ split-facts u i need f free r s l = record { formed = formed; splits = splits; r
     cut = record { size = w.size; begins = free.begins; within = within; some = s; less = l; front = front_size; rest = sum; others = λ j n m. ap size_of (w.others j n m) }
 
     formed : FormedHeap (split_words u i need)
-    formed = formed-cut u _ i need cut f
+    formed = formed_cut u _ i need cut f
 
     splits : Splits u (split_words u i need) (i + need)
-    splits = splits-cut u _ i need cut
+    splits = splits_cut u _ i need cut
 
     other : (j : ℕ) → Begins u j → j ≢ i → block_at (split_words u i need) j ≡ block_at u j
     other j b n = let e = w.others j n (between u i j need free.begins b s l) in rw e refl
@@ -239,7 +239,7 @@ split-facts u i need f free r s l = record { formed = formed; splits = splits; r
     differs = record { formed = f; formed_after = formed; size = w.size; begins = free.begins; others = other }
 
     replaced : Replaces (Blocks u) (Blocks (split_words u i need)) (block_at u i ∷ []) (block_at (split_words u i need) i ∷ block_at (split_words u i need) (i + need) ∷ [])
-    replaced = replaces-two u _ i need differs front_size splits.added sum
+    replaced = replaces_two u _ i need differs front_size splits.added sum
 
     P : Block → Type 0
     P b = Replaces (Blocks u) (Blocks (split_words u i need)) (free_block i (size_at u i) ∷ []) (b ∷ free_block (i + need) (size_at u i - need) ∷ [])
@@ -272,8 +272,8 @@ pub join-facts : (u : List ℕ) (i : ℕ) → FormedHeap u → IsFree u i → Is
 join-facts u i f free next =
     record {
       formed = formed;
-      splits = splits-cut _ u i _ cut;
-      replaces = replaces-back _ _ _ _
+      splits = splits_cut _ u i _ cut;
+      replaces = replaces_back _ _ _ _
           (subst P (free-block u i free) (subst Q (free-block u _ next) (subst R made replaced)));
     }
   where
@@ -300,13 +300,13 @@ join-facts u i f free next =
     cut = cut-joined u _ i f joined
 
     formed : FormedHeap (join_words u i)
-    formed = formed-joined u _ i joined f
+    formed = formed_joined u _ i joined f
 
     differs : Differs (join_words u i) u i
     differs = record { formed = formed; formed_after = f; size = cut.size; begins = cut.begins; others = λ j b n. sym (let e = get_or-set_other u i j total 0 n in rw e refl) }
 
     replaced : Replaces (Blocks (join_words u i)) (Blocks u) (block_at (join_words u i) i ∷ []) (block_at u i ∷ block_at u (i + size_at u i) ∷ [])
-    replaced = replaces-two _ u i (size_at u i) differs refl next.begins (sym joined.sum)
+    replaced = replaces_two _ u i (size_at u i) differs refl next.begins (sym joined.sum)
 
     P : Block → Type 0
     P b = Replaces (Blocks (join_words u i)) (Blocks u) (free_block i total ∷ []) (b ∷ free_block (i + size_at u i) (size_at u (i + size_at u i)) ∷ [])

@@ -7,8 +7,8 @@ use Rattle.heap_words.proofs.Places.{begins-first, begins-ind}
 use Rattle.heap_words.proofs.BlockLists.{rest, rest-block, rest-end}
 
 -- words whose first one is their number are one block
-pub formed-one : (u : List ℕ) → length u % 4 ≡ 0 → 64 ≤ length u → length u ≤ 4194304 → get_or u 0 0 ≡ length u → FormedHeap u × Begins u 0
-formed-one u r p m e =
+pub formed_one : (u : List ℕ) → length u % 4 ≡ 0 → 64 ≤ length u → length u ≤ 4194304 → get_or u 0 0 ≡ length u → FormedHeap u × Begins u 0
+formed_one u r p m e =
     (record { whole = λ i b. whole i (begins-ind u (λ i. i ≡ 0) (λ _. refl) (λ i _ h g. absurd (past i h g)) i b); rows = r; least = p; most = m }, begins-first u (omega arith))
   where
     size : size_at u 0 ≡ length u
@@ -37,7 +37,7 @@ new-heap u n e r l m = record { formed = both.0; free = free; listed = rest-bloc
     word = get_or-set_same u 0 n 0 (omega arith)
 
     both : FormedHeap (set u 0 n) × Begins (set u 0 n) 0
-    both = formed-one (set u 0 n) (rw size r) (rw size l) (rw size m) (word ∙ sym size)
+    both = formed_one (set u 0 n) (rw size r) (rw size l) (rw size m) (word ∙ sym size)
 
     free : IsFree (set u 0 n) 0
     free = record { begins = both.1; free = rw word (whole-free n r) }

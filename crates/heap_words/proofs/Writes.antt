@@ -6,7 +6,7 @@ use Rattle.heap_words.specs.Blocks.{Begins, IsWhole, FormedHeap, SameBlocks, Rep
 use Rattle.heap_words.specs.Laws.{Differs, Room}
 use Rattle.heap_words.proofs.HeaderLaws.{size-mod, size-kept, used-written}
 use Rattle.heap_words.proofs.Places.{same-blocks, begins-row}
-use Rattle.heap_words.proofs.BlockLists.{replaces-one, same-list}
+use Rattle.heap_words.proofs.BlockLists.{replaces_one, same-list}
 
 -- a write that keeps the size of a block that begins there
 pub same-set : (u : List ℕ) (i w : ℕ) → (Begins u i → size_of w ≡ size_at u i) → SameBlocks u (set u i w)
@@ -20,8 +20,8 @@ same-set u i w h = same-blocks u (set u i w) (length-set u i w) (λ j b. choose 
     choose j b (inr g) = ap size_of (get_or-set_other u i j w 0 g)
 
 -- blocks that stay keep the words a heap
-pub formed-same : (u v : List ℕ) → SameBlocks u v → FormedHeap u → FormedHeap v
-formed-same u v s f = record { whole = λ i b. whole i (s.back i b); rows = rw s.size f.rows; least = rw s.size f.least; most = rw s.size f.most }
+pub formed_same : (u v : List ℕ) → SameBlocks u v → FormedHeap u → FormedHeap v
+formed_same u v s f = record { whole = λ i b. whole i (s.back i b); rows = rw s.size f.rows; least = rw s.size f.least; most = rw s.size f.most }
   where
     whole : (i : ℕ) → Begins u i → IsWhole v i
     whole i b =
@@ -89,12 +89,12 @@ reheaded-list u i used marked f b =
     let s = reheaded-same u i used marked in
     let d : Differs u (reheaded u i used marked) i = record {
       formed = f;
-      formed_after = formed-same u (reheaded u i used marked) s f;
+      formed_after = formed_same u (reheaded u i used marked) s f;
       size = s.size;
       begins = b;
       others = λ j _ n. other_block u i j (header_word (size_at u i) used marked) n;
     } in
-    let r = replaces-one u (reheaded u i used marked) i d (s.sizes i b) in
+    let r = replaces_one u (reheaded u i used marked) i d (s.sizes i b) in
     subst (λ b. Replaces (Blocks u) (Blocks (reheaded u i used marked)) (block_at u i ∷ []) (b ∷ [])) (rw (s.sizes i b, used-written u i used marked b.inside) refl) r
 
 -- only the mark changes

@@ -21,7 +21,7 @@ use Rattle.ia32_code.specs.Canonical.{fill}
 use Rattle.ia32_code.specs.Opcodes.{row_with, row_with_digit}
 use Rattle.ia32_code.specs.Reading.{seq, byte_at, form_at, trailing_at, modrm_at, end_at, digit_at, by_modrm_at, opened_at, spelling_at}
 use Rattle.ia32_code.proofs.TakesFront.{IsBytes, IsBytes-append, ok_is}
-use Rattle.ia32_code.proofs.Readers.{Whole-form_at, TakesFront-spelling_at}
+use Rattle.ia32_code.proofs.Readers.{Whole-form_at, TakesFront_spelling_at}
 use Rattle.ia32_code.proofs.OperandForms.{chosen, seq_ok, seq_done, word_again, word_takes, form_again, form_takes, modrm_middle, reg-number, number_below, number-reg, mode_below}
 use Rattle.ia32_code.proofs.OpcodeRows.{Leads, leads, IsLine, row_of_code, row_of_digit}
 
@@ -241,7 +241,7 @@ spelling_takes (b ∷ t) s fits e =
 -- a spelling at the front
 pub front : (bytes : List ℕ) (s : Spelling) (rest : List ℕ) → IsBytes bytes → spelling_at bytes ≡ Ok (s, rest) → (t : List ℕ) × (bytes ≡ t ++ rest) × SpelledBy t s
 front bytes s rest fits e =
-    let took = TakesFront-spelling_at.took bytes s rest e in
+    let took = TakesFront_spelling_at.took bytes s rest e in
     let both = parts_fit took.text rest (subst IsBytes took.parts fits) in
     (took.text, took.parts, spelling_takes took.text s both.0 (ap spelling_at (sym (append-nil took.text)) ∙ took.reads []))
 
@@ -252,7 +252,7 @@ spells_meaning t s h = record { spelling = s; fits = h.fits; text_is = h.text_is
 -- a spelling that goes on
 pub goes_on : (bytes : List ℕ) → IsBytes bytes → spelling_at bytes ≡ Err Short → (more : List ℕ) × (i : Inst) × (more ≢ []) × Spells (bytes ++ more) i
 goes_on bytes fits e =
-    let ends = TakesFront-spelling_at.short bytes e in
+    let ends = TakesFront_spelling_at.short bytes e in
     let whole : spelling_at (bytes ++ ends.text) ≡ Ok (ends.value, []) = ap (λ (x : List ℕ). spelling_at (bytes ++ x)) (sym (append-nil ends.text)) ∙ ends.reads [] in (
       ends.text,
       meaning ends.value,
@@ -265,7 +265,7 @@ goes_on bytes fits e =
 pub no_more : (bytes : List ℕ) → spelling_at bytes ≡ Err Unknown → (more : List ℕ) (i : Inst) → Spells (bytes ++ more) i → ⊥
 no_more bytes e more i s =
     let known : spelling_at (bytes ++ more) ≡ Ok (s.spelling, []) = ap spelling_at (sym (append-nil (bytes ++ more))) ∙ spelled_again (bytes ++ more) [] i s in
-    let unknown = TakesFront-spelling_at.unknown bytes more e in
+    let unknown = TakesFront_spelling_at.unknown bytes more e in
     cc
 
 -- no spelling begins another

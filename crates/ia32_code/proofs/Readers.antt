@@ -17,7 +17,7 @@ use Rattle.ia32_code.specs.Opcodes.{row_with, row_with_digit}
 use Rattle.ia32_code.specs.Canonical.{fill}
 use Rattle.ia32_code.specs.Reading.{CodeReader, given, seq, byte_at, word_at, four_bytes, disp_at, sib_at, form_at, trailing_at, end_at, modrm_at, digit_at, row_at, by_modrm_at, opened_at, spelling_at}
 use Rattle.ia32_code.proofs.OpcodeRows.{HasDigitRow, digit_row}
-use Rattle.ia32_code.proofs.TakesFront.{TakesFront, Readable, TakesFront-byte_at, Readable-byte_at, TakesFront-given, Readable-given, TakesFront-none, TakesFront-seq, Readable-seq, TakesFront-byte, TakesFront-cond}
+use Rattle.ia32_code.proofs.TakesFront.{TakesFront, Readable, TakesFront_byte_at, Readable_byte_at, TakesFront_given, Readable_given, TakesFront_none, TakesFront_seq, Readable_seq, TakesFront_byte, TakesFront_cond}
 
 -- a reader that goes from left to right, and reads something
 pub record Whole {A : Type 0} (p : CodeReader A) : Type 0 where
@@ -26,16 +26,16 @@ pub record Whole {A : Type 0} (p : CodeReader A) : Type 0 where
 
 -- one byte
 Whole-byte_at : Whole byte_at
-Whole-byte_at = record { takes = TakesFront-byte_at; live = Readable-byte_at }
+Whole-byte_at = record { takes = TakesFront_byte_at; live = Readable_byte_at }
 
 -- a value
 pub Whole-given : {A : Type 0} (v : A) → Whole (given v)
-Whole-given v = record { takes = TakesFront-given v; live = Readable-given v }
+Whole-given v = record { takes = TakesFront_given v; live = Readable_given v }
 
 -- one after the other
 pub Whole-seq : {A B : Type 0} (p : CodeReader A) (f : A → CodeReader B) → Whole p → ((a : A) → Whole (f a)) → Whole (seq p f)
 Whole-seq p f x y =
-    record { takes = TakesFront-seq p f x.takes (λ a. (y a).takes) (λ a. (y a).live); live = Readable-seq p f x.takes (λ a. (y a).takes) x.live (y x.live.value).live }
+    record { takes = TakesFront_seq p f x.takes (λ a. (y a).takes) (λ a. (y a).live); live = Readable_seq p f x.takes (λ a. (y a).takes) x.live (y x.live.value).live }
 
 -- one or the other
 pub Whole-cond : {A : Type 0} (b : Bool) (p q : CodeReader A) → Whole p → Whole q → Whole (cond b p q)
@@ -103,10 +103,10 @@ Whole-modrm_at row m = Whole-seq (form_at m) (λ f. end_at row (reg (m / 8 % 8))
 -- ---- rows
 
 -- a digit decides from left to right
-TakesFront-digit_at : (o : Option Row) (m : ℕ) → TakesFront (digit_at o m)
+TakesFront_digit_at : (o : Option Row) (m : ℕ) → TakesFront (digit_at o m)
 unfolding digit_at
-TakesFront-digit_at None m = TakesFront-none
-TakesFront-digit_at (Some row) m = (Whole-modrm_at row m).takes
+TakesFront_digit_at None m = TakesFront_none
+TakesFront_digit_at (Some row) m = (Whole-modrm_at row m).takes
 
 -- the digit of a row of the table is read
 live_digit : (row : Row) (g : ℕ) → HasDigitRow row g → (m : ℕ) → m / 8 % 8 ≡ g → Readable (digit_at (row_with_digit (line row).code (m / 8 % 8)) m)
@@ -114,22 +114,22 @@ unfolding digit_at
 live_digit row g h m e = rw (e, h.found) (Whole-modrm_at h.other m).live
 
 -- a row that an opcode finds is read from left to right
-TakesFront-by_modrm_at : (s : ModRm) (w : Row) → ((g : ℕ) → s ≡ Digit g → HasDigitRow w g) → TakesFront (by_modrm_at s w)
+TakesFront_by_modrm_at : (s : ModRm) (w : Row) → ((g : ℕ) → s ≡ Digit g → HasDigitRow w g) → TakesFront (by_modrm_at s w)
 unfolding by_modrm_at digit_at
-TakesFront-by_modrm_at Absent w digit = (Whole-end_at w Eax (Direct Eax)).takes
-TakesFront-by_modrm_at Register w digit = (Whole-seq byte_at (λ m. modrm_at w m) Whole-byte_at (λ m. Whole-modrm_at w m)).takes
-TakesFront-by_modrm_at Memory w digit =
-    TakesFront-byte (λ m. digit_at (row_at Memory w m) m) (λ m. TakesFront-digit_at (row_at Memory w m) m) 0 (lit< tt) (Whole-modrm_at w 0).live
-TakesFront-by_modrm_at (Digit g) w digit =
+TakesFront_by_modrm_at Absent w digit = (Whole-end_at w Eax (Direct Eax)).takes
+TakesFront_by_modrm_at Register w digit = (Whole-seq byte_at (λ m. modrm_at w m) Whole-byte_at (λ m. Whole-modrm_at w m)).takes
+TakesFront_by_modrm_at Memory w digit =
+    TakesFront_byte (λ m. digit_at (row_at Memory w m) m) (λ m. TakesFront_digit_at (row_at Memory w m) m) 0 (lit< tt) (Whole-modrm_at w 0).live
+TakesFront_by_modrm_at (Digit g) w digit =
     let h = digit g refl in
-    TakesFront-byte (λ m. digit_at (row_at (Digit g) w m) m) (λ m. TakesFront-digit_at (row_at (Digit g) w m) m)
+    TakesFront_byte (λ m. digit_at (row_at (Digit g) w m) m) (λ m. TakesFront_digit_at (row_at (Digit g) w m) m)
     (8 * g) (let small = h.small in omega arith) (live_digit w g h (8 * g) (let small = h.small in omega arith))
 
 -- what an opcode finds is read from left to right
-TakesFront-opened_at : (code : List ℕ) (o : Option Row) → row_with code ≡ o → TakesFront (opened_at o)
+TakesFront_opened_at : (code : List ℕ) (o : Option Row) → row_with code ≡ o → TakesFront (opened_at o)
 unfolding opened_at
-TakesFront-opened_at code None e = TakesFront-none
-TakesFront-opened_at code (Some row) e = TakesFront-by_modrm_at (line row).modrm row (λ g m. digit_row code row g e m)
+TakesFront_opened_at code None e = TakesFront_none
+TakesFront_opened_at code (Some row) e = TakesFront_by_modrm_at (line row).modrm row (λ g m. digit_row code row g e m)
 
 -- some opcode is one byte
 live_nop : Readable (opened_at (row_with (0x90 ∷ [])))
@@ -142,14 +142,14 @@ unfolding opened_at by_modrm_at digit_at row_with
 live_imul = (Whole-seq byte_at (λ m. modrm_at Imul2 m) Whole-byte_at (λ m. Whole-modrm_at Imul2 m)).live
 
 -- what follows a first byte is read from left to right
-TakesFront-first : (b : ℕ) → TakesFront (cond (eqb b 0x0F) (seq byte_at (λ c. opened_at (row_with (0x0F ∷ c ∷ [])))) (opened_at (row_with (b ∷ []))))
-TakesFront-first b =
-    TakesFront-cond (eqb b 0x0F) _ _
-    (TakesFront-byte (λ c. opened_at (row_with (0x0F ∷ c ∷ []))) (λ c. TakesFront-opened_at (0x0F ∷ c ∷ []) (row_with (0x0F ∷ c ∷ [])) refl) 0xAF (lit< tt) live_imul)
-    (TakesFront-opened_at (b ∷ []) (row_with (b ∷ [])) refl)
+TakesFront_first : (b : ℕ) → TakesFront (cond (eqb b 0x0F) (seq byte_at (λ c. opened_at (row_with (0x0F ∷ c ∷ [])))) (opened_at (row_with (b ∷ []))))
+TakesFront_first b =
+    TakesFront_cond (eqb b 0x0F) _ _
+    (TakesFront_byte (λ c. opened_at (row_with (0x0F ∷ c ∷ []))) (λ c. TakesFront_opened_at (0x0F ∷ c ∷ []) (row_with (0x0F ∷ c ∷ [])) refl) 0xAF (lit< tt) live_imul)
+    (TakesFront_opened_at (b ∷ []) (row_with (b ∷ [])) refl)
 
 -- the whole reader goes from left to right
-pub TakesFront-spelling_at : TakesFront spelling_at
+pub TakesFront_spelling_at : TakesFront spelling_at
 unfolding spelling_at
-TakesFront-spelling_at =
-    TakesFront-byte (λ b. cond (eqb b 0x0F) (seq byte_at (λ c. opened_at (row_with (0x0F ∷ c ∷ [])))) (opened_at (row_with (b ∷ [])))) TakesFront-first 0x90 (lit< tt) live_nop
+TakesFront_spelling_at =
+    TakesFront_byte (λ b. cond (eqb b 0x0F) (seq byte_at (λ c. opened_at (row_with (0x0F ∷ c ∷ [])))) (opened_at (row_with (b ∷ [])))) TakesFront_first 0x90 (lit< tt) live_nop

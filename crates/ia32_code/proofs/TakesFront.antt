@@ -68,12 +68,12 @@ byte_short [] e = record { text = 0 ∷ []; value = 0; fits = (lit< tt, tt); rea
 byte_short (b ∷ bs) e = absurd cc
 
 -- the reader of a byte
-pub TakesFront-byte_at : TakesFront byte_at
-TakesFront-byte_at = record { took = byte_took; unknown = byte_unknown; short = byte_short }
+pub TakesFront_byte_at : TakesFront byte_at
+TakesFront_byte_at = record { took = byte_took; unknown = byte_unknown; short = byte_short }
 
 -- some byte is read
-pub Readable-byte_at : Readable byte_at
-Readable-byte_at = record { text = 0 ∷ []; value = 0; fits = (lit< tt, tt); reads = λ more. refl }
+pub Readable_byte_at : Readable byte_at
+Readable_byte_at = record { text = 0 ∷ []; value = 0; fits = (lit< tt, tt); reads = λ more. refl }
 
 -- nothing is taken
 done_took : {A : Type 0} (v : A) (bytes : List ℕ) (a : A) (rest : List ℕ) → given v bytes ≡ Ok (a, rest) → Took (given v) bytes a rest
@@ -82,16 +82,16 @@ done_took {A} v bytes a rest e =
     subst (λ (x : A × List ℕ). Took (given v) bytes x.0 x.1) h (record { text = []; parts = refl; reads = λ more. refl })
 
 -- the reader that takes nothing
-pub TakesFront-given : {A : Type 0} (v : A) → TakesFront (given v)
-TakesFront-given v = record { took = done_took v; unknown = λ bytes more e. absurd cc; short = λ bytes e. absurd cc }
+pub TakesFront_given : {A : Type 0} (v : A) → TakesFront (given v)
+TakesFront_given v = record { took = done_took v; unknown = λ bytes more e. absurd cc; short = λ bytes e. absurd cc }
 
 -- it reads no bytes
-pub Readable-given : {A : Type 0} (v : A) → Readable (given v)
-Readable-given v = record { text = []; value = v; fits = tt; reads = λ more. refl }
+pub Readable_given : {A : Type 0} (v : A) → Readable (given v)
+Readable_given v = record { text = []; value = v; fits = tt; reads = λ more. refl }
 
 -- the reader that refuses all
-pub TakesFront-none : {A : Type 0} → TakesFront (none {A = A})
-TakesFront-none = record { took = λ bytes a rest e. absurd cc; unknown = λ bytes more e. refl; short = λ bytes e. absurd cc }
+pub TakesFront_none : {A : Type 0} → TakesFront (none {A = A})
+TakesFront_none = record { took = λ bytes a rest e. absurd cc; unknown = λ bytes more e. refl; short = λ bytes e. absurd cc }
 
 -- ---- one after the other
 
@@ -142,15 +142,15 @@ module _ {A B : Type 0} (p : CodeReader A) (f : A → CodeReader B) (steady_p : 
       }
   seq_short live bytes (Err Unknown) e h = absurd cc
 
-  pub TakesFront-seq : ((a : A) → Readable (f a)) → TakesFront (seq p f)
-  TakesFront-seq live = record {
+  pub TakesFront_seq : ((a : A) → Readable (f a)) → TakesFront (seq p f)
+  TakesFront_seq live = record {
     took = λ bytes b rest h. seq_took bytes b rest (p bytes) refl h;
     unknown = λ bytes more h. seq_unknown bytes more (p bytes) refl h;
     short = λ bytes h. seq_short (λ cut e. let ends = steady_p.short cut e in (ends, live ends.value)) bytes (p bytes) refl h;
   }
 
-  pub Readable-seq : (live : Readable p) → Readable (f live.value) → Readable (seq p f)
-  Readable-seq one two = record {
+  pub Readable_seq : (live : Readable p) → Readable (f live.value) → Readable (seq p f)
+  Readable_seq one two = record {
     text = one.text ++ two.text;
     value = two.value;
     fits = IsBytes-append one.text two.text one.fits two.fits;
@@ -163,14 +163,14 @@ byte_ends f b lt live [] e = (record { text = b ∷ []; value = b; fits = (lt, t
 byte_ends f b lt live (c ∷ bs) e = absurd cc
 
 -- a byte, and then what reads something after some byte alone
-pub TakesFront-byte : {B : Type 0} (f : ℕ → CodeReader B) → ((b : ℕ) → TakesFront (f b)) → (b : ℕ) → b < 256 → Readable (f b) → TakesFront (seq byte_at f)
-TakesFront-byte f steady b lt live = record {
-  took = λ bytes c rest h. seq_took byte_at f TakesFront-byte_at steady bytes c rest (byte_at bytes) refl h;
-  unknown = λ bytes more h. seq_unknown byte_at f TakesFront-byte_at steady bytes more (byte_at bytes) refl h;
-  short = λ bytes h. seq_short byte_at f TakesFront-byte_at steady (byte_ends f b lt live) bytes (byte_at bytes) refl h;
+pub TakesFront_byte : {B : Type 0} (f : ℕ → CodeReader B) → ((b : ℕ) → TakesFront (f b)) → (b : ℕ) → b < 256 → Readable (f b) → TakesFront (seq byte_at f)
+TakesFront_byte f steady b lt live = record {
+  took = λ bytes c rest h. seq_took byte_at f TakesFront_byte_at steady bytes c rest (byte_at bytes) refl h;
+  unknown = λ bytes more h. seq_unknown byte_at f TakesFront_byte_at steady bytes more (byte_at bytes) refl h;
+  short = λ bytes h. seq_short byte_at f TakesFront_byte_at steady (byte_ends f b lt live) bytes (byte_at bytes) refl h;
 }
 
 -- one or the other
-pub TakesFront-cond : {A : Type 0} (b : Bool) (p q : CodeReader A) → TakesFront p → TakesFront q → TakesFront (cond b p q)
-TakesFront-cond true p q x y = x
-TakesFront-cond false p q x y = y
+pub TakesFront_cond : {A : Type 0} (b : Bool) (p q : CodeReader A) → TakesFront p → TakesFront q → TakesFront (cond b p q)
+TakesFront_cond true p q x y = x
+TakesFront_cond false p q x y = y

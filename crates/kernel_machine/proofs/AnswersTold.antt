@@ -38,10 +38,10 @@ reply-told image next s shape (Placed a) legal =
 reply-told image next s shape Refused legal = refl
 
 -- so does the entry
-allocation-told : (image : ImageParts) (next k : ℕ) (s : State) (shape : ObjectShape) (answer : Answer) → k ≤ 1
+allocation_told : (image : ImageParts) (next k : ℕ) (s : State) (shape : ObjectShape) (answer : Answer) → k ≤ 1
     → Legal (Gaps image (Roots image next s) s) (need (shown image).shapes shape) answer ≡ true
     → answers_of (option_to_list (Some (entry_of (Call k) (Word (places_of (allocated (shown image).shapes shape answer s)) (reply_to answer s)) s))) ≡ answer ∷ []
-allocation-told image next k s shape answer few legal =
+allocation_told image next k s shape answer few legal =
     let low : nat_le k 1 ≡ true = grind (arith, nat_tests) in
     rw (low, reply-told image next s shape answer legal) refl
 
@@ -63,27 +63,27 @@ answered-tells image next k s shape [] (answer ∷ left) turn few is others lega
 answered-tells image next k s shape (answer ∷ told) left turn few is others legal =
     let same = one-turn _ turn is in
     let none = none-more told left (ap (λ t. t.left) same ∙ others) in
-    rw none (ap (λ t. answers_of (option_to_list t.entry)) (sym same) ∙ allocation-told image next k s shape answer few (ap (λ t. t.legal) same ∙ legal))
+    rw none (ap (λ t. answers_of (option_to_list t.entry)) (sym same) ∙ allocation_told image next k s shape answer few (ap (λ t. t.legal) same ∙ legal))
 
 -- so it is with what such an entry comes to
-allocates-tells : (image : ImageParts) (next k : ℕ) (s : State) (told left : List Answer) (turn : Turned) → k ≤ 1 → (o : Option ReplyView)
+allocates_tells : (image : ImageParts) (next k : ℕ) (s : State) (told left : List Answer) (turn : Turned) → k ≤ 1 → (o : Option ReplyView)
     → ((r : ReplyView) → o ≡ Some r → (shape : ObjectShape) × (r ≡ Allocates shape))
     → option_and_then (replied image (told ++ left) next k s) o ≡ Some turn → turn.left ≡ left → turn.legal ≡ true → answers_of (option_to_list turn.entry) ≡ told
-allocates-tells image next k s told left turn few None allocates is others legal = absurd (cc)
-allocates-tells image next k s told left turn few (Some r) allocates is others legal =
+allocates_tells image next k s told left turn few None allocates is others legal = absurd (cc)
+allocates_tells image next k s told left turn few (Some r) allocates is others legal =
     let a = allocates r refl in
     answered-tells image next k s a.0 told left turn few (rw a.1 at is) others legal
 
 -- and with each call of the heap
-pub heap-tells : (image : ImageParts) (next k : ℕ) (s : State) (told left : List Answer) (turn : Turned) → k < 3
+pub heap_tells : (image : ImageParts) (next k : ℕ) (s : State) (told left : List Answer) (turn : Turned) → k < 3
     → after_effect image (told ++ left) next s (Calls k) ≡ Some turn → turn.left ≡ left → turn.legal ≡ true → answers_of (option_to_list turn.entry) ≡ told
 unfolding Reply
-heap-tells image next zero s told left turn few is others legal =
-    allocates-tells image next 0 s told left turn (omega arith) (alloc_object s) (object-allocates s) is others legal
-heap-tells image next (suc zero) s told left turn few is others legal =
-    allocates-tells image next 1 s told left turn (omega arith) (alloc_array s) (array-allocates s) is others legal
-heap-tells image next (suc (suc zero)) s told left turn few is others legal =
+heap_tells image next zero s told left turn few is others legal =
+    allocates_tells image next 0 s told left turn (omega arith) (alloc_object s) (object-allocates s) is others legal
+heap_tells image next (suc zero) s told left turn few is others legal =
+    allocates_tells image next 1 s told left turn (omega arith) (alloc_array s) (array-allocates s) is others legal
+heap_tells image next (suc (suc zero)) s told left turn few is others legal =
     let same = one-turn _ turn is in
     let none = none-more told left (ap (λ t. t.left) same ∙ others) in
     rw none (ap (λ t. answers_of (option_to_list t.entry)) (sym same))
-heap-tells image next (suc (suc (suc k))) s told left turn few is others legal = absurd (omega (arith, few))
+heap_tells image next (suc (suc (suc k))) s told left turn few is others legal = absurd (omega (arith, few))

@@ -31,21 +31,21 @@ cells-alike at there position (suc n) same =
     ap₂ (λ (c : ℕ) cells. c ∷ cells) (same position (omega arith)) (cells-alike at there (position + 1) n (λ k low. same k (omega (arith, low))))
 
 -- devices that stand for a history have its cells
-pub screen-same : (devices : DevicesView) (history : History) → StandsFor devices history → screen_by devices ≡ screen_of history
+pub screen_same : (devices : DevicesView) (history : History) → StandsFor devices history → screen_by devices ≡ screen_of history
 unfolding screen_by screen_of
-screen-same devices history h =
+screen_same devices history h =
     cells-alike (slice_index devices.cells) (λ position. cell position history) 0 CELLS (λ k low. h.cells k (omega (arith, low)))
 
 -- what a machine shows of the cells
-pub screen-count : (devices : DevicesView) → length (screen_by devices) ≡ CELLS
+pub screen_count : (devices : DevicesView) → length (screen_by devices) ≡ CELLS
 unfolding screen_by
-screen-count devices = cells-count (slice_index devices.cells) 0 CELLS
+screen_count devices = cells-count (slice_index devices.cells) 0 CELLS
 
 -- a cell that the devices of a history answer for a position
-pub screen-read : (devices : DevicesView) (history : History) → StandsFor devices history → (position : ℕ) → position < CELLS → (o : Option ℕ) (answer : ℕ)
+pub screen_read : (devices : DevicesView) (history : History) → StandsFor devices history → (position : ℕ) → position < CELLS → (o : Option ℕ) (answer : ℕ)
     → o ≡ (if nat_lt position CELLS then Some (cell position history) else None) → o ≡ Some answer → answer ≡ slice_index (screen_by devices) position
 unfolding screen_by
-screen-read devices history h position low o answer told is =
+screen_read devices history h position low o answer told is =
     let inside : nat_lt position CELLS ≡ true = grind (arith, nat_tests) in
     let there : o ≡ Some (cell position history) = rw inside at told in
     let same : answer ≡ cell position history = cc in

@@ -32,15 +32,15 @@ use Rattle.nucleus_calls.specs.Turning.{StandsBefore, SameTurn, AtInstruction, B
 use Rattle.nucleus_calls.specs.HeapEntries.{AtHeapCall, LeadsAnswered}
 use Rattle.kernel_machine.specs.Stepping.{TurnLeads, InTurn, ending_by, ActsAt, MayAct}
 use Rattle.kernel_machine.proofs.NoAnswers.{TellsNone, effect-tells-none}
-use Rattle.kernel_machine.proofs.AnswersTold.{heap-tells}
+use Rattle.kernel_machine.proofs.AnswersTold.{heap_tells}
 
 -- ---- turns and the end are no words
 
 -- a Nucleus stands for the state whatever its turns and its end are
-pub nucleus-retold : (image : ImageParts) (live : ℕ → Bool) (s : State) (v : NucleusView) (turns : ℕ) (ending : Option Ending) → NucleusStands image live s v
+pub nucleus_retold : (image : ImageParts) (live : ℕ → Bool) (s : State) (v : NucleusView) (turns : ℕ) (ending : Option Ending) → NucleusStands image live s v
     → NucleusStands image live (record s { turns = turns; ending = ending }) v
 unfolding values_at
-nucleus-retold image live s v turns ending h =
+nucleus_retold image live s v turns ending h =
     let m = h.memory in
     let lie : ObjectsLie image live (record s { turns = turns; ending = ending }) =
     record { short = m.lie.short; aligned = m.lie.aligned; inside = m.lie.inside; apart = m.lie.apart } in
@@ -128,11 +128,11 @@ leads-on image live turn s left before after cpu v takes none now (r, is, h) =
     )
 
 -- so it is with the turn whose instruction has this effect
-effect-leads : (image : ImageParts) (live : ℕ → Bool) (turn : ℕ) (s : State) (i : Inst) (len : ℕ) (cpu ran : Cpu) (v after : NucleusView) → AtInstruction image live s i len cpu v
+effect_leads : (image : ImageParts) (live : ℕ → Bool) (turn : ℕ) (s : State) (i : Inst) (len : ℕ) (cpu ran : Cpu) (v after : NucleusView) → AtInstruction image live s i len cpu v
     → (e : EffectView) → Effect image s i len ≡ Some e → (left : List Answer) (entries more : List Entry) (ending : Option Ending)
     → TurnLeads image live turn left entries more ran after ending (λ answers. after_effect image answers (next_address s.thread.place len) s e)
     → TurnLeads image live turn left entries more ran after ending (λ answers. instruction image answers s)
-effect-leads image live turn s i len cpu ran v after h e effect left entries more ending (told, r, is, stands) =
+effect_leads image live turn s i len cpu ran v after h e effect left entries more ending (told, r, is, stands) =
     (told, r, instruction-is image (told ++ left) s i len e h.here effect ∙ is, stands)
 
 -- an instruction that moves on
@@ -141,7 +141,7 @@ pub moves-lead : (image : ImageParts) (live : ℕ → Bool) (turn : ℕ) (s : St
     → TurnLeads image live turn left entries entries ran after None (λ answers. instruction image answers s)
 moves-lead image live turn s i len cpu ran v after h now stepped left entries =
     let (t, effect, both, same) = stepped-moves ran after image live s (Effect image s i len) stepped in
-    effect-leads image live turn s i len cpu ran v after h (Moves t) effect left entries entries None (
+    effect_leads image live turn s i len cpu ran v after h (Moves t) effect left entries entries None (
       [],
       turned left None t,
       refl,
@@ -166,21 +166,21 @@ leaving-anywhere image answers next other s (leaving.Fault vector) = refl
 leaving-anywhere image answers next other s leaving.Ended = refl
 
 -- the kernel's end
-kernel-ends : (image : ImageParts) (answers : List Answer) (next : ℕ) (s : State) (why : Leaving) → s.current ≡ 0
+kernel_ends : (image : ImageParts) (answers : List Answer) (next : ℕ) (s : State) (why : Leaving) → s.current ≡ 0
     → after_effect image answers next s (leaving_effect why) ≡ Some (turned answers None (record s { ending = Some (ending_by why (Word (places_of s) (s.thread.regs Eax))) }))
-kernel-ends image answers next s (leaving.Fault vector) current = rw current refl
-kernel-ends image answers next s leaving.Ended current = rw current refl
+kernel_ends image answers next s (leaving.Fault vector) current = rw current refl
+kernel_ends image answers next s leaving.Ended current = rw current refl
 
-pub kernel-leads : (image : ImageParts) (live : ℕ → Bool) (turn : ℕ) (s : State) (cpu : Cpu) (v : NucleusView) (why : Leaving) → StandsBefore image live s s.thread.place cpu v
+pub kernel_leads : (image : ImageParts) (live : ℕ → Bool) (turn : ℕ) (s : State) (cpu : Cpu) (v : NucleusView) (why : Leaving) → StandsBefore image live s s.thread.place cpu v
     → InTurn turn s → s.current ≡ 0 → (left : List Answer) (next : ℕ) (entries : List Entry)
     → TurnLeads image live turn left entries entries cpu v (Some (ending_by why (slice_index cpu.regs 0))) (λ answers. after_effect image answers next s (leaving_effect why))
-kernel-leads image live turn s cpu v why h now current left next entries = (
+kernel_leads image live turn s cpu v why h now current left next entries = (
   [],
   turned left None (record s { ending = Some (ending_by why (Word (places_of s) (s.thread.regs Eax))) }),
-  kernel-ends image left next s why current,
+  kernel_ends image left next s why current,
   record {
     processor = record { regs = h.processor.regs; flags = h.processor.flags; place = h.processor.place };
-    nucleus = inl (refl, nucleus-retold image live s v s.turns (Some (ending_by why (Word (places_of s) (s.thread.regs Eax)))) h.nucleus);
+    nucleus = inl (refl, nucleus_retold image live s v s.turns (Some (ending_by why (Word (places_of s) (s.thread.regs Eax)))) h.nucleus);
     turns = sym now.turns;
     ending = ap (λ (rs : List ℕ). Some (ending_by why (slice_index rs 0))) h.processor.regs;
     entries = sym (append-nil entries);
@@ -191,19 +191,19 @@ kernel-leads image live turn s cpu v why h now current left next entries = (
 )
 
 -- an application's
-pub application-leads : (image : ImageParts) (live : ℕ → Bool) (turn : ℕ) (s : State) (why : Leaving) (place : ℕ) (ran : Cpu) (after : NucleusView) → InTurn turn s
+pub application_leads : (image : ImageParts) (live : ℕ → Bool) (turn : ℕ) (s : State) (why : Leaving) (place : ℕ) (ran : Cpu) (after : NucleusView) → InTurn turn s
     → (left : List Answer) (entries more : List Entry) → Leads image live s left entries more ran after (after_effect image left place s (leaving_effect why))
     → (next : ℕ) → TurnLeads image live turn left entries more ran after None (λ answers. after_effect image answers next s (leaving_effect why))
-application-leads image live turn s why place ran after now left entries more led next =
+application_leads image live turn s why place ran after now left entries more led next =
     let (told, r, is, stands) =
     leads-on image live turn s left entries more ran after (λ answers. after_effect image answers place s (leaving_effect why))
     (effect-tells-none image left place s (leaving_effect why)) now led in
     (told, r, leaving-anywhere image (told ++ left) next place s why ∙ is, stands)
 
 -- where a step says that the running stack leaves, processor and Nucleus stand as before
-pub leaves-before : (image : ImageParts) (live : ℕ → Bool) (s : State) (i : Inst) (len : ℕ) (cpu ran : Cpu) (v after : NucleusView) (why : Leaving) → AtInstruction image live s i len cpu v
+pub leaves_before : (image : ImageParts) (live : ℕ → Bool) (s : State) (i : Inst) (len : ℕ) (cpu ran : Cpu) (v after : NucleusView) (why : Leaving) → AtInstruction image live s i len cpu v
     → Stepped (step_of why) ran after image live s (Effect image s i len) → StandsBefore image live s s.thread.place ran after
-leaves-before image live s i len cpu ran v after why h stepped =
+leaves_before image live s i len cpu ran v after why h stepped =
     let (effect, both) = stepped-leaves why ran after image live s (Effect image s i len) stepped in
     record { well_typed = h.before.well_typed; typed = h.before.typed; processor = both.processor; nucleus = both.nucleus }
 
@@ -214,7 +214,7 @@ pub leaving-leads : (image : ImageParts) (live : ℕ → Bool) (turn : ℕ) (s :
     → TurnLeads image live turn left entries more ran after ending (λ answers. instruction image answers s)
 leaving-leads image live turn s i len cpu stood ran v between after why h stepped left entries more ending led =
     let (effect, both) = stepped-leaves why stood between image live s (Effect image s i len) stepped in
-    effect-leads image live turn s i len cpu ran v after h (leaving_effect why) effect left entries more ending (led (next_address s.thread.place len))
+    effect_leads image live turn s i len cpu ran v after h (leaving_effect why) effect left entries more ending (led (next_address s.thread.place len))
 
 -- ---- a call of the Nucleus
 
@@ -266,15 +266,15 @@ pub calls-lead : WellTypedImagesKeepTyping → (image : ImageParts) (live : ℕ 
 calls-lead law image live turn s i len k cpu stood ran v between after h now stepped left entries more led =
     let (effect, both) = stepped-calls k stood between image live s (Effect image s i len) stepped in
     let next = next_address s.thread.place len in
-    effect-leads image live turn s i len cpu ran v after h (Calls k) effect left entries more None
+    effect_leads image live turn s i len cpu ran v after h (Calls k) effect left entries more None
     (leads-on image live turn s left entries more ran after (λ answers. after_effect image answers next s (Calls k)) (effect-tells-none image left next s (Calls k)) now
     (led next (next-before image live s i len cpu stood v between h both) (call-typed law image live s i len k cpu v h effect)))
 
 -- of the heap
-pub heap-call : WellTypedImagesKeepTyping → CallsReply → (image : ImageParts) (s : State) (i : Inst) (len k : ℕ) (shapes : ShapesView) (table : List RowAt) (cpu stood : Cpu) (v between : NucleusView)
+pub heap_call : WellTypedImagesKeepTyping → CallsReply → (image : ImageParts) (s : State) (i : Inst) (len k : ℕ) (shapes : ShapesView) (table : List RowAt) (cpu stood : Cpu) (v between : NucleusView)
     → ActsAt image s i len shapes table cpu v → Stepped (step.Calls k) stood between image (live_in image s) s (Effect image s i len)
     → AtHeapCall image s (next_address s.thread.place len) k shapes table (record stood { pc = next_address stood.pc len }) between
-heap-call law replies image s i len k shapes table cpu stood v between h stepped =
+heap_call law replies image s i len k shapes table cpu stood v between h stepped =
     let live = live_in image s in
     let (effect, both) = stepped-calls k stood between image live s (Effect image s i len) stepped in
     let next = next_address s.thread.place len in
@@ -288,14 +288,14 @@ heap-call law replies image s i len k shapes table cpu stood v between h stepped
       rows = h.rows;
     }
 
-pub heap-calls-lead : (image : ImageParts) (turn : ℕ) (s : State) (i : Inst) (len k : ℕ) (shapes : ShapesView) (table : List RowAt) (cpu stood ran : Cpu) (v between after : NucleusView)
+pub heap_calls_lead : (image : ImageParts) (turn : ℕ) (s : State) (i : Inst) (len k : ℕ) (shapes : ShapesView) (table : List RowAt) (cpu stood ran : Cpu) (v between after : NucleusView)
     → ActsAt image s i len shapes table cpu v → InTurn turn s → Stepped (step.Calls k) stood between image (live_in image s) s (Effect image s i len) → k < 3
     → (left : List Answer) (entries more : List Entry) → LeadsAnswered image s (next_address s.thread.place len) k left entries more ran after
     → TurnLeads image (live_in image s) turn left entries more ran after None (λ answers. instruction image answers s)
-heap-calls-lead image turn s i len k shapes table cpu stood ran v between after h now stepped few left entries more led =
+heap_calls_lead image turn s i len k shapes table cpu stood ran v between after h now stepped few left entries more led =
     let live = live_in image s in
     let (effect, both) = stepped-calls k stood between image live s (Effect image s i len) stepped in
-    effect-leads image live turn s i len cpu ran v after h.at (Calls k) effect left entries more None (
+    effect_leads image live turn s i len cpu ran v after h.at (Calls k) effect left entries more None (
       led.told,
       led.turn,
       led.is,
@@ -305,7 +305,7 @@ heap-calls-lead image turn s i len k shapes table cpu stood ran v between after 
         turns = sym (led.stands.same_turn.turns ∙ now.turns);
         ending = sym (led.stands.same_turn.ending ∙ now.on);
         entries = led.stands.entries;
-        tells = heap-tells image (next_address s.thread.place len) k s led.told left led.turn few led.is led.stands.left led.legal;
+        tells = heap_tells image (next_address s.thread.place len) k s led.told left led.turn few led.is led.stands.left led.legal;
         others = led.stands.left;
         legal = led.legal;
       },

@@ -25,7 +25,7 @@ use Rattle.run_report.specs.Shown.{ShownStack, ShownWords, shown_stacks, shown_o
 use Rattle.kernel_machine.specs.Shown.{words_from, esp_by, stack_by, stacks_by}
 use Rattle.kernel_machine.specs.Machine.{MachineView, shown_by, Stands, Lawful}
 use Rattle.kernel_machine.specs.Laws.{MachinesShowTheirRuns}
-use Rattle.kernel_machine.proofs.Cells.{screen-same}
+use Rattle.kernel_machine.proofs.Cells.{screen_same}
 
 -- ---- words one after another
 
@@ -83,20 +83,20 @@ record EspIs (s : State) (cpu : Cpu) (n : ℕ) (stack : Stack) : Type 0 where
   esp : esp_by cpu n (state_by (places_of s) n stack) ≡ stack_pointer n (length (values_at s n))
   few : length (values_at s n) ≤ most_values
 
-esp-is : (image : ImageParts) (s : State) (cpu : Cpu) → TypedAmong image all_objects s → CpuStands s cpu → (n : ℕ) (stack : Stack) → slice_get s.stacks n ≡ Some stack → EspIs s cpu n stack
+esp_is : (image : ImageParts) (s : State) (cpu : Cpu) → TypedAmong image all_objects s → CpuStands s cpu → (n : ℕ) (stack : Stack) → slice_get s.stacks n ≡ Some stack → EspIs s cpu n stack
 unfolding kept_values
-esp-is image s cpu typed h n RunningStack here =
+esp_is image s cpu typed h n RunningStack here =
     let values = running-values image s n typed here in
     let current = typed.only n here in
     let top : slice_index cpu.regs 4 ≡ esp_of s = ap (λ rs. slice_index rs 4) h.regs in
     record { esp = rw (values, current) top; few = rw values typed.thread.room }
-esp-is image s cpu typed h n EmptyStack here =
+esp_is image s cpu typed h n EmptyStack here =
     let values = other-values image s n EmptyStack typed here (λ e. cc e) in
     record { esp = rw values (omega arith); few = rw values (omega arith) }
-esp-is image s cpu typed h n (YieldedStack place kept) here =
+esp_is image s cpu typed h n (YieldedStack place kept) here =
     let values = other-values image s n (YieldedStack place kept) typed here (λ e. cc e) in
     record { esp = rw values refl; few = rw values (typed.others n (YieldedStack place kept) here).room }
-esp-is image s cpu typed h n (InterruptedStack thread kept) here =
+esp_is image s cpu typed h n (InterruptedStack thread kept) here =
     let values = other-values image s n (InterruptedStack thread kept) typed here (λ e. cc e) in
     record { esp = rw values refl; few = rw values (typed.others n (InterruptedStack thread kept) here).room }
 
@@ -111,11 +111,11 @@ place-inside (y ∷ ys) zero x e = omega arith
 place-inside (y ∷ ys) (suc n) x e = let later = place-inside ys n x e in omega (arith, later)
 
 -- a stack's words are those of its values
-stack-shows : (image : ImageParts) (live : ℕ → Bool) (s : State) (cpu : Cpu) (m : MemoryView) → TypedAmong image all_objects s → CpuStands s cpu → MemoryStands image live s m → (n : ℕ) (stack : Stack)
+stack_shows : (image : ImageParts) (live : ℕ → Bool) (s : State) (cpu : Cpu) (m : MemoryView) → TypedAmong image all_objects s → CpuStands s cpu → MemoryStands image live s m → (n : ℕ) (stack : Stack)
     → slice_get s.stacks n ≡ Some stack
     → stack_by cpu m n (state_by (places_of s) n stack) ≡ record { state = state_by (places_of s) n stack; words = map (Word (places_of s)) (values_at s n) }
-stack-shows image live s cpu m typed h memory n stack here =
-    let at = esp-is image s cpu typed h n stack here in
+stack_shows image live s cpu m typed h memory n stack here =
+    let at = esp_is image s cpu typed h n stack here in
     let inside : n < image.stacks = rw typed.count at (place-inside s.stacks n stack here) in
     let depth = depth-is n (length (values_at s n)) at.few in
     let words = words-of-values m (places_of s) (stack_pointer n (length (values_at s n))) (values_at s n) (memory.stacks n inside) in
@@ -131,7 +131,7 @@ stacks-show image live s cpu m typed h memory n [] there = refl
 stacks-show image live s cpu m typed h memory n (stack ∷ stacks) there =
     let none : n + 0 ≡ n = omega arith in
     let here : slice_get s.stacks n ≡ Some stack = rw none at (there 0 stack refl) in
-    ap₂ (λ (x : ShownStack) xs. x ∷ xs) (stack-shows image live s cpu m typed h memory n stack here)
+    ap₂ (λ (x : ShownStack) xs. x ∷ xs) (stack_shows image live s cpu m typed h memory n stack here)
     (stacks-show image live s cpu m typed h memory (n + 1) stacks
     (λ k x e. let next : n + suc k ≡ n + 1 + k = omega arith in rw next at (there (suc k) x e)))
 
@@ -153,7 +153,7 @@ stands-shows machine s typed h =
     shown-same (shown_by machine) (shown_of s) h.processor.regs h.processor.flags h.processor.place
     (ap (stacks_by machine.cpu memory 0) h.nucleus.stacks ∙ stacks)
     (ap (words_from memory statics_start) (sym typed.among.statics.count) ∙ statics)
-    (screen-same machine.nucleus.devices s.devices h.nucleus.devices)
+    (screen_same machine.nucleus.devices s.devices h.nucleus.devices)
 
 -- the law: the state that a run comes to is typed
 pub follows-shows : RunsAreTyped → MachinesShowTheirRuns
@@ -178,9 +178,9 @@ stacks-read cpu m n (suc k) (x ∷ xs) t e =
     record { state = r.state; here = r.here; is = rw next at r.is }
 
 -- a stack that does this is shown so
-pub stack-shown : (cpu : Cpu) (m : MemoryView) (k : ℕ) (states : List StackState) (state : StackState) (t : ShownStack) → slice_get states k ≡ Some state
+pub stack_shown : (cpu : Cpu) (m : MemoryView) (k : ℕ) (states : List StackState) (state : StackState) (t : ShownStack) → slice_get states k ≡ Some state
     → slice_get (stacks_by cpu m 0 states) k ≡ Some t → t ≡ stack_by cpu m k state
-stack-shown cpu m k states state t here e =
+stack_shown cpu m k states state t here e =
     let r = stacks-read cpu m 0 k states t e in
     let read = r.here in
     let same : r.state ≡ state = cc in
@@ -194,8 +194,8 @@ stacks-count cpu m n [] = refl
 stacks-count cpu m n (x ∷ xs) = ap suc (stacks-count cpu m (n + 1) xs)
 
 -- a stack that is shown is one of the machine's
-pub stack-inside : (cpu : Cpu) (m : MemoryView) (k : ℕ) (states : List StackState) → k < length (stacks_by cpu m 0 states) → k < length states
-stack-inside cpu m k states low = rw stacks-count at low
+pub stack_inside : (cpu : Cpu) (m : MemoryView) (k : ℕ) (states : List StackState) → k < length (stacks_by cpu m 0 states) → k < length states
+stack_inside cpu m k states low = rw stacks-count at low
 
 -- the state of stack k of those from number n on
 record IsStateBy (places : List ℕ) (n k : ℕ) (stacks : List Stack) (state : StackState) : Type 0 where
@@ -203,12 +203,12 @@ record IsStateBy (places : List ℕ) (n k : ℕ) (stacks : List Stack) (state : 
   here : slice_get stacks k ≡ Some stack
   is : state ≡ state_by places (n + k) stack
 
-states-read : (places : List ℕ) (n k : ℕ) (stacks : List Stack) (state : StackState) → slice_get (states_by places n stacks) k ≡ Some state → IsStateBy places n k stacks state
+states_read : (places : List ℕ) (n k : ℕ) (stacks : List Stack) (state : StackState) → slice_get (states_by places n stacks) k ≡ Some state → IsStateBy places n k stacks state
 unfolding states_by
-states-read places n k [] state e = absurd (cc)
-states-read places n zero (x ∷ xs) state e = let none : n + 0 ≡ n = omega arith in record { stack = x; here = refl; is = rw none cc }
-states-read places n (suc k) (x ∷ xs) state e =
-    let r = states-read places (n + 1) k xs state e in
+states_read places n k [] state e = absurd (cc)
+states_read places n zero (x ∷ xs) state e = let none : n + 0 ≡ n = omega arith in record { stack = x; here = refl; is = rw none cc }
+states_read places n (suc k) (x ∷ xs) state e =
+    let r = states_read places (n + 1) k xs state e in
     let next : n + 1 + k ≡ n + suc k = omega arith in
     record { stack = r.stack; here = r.here; is = rw next at r.is }
 
@@ -221,8 +221,8 @@ pub record TellsDepth (cpu : Cpu) (k : ℕ) (state : StackState) : Type 0 where
 pub tells-depth : (machine : MachineView) (index : ℕ) → Lawful machine index → (k : ℕ) (state : StackState) → slice_get machine.nucleus.stacks k ≡ Some state
     → TellsDepth machine.cpu k state
 tells-depth machine index h k state here =
-    let r = states-read (places_of h.state) 0 k h.state.stacks state (rw h.stands.nucleus.stacks at here) in
-    let at = esp-is machine.image h.state machine.cpu h.typed.among h.stands.processor k r.stack r.here in
+    let r = states_read (places_of h.state) 0 k h.state.stacks state (rw h.stands.nucleus.stacks at here) in
+    let at = esp_is machine.image h.state machine.cpu h.typed.among h.stands.processor k r.stack r.here in
     let none : 0 + k ≡ k = omega arith in
     let is : state ≡ state_by (places_of h.state) k r.stack = rw none at r.is in
     record { depth = length (values_at h.state k); esp = ap (esp_by machine.cpu k) is ∙ at.esp; few = at.few }
@@ -256,5 +256,5 @@ statics-there machine index h k low =
     there-mapped machine.nucleus.memory _ _ (omega (arith, short, count, low)) (h.stands.nucleus.memory.statics k v.0 v.1)
 
 -- the devices of a lawful machine stand for a history
-pub history-there : (machine : MachineView) (index : ℕ) → Lawful machine index → (history : History) × StandsFor machine.nucleus.devices history
-history-there machine index h = (h.state.devices, h.stands.nucleus.devices)
+pub history_there : (machine : MachineView) (index : ℕ) → Lawful machine index → (history : History) × StandsFor machine.nucleus.devices history
+history_there machine index h = (h.state.devices, h.stands.nucleus.devices)

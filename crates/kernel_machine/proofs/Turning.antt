@@ -32,7 +32,7 @@ use Rattle.nucleus_calls.specs.Nucleus.{NucleusView, NucleusStands}
 use Rattle.nucleus_calls.specs.Turning.{StandsBefore, Leads}
 use Rattle.kernel_machine.specs.Machine.{MachineView, Stands, Follows, ComesNext, Lawful, answers_of}
 use Rattle.kernel_machine.specs.Stepping.{viewed, HasCome, TurnLeads, InTurn, ActsAt, MayAct, TakesTurn, TurnLaws}
-use Rattle.kernel_machine.proofs.EffectsLead.{nucleus-retold, leads-on}
+use Rattle.kernel_machine.proofs.EffectsLead.{nucleus_retold, leads-on}
 use Rattle.kernel_machine.proofs.NoAnswers.{interrupt-tells-none, answers-append}
 use Rattle.kernel_machine.proofs.MoreAnswers.{run_extended, run-extends}
 
@@ -44,8 +44,8 @@ pub record InstHere (image : ImageParts) (place : ℕ) : Type 0 where
   pub inside : place ≤ code_start + length image.code
   pub whole : IsSome (inst_at image place)
 
-pub inst-here : WellTypedImagesKeepTyping → AcceptedRuns → (m : MachineView) (index : ℕ) → Lawful m index → InstHere m.image m.cpu.pc
-inst-here law accepted m index h =
+pub inst_here : WellTypedImagesKeepTyping → AcceptedRuns → (m : MachineView) (index : ℕ) → Lawful m index → InstHere m.image m.cpu.pc
+inst_here law accepted m index h =
     let keeps = law m.image h.well_typed all_objects h.state h.typed.among in
     let at = (accepted m.image h.well_typed).spelled h.state.thread.place keeps.placed keeps.here in
     let there : InstHere m.image h.state.thread.place =
@@ -84,11 +84,11 @@ pub begun-turn : {image : ImageParts} {events : List Event} {cpu : Cpu} {v come 
 begun-turn laws lawful on has-come = record { laws = laws; lawful = lawful; on = on; has_come = has-come }
 
 -- the Nucleus stands for the state at which they have come
-come-stands : (image : ImageParts) (live : ℕ → Bool) (events : List Event) (v come : NucleusView) (turns : ℕ) (s : State) → HasCome (events_of (turns + 1) events) v come
+come_stands : (image : ImageParts) (live : ℕ → Bool) (events : List Event) (v come : NucleusView) (turns : ℕ) (s : State) → HasCome (events_of (turns + 1) events) v come
     → turns ≡ s.turns → NucleusStands image live s v → NucleusStands image live (begun events s) come
-come-stands image live events v come turns s has-come same stands =
+come_stands image live events v come turns s has-come same stands =
     let came : NucleusStands image live (record s { devices = after_events (events_of (s.turns + 1) events) s.devices }) come = rw same at (has-come image live s stands) in
-    nucleus-retold image live (record s { devices = after_events (events_of (s.turns + 1) events) s.devices }) come (s.turns + 1) s.ending came
+    nucleus_retold image live (record s { devices = after_events (events_of (s.turns + 1) events) s.devices }) come (s.turns + 1) s.ending came
 
 module _ {image : ImageParts} {events : List Event} {cpu : Cpu} {v come : NucleusView} {turns : ℕ} {ending : Option Ending} {index : ℕ}
     (h : Begun image events cpu v come turns ending index) where
@@ -99,7 +99,7 @@ module _ {image : ImageParts} {events : List Event} {cpu : Cpu} {v come : Nucleu
     well_typed = h.lawful.well_typed;
     typed = typed-retold image (live_in image s) s _ _ s.ending (h.laws.least image h.lawful.well_typed all_objects s typed.among).typed;
     processor = record { regs = stands.processor.regs; flags = stands.processor.flags; place = stands.processor.place };
-    nucleus = come-stands image (live_in image s) events v come turns s h.has_come stands.turns stands.nucleus;
+    nucleus = come_stands image (live_in image s) events v come turns s h.has_come stands.turns stands.nucleus;
   }
 
   -- it is in the turn
@@ -119,9 +119,9 @@ module _ {image : ImageParts} {events : List Event} {cpu : Cpu} {v come : Nucleu
       }
 
   -- the instruction may act
-  pub may-act : (i : Inst) (len : ℕ) → inst_at image cpu.pc ≡ Some (i, len) → (shapes : ShapesView) (table : List RowAt) → shapes ≡ (shown image).shapes → table ≡ frames_of image
+  pub may_act : (i : Inst) (len : ℕ) → inst_at image cpu.pc ≡ Some (i, len) → (shapes : ShapesView) (table : List RowAt) → shapes ≡ (shown image).shapes → table ≡ frames_of image
       → MayAct i len shapes table cpu come
-  may-act i len here shapes table classes rows =
+  may_act i len here shapes table classes rows =
       let s = h.lawful.state in
       (image, begun events s, begun-acts i len here shapes table classes rows s h.lawful.typed h.lawful.stands)
 
@@ -180,9 +180,9 @@ module _ {image : ImageParts} {events : List Event} {cpu : Cpu} {v come : Nucleu
 -- ---- after a turn
 
 -- a Nucleus that stands among objects stands among fewer
-nucleus-falls : StandingFalls → (image : ImageParts) (more live : ℕ → Bool) (s : State) (v : NucleusView) → ((i : ℕ) → live i ≡ true → more i ≡ true)
+nucleus_falls : StandingFalls → (image : ImageParts) (more live : ℕ → Bool) (s : State) (v : NucleusView) → ((i : ℕ) → live i ≡ true → more i ≡ true)
     → NucleusStands image more s v → NucleusStands image live s v
-nucleus-falls law image more live s v fewer h =
+nucleus_falls law image more live s v fewer h =
     record { memory = law image more live s v.memory fewer h.memory; stacks = h.stacks; starts = h.starts; devices = h.devices; marks = h.marks }
 
 -- what a turn from a typed state comes to: the state is typed, and the machine stands for it
@@ -234,7 +234,7 @@ turn-comes-to laws before after entries more w takes s typed stands left =
         → ((told ≡ []) × NucleusStands before.image live r.state after.nucleus) ⊎ NucleusStands before.image (live_in before.image r.state) r.state after.nucleus
         → NucleusStands before.image (live_in before.image r.state) r.state after.nucleus
     nucleus told r is others legal (inl (none, h)) =
-        nucleus-falls laws.falls before.image live (live_in before.image r.state) r.state after.nucleus (fewer told r is others legal none) h
+        nucleus_falls laws.falls before.image live (live_in before.image r.state) r.state after.nucleus (fewer told r is others legal none) h
     nucleus told r is others legal (inr h) = h
 
 -- a lawful machine is lawful after a turn

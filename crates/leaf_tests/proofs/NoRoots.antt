@@ -10,5 +10,5 @@ reached-none s words i (listed _ m g) = absurd m
 reached-none s words i (named j k _ r q e g) = reached-none s words j r
 
 -- so all that it reaches is good
-pub all_good-none : (s : ShapesView) (words : List ℕ) → AllGood s words []
-all_good-none s words = record { roots = λ w m. absurd m; fields = λ j k r q. absurd (reached-none s words j r) }
+pub all_good_none : (s : ShapesView) (words : List ℕ) → AllGood s words []
+all_good_none s words = record { roots = λ w m. absurd m; fields = λ j k r q. absurd (reached-none s words j r) }

@@ -11,7 +11,7 @@ use Rattle.mark_sweep.specs.Swept.{Kept, KeepsUsed, Swept, NoNeighbours}
 use Rattle.free_index.specs.Free.{OnlyLinks}
 use Rattle.free_index.specs.Laws.{LinkLaws}
 use Rattle.object_layout.specs.Classes.{ShapesView}
-use Rattle.mark_sweep.proofs.Keeping.{kept-sym, kept-trans, word_kept, used-kept, reached-used, reference_kept, object-kept}
+use Rattle.mark_sweep.proofs.Keeping.{kept-sym, kept-trans, word_kept, used-kept, reached-used, reference_kept, object_kept}
 
 -- what is reached stays reached
 pub reached-kept : (shapes : ShapesView) (u v list : List ℕ) (i : ℕ) → Kept u v → Reached shapes u list i → Reached shapes v list i
@@ -21,13 +21,13 @@ reached-kept shapes u v list i a (named j k _ r q e h) =
     named j k i (reached-kept shapes u v list j a r) (reference_kept shapes u v j k a b q) (word_kept u v j k a b q.within ∙ e) (used-kept u v i a h)
 
 -- good words stay good
-good-kept : BlockLaws → (shapes : ShapesView) (u v : List ℕ) (w : ℕ) → FormedHeap u → Kept u v → IsGood shapes u w → IsGood shapes v w
-good-kept laws shapes u v w f a (inl l) = inl l
-good-kept laws shapes u v w f a (inr (i, e, o)) = inr (i, e, object-kept laws shapes u v i f a o)
+good_kept : BlockLaws → (shapes : ShapesView) (u v : List ℕ) (w : ℕ) → FormedHeap u → Kept u v → IsGood shapes u w → IsGood shapes v w
+good_kept laws shapes u v w f a (inl l) = inl l
+good_kept laws shapes u v w f a (inr (i, e, o)) = inr (i, e, object_kept laws shapes u v i f a o)
 
 -- all that is good stays good
-pub all_good-kept : BlockLaws → (shapes : ShapesView) (u v list : List ℕ) → FormedHeap u → Kept u v → AllGood shapes u list → AllGood shapes v list
-all_good-kept laws shapes u v list f a g = record { roots = λ w m. good-kept laws shapes u v w f a (g.roots w m); fields = fields }
+pub all_good_kept : BlockLaws → (shapes : ShapesView) (u v list : List ℕ) → FormedHeap u → Kept u v → AllGood shapes u list → AllGood shapes v list
+all_good_kept laws shapes u v list f a g = record { roots = λ w m. good_kept laws shapes u v w f a (g.roots w m); fields = fields }
   where
     back : Kept v u
     back = kept-sym u v a
@@ -35,7 +35,7 @@ all_good-kept laws shapes u v list f a g = record { roots = λ w m. good-kept la
     fields : (j k : ℕ) → Reached shapes v list j → IsReference shapes v j k → IsGood shapes v (get_or v (j + 2 + k) 0)
     fields j k r q =
         let b = (reached-used shapes v list j r).begins in
-        rw (sym (word_kept v u j k back b q.within)) (good-kept laws shapes u v _ f a (g.fields j k (reached-kept shapes v u list j back r) (reference_kept shapes v u j k back b q)))
+        rw (sym (word_kept v u j k back b q.within)) (good_kept laws shapes u v _ f a (g.fields j k (reached-kept shapes v u list j back r) (reference_kept shapes v u j k back b q)))
 
 -- a collection by its four passes
 pub collects : (shapes : ShapesView) (list a b c d e : List ℕ) → Kept a b → MarksReached shapes b list c → Swept c d → FormedHeap d → KeepsUsed d e → NoNeighbours e → Collects shapes a list e

@@ -136,8 +136,8 @@ reference_kept shapes u v j k a b r = record { behind = r.behind; within = rw (a
     second = a.words j (j + 3) b (omega arith) (omega (arith, four))
 
 -- an object stays
-pub object-kept : BlockLaws → (shapes : ShapesView) (u v : List ℕ) (i : ℕ) → FormedHeap u → Kept u v → IsObject shapes u i → IsObject shapes v i
-object-kept laws shapes u v i f a o =
+pub object_kept : BlockLaws → (shapes : ShapesView) (u v : List ℕ) (i : ℕ) → FormedHeap u → Kept u v → IsObject shapes u i → IsObject shapes v i
+object_kept laws shapes u v i f a o =
     record { used = used-kept u v i a o.used; there = rw table o.there; named = rw table o.named; exact = rw (a.blocks.sizes i o.used.begins, table, second) o.exact }
   where
     four : 4 ≤ size_at u i

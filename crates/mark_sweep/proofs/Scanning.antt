@@ -8,7 +8,7 @@ use Rattle.mark_sweep.specs.Reached.Reached.{named}
 use Rattle.mark_sweep.specs.Swept.{Kept}
 use Rattle.mark_sweep.specs.Marking.{IsPlaced, IsMarked, Marks, MarksReached, Scanned, Scanning, Waits, left}
 use Rattle.mark_sweep.proofs.Keeping.{kept-refl, kept-sym, kept-trans, word_kept, reference_kept}
-use Rattle.mark_sweep.proofs.Steps.{Popped, Steps, popped, state-next, state-done, state-step, marks-all, good-placed, good_used, marks-kept}
+use Rattle.mark_sweep.proofs.Steps.{Popped, Steps, popped, state-next, state-done, state-step, marks-all, good_placed, good_used, marks-kept}
 
 -- a placed word stays placed
 placed_kept : (u v : List ℕ) (w : ℕ) → Kept u v → IsPlaced u w → IsPlaced v w
@@ -16,8 +16,8 @@ placed_kept u v w k (inl l) = inl l
 placed_kept u v w k (inr (i, e, b)) = inr (i, e, k.blocks.forth i b)
 
 -- a scan begins behind the word that names the shape
-pub scanning-first : (shapes : ShapesView) (v : List ℕ) (at next : ℕ) → FormedHeap v → Scanning shapes v at next 1 v next
-scanning-first shapes v at next f = record { kept = kept-refl v; formed = f; scanned = λ u list a g r s. (s, omega arith) }
+pub scanning_first : (shapes : ShapesView) (v : List ℕ) (at next : ℕ) → FormedHeap v → Scanning shapes v at next 1 v next
+scanning_first shapes v at next f = record { kept = kept-refl v; formed = f; scanned = λ u list a g r s. (s, omega arith) }
 
 -- what the code's test says
 pub reference_here : (shapes : ShapesView) (u : List ℕ) (at k table second : ℕ) → table ≡ get_or u (at + 2) 0 → second ≡ get_or u (at + 3) 0 → 1 ≤ k
@@ -30,14 +30,14 @@ pub no_reference_here : (shapes : ShapesView) (u : List ℕ) (at k table second 
 no_reference_here shapes u at k table second e f h r = let t : holds_reference shapes (shape_named table) second k ≡ true = rw (e, f) r.holds_reference in cc
 
 -- the reference word that the scan stands at
-pub scanning-placed : (shapes : ShapesView) (u v : List ℕ) (at next k first w : ℕ) → Scanning shapes u at next k v first → Begins u at
+pub scanning_placed : (shapes : ShapesView) (u v : List ℕ) (at next k first w : ℕ) → Scanning shapes u at next k v first → Begins u at
     → IsReference shapes u at k → IsPlaced u (get_or u (at + 2 + k) 0) → w ≡ get_or v (at + 2 + k) 0 → IsPlaced v w
-scanning-placed shapes u v at next k first w c b r p e = rw (e, word_kept u v at k c.kept b r.within) (placed_kept u v _ c.kept p)
+scanning_placed shapes u v at next k first w c b r p e = rw (e, word_kept u v at k c.kept b r.within) (placed_kept u v _ c.kept p)
 
 -- it is marked
-pub scanning-step : (shapes : ShapesView) (o v v' : List ℕ) (at next k first first' w : ℕ) → Scanning shapes o at next k v first → Begins o at
+pub scanning_step : (shapes : ShapesView) (o v v' : List ℕ) (at next k first first' w : ℕ) → Scanning shapes o at next k v first → Begins o at
     → IsReference shapes o at k → w ≡ get_or v (at + 2 + k) 0 → Marks v v' w first first' → FormedHeap v' → Scanning shapes o at next (k + 1) v' first'
-scanning-step shapes o v v' at next k first first' w c b r e m f =
+scanning_step shapes o v v' at next k first first' w c b r e m f =
     record { kept = kept-trans o v v' c.kept (marks-kept v v' w first first' m); formed = f; scanned = λ u list a g h s. step u list a h (c.scanned u list a g h s) s.state.kept }
   where
     step : (u list : List ℕ) → AllGood shapes u list → Reached shapes u list at → Scanned shapes u list at k v first × (left v first ≤ left o next)
@@ -64,9 +64,9 @@ scanning-step shapes o v v' at next k first first' w c b r e m f =
         t = state-step shapes u list at k v v' w first first' c.formed s.state reached m
 
 -- another word is passed over
-pub scanning-skip : (shapes : ShapesView) (o v : List ℕ) (at next k first : ℕ) → Scanning shapes o at next k v first → Begins o at
+pub scanning_skip : (shapes : ShapesView) (o v : List ℕ) (at next k first : ℕ) → Scanning shapes o at next k v first → Begins o at
     → (IsReference shapes o at k → ⊥) → Scanning shapes o at next (k + 1) v first
-scanning-skip shapes o v at next k first c b n = record { kept = c.kept; formed = c.formed; scanned = λ u list a g h s. skip u list (c.scanned u list a g h s) s.state.kept }
+scanning_skip shapes o v at next k first c b n = record { kept = c.kept; formed = c.formed; scanned = λ u list a g h s. skip u list (c.scanned u list a g h s) s.state.kept }
   where
     skip : (u list : List ℕ) → Scanned shapes u list at k v first × (left v first ≤ left o next) → Kept u o
         → Scanned shapes u list at (k + 1) v first × (left v first ≤ left o next)
@@ -74,11 +74,11 @@ scanning-skip shapes o v at next k first c b n = record { kept = c.kept; formed 
         (record { state = state-next shapes u list at k v first s.state (λ r. absurd (n (reference_kept shapes u o at k q (q.blocks.back at b) r))); listed = s.listed }, l)
 
 -- the scan is over
-pub scanning-last : (shapes : ShapesView) (o v : List ℕ) (at next k first end : ℕ) → Scanning shapes o at next k v first → Begins o at → size_at o at ≤ end + 2 → end ≤ k
+pub scanning_last : (shapes : ShapesView) (o v : List ℕ) (at next k first end : ℕ) → Scanning shapes o at next k v first → Begins o at → size_at o at ≤ end + 2 → end ≤ k
     →
     (u list : List ℕ) → AllGood shapes u list → FormedHeap u → Reached shapes u list at → Scanned shapes u list at 1 o next → Waits shapes u list v first ×
     (left v first ≤ left o next)
-scanning-last shapes o v at next k first end c b e h u list a g r s = over (c.scanned u list a g r s)
+scanning_last shapes o v at next k first end c b e h u list a g r s = over (c.scanned u list a g r s)
   where
     size : size_at o at ≡ size_at u at
     size = s.state.kept.blocks.sizes at (s.state.kept.blocks.back at b)
@@ -108,7 +108,7 @@ taken shapes u list v first a s h = record { begins = p.black.begins; reached = 
     placed k r =
         let b = kept.blocks.back (first - 1) p.black.begins in
         let q = reference_kept shapes v u (first - 1) k (kept-sym u v kept) p.black.begins r in
-        rw (word_kept u v (first - 1) k kept b q.within) (good-placed shapes u v _ kept (a.fields (first - 1) k p.reached q))
+        rw (word_kept u v (first - 1) k kept b q.within) (good_placed shapes u v _ kept (a.fields (first - 1) k p.reached q))
 
 -- nothing waits
 pub waits-none : (shapes : ShapesView) (u list v : List ℕ) (first : ℕ) → Waits shapes u list v first → first ≡ 0 → MarksReached shapes u list v

@@ -41,8 +41,8 @@ linked-same u v [] first h l = l
 linked-same u v (i ∷ list) first h l = (l.0, rw (h i (inl refl)) (linked-same u v list (get_or u (i + 1) 0) (λ j m. h j (inr m)) l.1))
 
 -- a marked block stays marked when another is pushed
-pub black-push : (u v : List ℕ) (i j first : ℕ) → Pushed u v i first → IsBlack u j → IsBlack v j
-black-push u v i j first p b = choose (cases_eq j i)
+pub black_push : (u v : List ℕ) (i j first : ℕ) → Pushed u v i first → IsBlack u j → IsBlack v j
+black_push u v i j first p b = choose (cases_eq j i)
   where
     choose : (j ≡ i) ⊎ (j ≢ i) → IsBlack v j
     choose (inl e) = record { begins = p.kept.blocks.forth j b.begins; marked = rw e p.black }
@@ -51,7 +51,7 @@ black-push u v i j first p b = choose (cases_eq j i)
 -- and so does what a word names
 pub marked-push : (u v : List ℕ) (i first w : ℕ) → Pushed u v i first → IsMarked u w → IsMarked v w
 marked-push u v i first w p (inl l) = inl l
-marked-push u v i first w p (inr (j, e, b)) = inr (j, e, black-push u v i j first p b)
+marked-push u v i first w p (inr (j, e, b)) = inr (j, e, black_push u v i j first p b)
 
 -- a marked block is none without a mark
 black_not : (u : List ℕ) (i j : ℕ) → marked_at u i ≡ false → IsBlack u j → j ≢ i
@@ -76,7 +76,7 @@ state-push shapes u list at n v w first i f s p r = record {
   where
     grey : (j : ℕ) → (j ≡ i) ⊎ In j s.waiting → IsBlack w j
     grey j (inl e) = rw e (record { begins = p.kept.blocks.forth i p.begins; marked = p.black })
-    grey j (inr m) = black-push v w i j first p (s.grey j m)
+    grey j (inr m) = black_push v w i j first p (s.grey j m)
 
     was : (j : ℕ) → Begins w j → marked_at w j ≡ true → j ≢ i → marked_at v j ≡ true
     was j b m d = sym (p.others j (p.kept.blocks.back j b) d) ∙ m
@@ -97,21 +97,21 @@ state-push shapes u list at n v w first i f s p r = record {
     closed j b m (inr d) = later j (s.closed j (p.kept.blocks.back j b) (was j b m d))
 
 -- the links that lead on are those of the list
-links-linked : (u list : List ℕ) (n first : ℕ) → LinkedBlocks u first list → length list ≤ n → links_from n u first ≡ length list
+links_linked : (u list : List ℕ) (n first : ℕ) → LinkedBlocks u first list → length list ≤ n → links_from n u first ≡ length list
 unfolding links_from
-links-linked u [] zero first c l = refl
-links-linked u [] (suc n) first c l = rw c refl
-links-linked u (x ∷ xs) zero first c l = absurd (omega arith)
-links-linked u (x ∷ xs) (suc n) first c l =
+links_linked u [] zero first c l = refl
+links_linked u [] (suc n) first c l = rw c refl
+links_linked u (x ∷ xs) zero first c l = absurd (omega arith)
+links_linked u (x ∷ xs) (suc n) first c l =
     let e : first ≡ suc x = let q = c.0 in omega arith in
-    let r : links_from n u (get_or u (x + 1) 0) ≡ length xs = links-linked u xs n (get_or u (x + 1) 0) c.1 (omega arith) in
+    let r : links_from n u (get_or u (x + 1) 0) ≡ length xs = links_linked u xs n (get_or u (x + 1) 0) c.1 (omega arith) in
     let p : suc x ≡ x + 1 = omega arith in
     let q : links_from n u (get_or u (suc x) 0) ≡ length xs = rw p r in
     rw e (ap suc q)
 
 -- what is left to do, by the list of waiting blocks
 left-linked : (u v list : List ℕ) (first : ℕ) → LinkedBlocks v first list → whites v + length list ≤ length u → length v ≡ length u → left v first ≡ whites v + length list
-left-linked u v list first l h n = ap (λ k. whites v + k) (links-linked v list (length v) first l (omega arith))
+left-linked u v list first l h n = ap (λ k. whites v + k) (links_linked v list (length v) first l (omega arith))
 
 -- a pushed block takes one that had no mark
 left-push : (shapes : ShapesView) (u list : List ℕ) (at n : ℕ) (v w : List ℕ) (first i : ℕ) → FormedHeap v → MarkedSoFar shapes u list at n v first
@@ -296,9 +296,9 @@ pub pushes : (u v : List ℕ) (w first first' : ℕ) → IsPlaced u w → 838860
 pushes u v w first first' p h d e = inr ((w - 8388608) / 4 - 2, record { named = (named_block u w p h).0; pushed = d; front = e })
 
 -- a good word is placed while the blocks are kept
-pub good-placed : (shapes : ShapesView) (u v : List ℕ) (w : ℕ) → Kept u v → IsGood shapes u w → IsPlaced v w
-good-placed shapes u v w k (inl l) = inl l
-good-placed shapes u v w k (inr (i, e, b)) = inr (i, e, k.blocks.forth i b.used.begins)
+pub good_placed : (shapes : ShapesView) (u v : List ℕ) (w : ℕ) → Kept u v → IsGood shapes u w → IsPlaced v w
+good_placed shapes u v w k (inl l) = inl l
+good_placed shapes u v w k (inr (i, e, b)) = inr (i, e, k.blocks.forth i b.used.begins)
 
 -- a good word that names a block names a used one
 pub good_used : (shapes : ShapesView) (u : List ℕ) (w i : ℕ) → IsGood shapes u w → w ≡ address i → IsUsed u i
@@ -306,13 +306,13 @@ good_used shapes u w i (inl l) e = absurd (address-high i (rw (← e) l))
 good_used shapes u w i (inr (j, q, b)) e = rw (address-one i j (sym e ∙ q)) b.used
 
 -- before the first listed word nothing is marked
-pub rooted-first : (shapes : ShapesView) (u list : List ℕ) → ((i : ℕ) → Begins u i → marked_at u i ≡ false) → Rooted shapes u list list u 0
-rooted-first shapes u list h = record { state = state-first shapes u list h; listed = λ w m. inl m; part = λ w m. m }
+pub rooted_first : (shapes : ShapesView) (u list : List ℕ) → ((i : ℕ) → Begins u i → marked_at u i ≡ false) → Rooted shapes u list list u 0
+rooted_first shapes u list h = record { state = state-first shapes u list h; listed = λ w m. inl m; part = λ w m. m }
 
 -- one listed word more
-pub rooted-step : (shapes : ShapesView) (u list rest rest' v v' : List ℕ) (first w first' : ℕ) → AllGood shapes u list
+pub rooted_step : (shapes : ShapesView) (u list rest rest' v v' : List ℕ) (first w first' : ℕ) → AllGood shapes u list
     → Rooted shapes u list rest v first → rest ≡ w ∷ rest' → FormedHeap v → Marks v v' w first first' → Rooted shapes u list rest' v' first'
-rooted-step shapes u list rest rest' v v' first w first' a r e f m = record { state = s.state; listed = λ x i. listed x (r.listed x i); part = λ x i. r.part x (rw e (inr i)) }
+rooted_step shapes u list rest rest' v v' first w first' a r e f m = record { state = s.state; listed = λ x i. listed x (r.listed x i); part = λ x i. r.part x (rw e (inr i)) }
   where
     member : In w list
     member = r.part w (rw e (inl refl))
@@ -337,8 +337,8 @@ none_left A w (inl m) = absurd m
 none_left A w (inr a) = a
 
 -- after the last listed word scanning begins
-pub scanned-first : (shapes : ShapesView) (u list rest v : List ℕ) (first : ℕ) → Rooted shapes u list rest v first → rest ≡ [] → Scanned shapes u list (length u) 0 v first
-scanned-first shapes u list rest v first r e = record { state = r.state; listed = λ w i. none_left (IsMarked v w) w (rw e at (r.listed w i)) }
+pub scanned_first : (shapes : ShapesView) (u list rest v : List ℕ) (first : ℕ) → Rooted shapes u list rest v first → rest ≡ [] → Scanned shapes u list (length u) 0 v first
+scanned_first shapes u list rest v first r e = record { state = r.state; listed = λ w i. none_left (IsMarked v w) w (rw e at (r.listed w i)) }
 
 -- marking a word keeps the blocks and the objects' words
 pub marks-kept : (u v : List ℕ) (w first first' : ℕ) → Marks u v w first first' → Kept u v
@@ -346,23 +346,23 @@ marks-kept u v w first first' (inl k) = rw k.same (kept-refl u)
 marks-kept u v w first first' (inr (i, p)) = p.pushed.kept
 
 -- the words of a list, one after another
-pub listing-first : (u list : List ℕ) → FormedHeap u → ((i : ℕ) → Begins u i → marked_at u i ≡ false) → Listing u list list u 0
-listing-first u list f h = record { kept = kept-refl u; formed = f; part = λ w m. m; rooted = λ shapes a. rooted-first shapes u list h }
+pub listing_first : (u list : List ℕ) → FormedHeap u → ((i : ℕ) → Begins u i → marked_at u i ≡ false) → Listing u list list u 0
+listing_first u list f h = record { kept = kept-refl u; formed = f; part = λ w m. m; rooted = λ shapes a. rooted_first shapes u list h }
 
 -- the next listed word is placed
-pub listing-placed : (u list rest rest' v : List ℕ) (first w : ℕ) → Listing u list rest v first → ((w : ℕ) → In w list → IsPlaced u w) → rest ≡ w ∷ rest' → IsPlaced v w
-listing-placed u list rest rest' v first w l p e = keep (p w (l.part w (rw e (inl refl))))
+pub listing_placed : (u list rest rest' v : List ℕ) (first w : ℕ) → Listing u list rest v first → ((w : ℕ) → In w list → IsPlaced u w) → rest ≡ w ∷ rest' → IsPlaced v w
+listing_placed u list rest rest' v first w l p e = keep (p w (l.part w (rw e (inl refl))))
   where
     keep : IsPlaced u w → IsPlaced v w
     keep (inl q) = inl q
     keep (inr (i, q, b)) = inr (i, q, l.kept.blocks.forth i b)
 
 -- one listed word more
-pub listing-step : (u list rest rest' v v' : List ℕ) (first first' w : ℕ) → Listing u list rest v first → rest ≡ w ∷ rest' → Marks v v' w first first'
+pub listing_step : (u list rest rest' v v' : List ℕ) (first first' w : ℕ) → Listing u list rest v first → rest ≡ w ∷ rest' → Marks v v' w first first'
     → FormedHeap v' → Listing u list rest' v' first'
-listing-step u list rest rest' v v' first first' w l e m f = record {
+listing_step u list rest rest' v v' first first' w l e m f = record {
   kept = kept-trans u v v' l.kept (marks-kept v v' w first first' m);
   formed = f;
   part = λ x i. l.part x (rw e (inr i));
-  rooted = λ shapes a. rooted-step shapes u list rest rest' v v' first w first' a (l.rooted shapes a) e l.formed m;
+  rooted = λ shapes a. rooted_step shapes u list rest rest' v v' first w first' a (l.rooted shapes a) e l.formed m;
 }

@@ -39,13 +39,13 @@ step_fits laws v at size f b e =
     (omega arith, omega arith)
 
 -- clearing
-pub clearing-first : BlockLaws → (u : List ℕ) → FormedHeap u → Clearing u u 0
-clearing-first laws u f = record { stands = at-first laws u f; kept = kept-refl u; white = λ i b l. absurd (omega arith) }
+pub clearing_first : BlockLaws → (u : List ℕ) → FormedHeap u → Clearing u u 0
+clearing_first laws u f = record { stands = at-first laws u f; kept = kept-refl u; white = λ i b l. absurd (omega arith) }
 
 -- one block more has no mark
-pub clearing-step : BlockLaws → (u v w : List ℕ) (at x : ℕ) → Clearing u v at → Begins v at → w ≡ set v at x → SameBlocks v w → used_at w at ≡ used_at v at
+pub clearing_step : BlockLaws → (u v w : List ℕ) (at x : ℕ) → Clearing u v at → Begins v at → w ≡ set v at x → SameBlocks v w → used_at w at ≡ used_at v at
     → marked_at w at ≡ false → FormedHeap w → Clearing u w (at + size_at w at)
-clearing-step laws u v w at x c b e s h m f =
+clearing_step laws u v w at x c b e s h m f =
     record { stands = at-next laws v w at s f b; kept = kept-trans u v w c.kept (kept-header laws v w at x e s b h); white = λ i d l. white i d (earlier laws w at i (s.forth at b) d l) }
   where
     white : (i : ℕ) → Begins w i → (i < at) ⊎ (i ≡ at) → marked_at w i ≡ false
@@ -53,17 +53,17 @@ clearing-step laws u v w at x c b e s h m f =
     white i d (inr q) = rw q m
 
 -- at the end no block has one
-pub clearing-last : (u v : List ℕ) (at : ℕ) → Clearing u v at → length v ≤ at → Kept u v × NoMarks v
-clearing-last u v at c l = (c.kept, λ i b. c.white i b (let n = b.inside in omega arith))
+pub clearing_last : (u v : List ℕ) (at : ℕ) → Clearing u v at → length v ≤ at → Kept u v × NoMarks v
+clearing_last u v at c l = (c.kept, λ i b. c.white i b (let n = b.inside in omega arith))
 
 -- sweeping
-pub sweeping-first : BlockLaws → (u : List ℕ) → FormedHeap u → Sweeping u u 0
-sweeping-first laws u f = record { stands = at-first laws u f; blocks = blocks-refl u; words = λ _ _ _ _ _. refl; done = λ i b l. absurd (omega arith); ahead = λ _ _ _. refl }
+pub sweeping_first : BlockLaws → (u : List ℕ) → FormedHeap u → Sweeping u u 0
+sweeping_first laws u f = record { stands = at-first laws u f; blocks = blocks-refl u; words = λ _ _ _ _ _. refl; done = λ i b l. absurd (omega arith); ahead = λ _ _ _. refl }
 
 -- one block more is used exactly where it was marked
-pub sweeping-step : BlockLaws → (u v w : List ℕ) (at : ℕ) → Sweeping u v at → Begins v at → ((k : ℕ) → k ≢ at → get_or w k 0 ≡ get_or v k 0) → SameBlocks v w
+pub sweeping_step : BlockLaws → (u v w : List ℕ) (at : ℕ) → Sweeping u v at → Begins v at → ((k : ℕ) → k ≢ at → get_or w k 0 ≡ get_or v k 0) → SameBlocks v w
     → used_at w at ≡ marked_at v at → FormedHeap w → Sweeping u w (at + size_at w at)
-sweeping-step laws u v w at c b other s h f = record {
+sweeping_step laws u v w at c b other s h f = record {
   stands = at-next laws v w at s f b;
   blocks = blocks-trans u v w c.blocks s;
   words = λ i k d l g. word i k d l g (cases_eq i at);
@@ -89,12 +89,12 @@ sweeping-step laws u v w at c b other s h f = record {
     done i d (inr q) = rw q (h ∙ c.ahead at (subst (Begins u) q d) (omega arith))
 
 -- at the end each is
-pub sweeping-last : (u v : List ℕ) (at : ℕ) → Sweeping u v at → length v ≤ at → Swept u v
-sweeping-last u v at c l = record { blocks = c.blocks; used = λ i b. c.done i b (let n = (c.blocks.forth i b).inside in omega arith); words = c.words }
+pub sweeping_last : (u v : List ℕ) (at : ℕ) → Sweeping u v at → length v ≤ at → Swept u v
+sweeping_last u v at c l = record { blocks = c.blocks; used = λ i b. c.done i b (let n = (c.blocks.forth i b).inside in omega arith); words = c.words }
 
 -- the write of a sweep
-pub swept-other : (v w : List ℕ) (at x k : ℕ) → w ≡ set v at x → k ≢ at → get_or w k 0 ≡ get_or v k 0
-swept-other v w at x k e n = rw e (get_or-set_other v at k x 0 n)
+pub swept_other : (v w : List ℕ) (at x k : ℕ) → w ≡ set v at x → k ≢ at → get_or w k 0 ≡ get_or v k 0
+swept_other v w at x k e n = rw e (get_or-set_other v at k x 0 n)
 
 -- merging
 pub keeps-refl : (u : List ℕ) → KeepsUsed u u
@@ -140,8 +140,8 @@ keeps-join laws v w at f g front others c n =
     back i h (inr d) = record { begins = c.kept i h.begins; used = sym (ap used_of (others i d)) ∙ h.used }
 
 -- before the first block nothing is merged
-pub merging-first : BlockLaws → (u : List ℕ) → FormedHeap u → Merging u u 0
-merging-first laws u f = record { begins = laws.places.first u (let l = f.least in omega arith); kept = keeps-refl u; apart = λ i b l _. absurd (omega arith) }
+pub merging_first : BlockLaws → (u : List ℕ) → FormedHeap u → Merging u u 0
+merging_first laws u f = record { begins = laws.places.first u (let l = f.least in omega arith); kept = keeps-refl u; apart = λ i b l _. absurd (omega arith) }
 
 -- the write of a join
 abbrev pub join_words : List ℕ → ℕ → List ℕ
@@ -152,9 +152,9 @@ joined-front : (v w : List ℕ) (at : ℕ) → w ≡ join_words v at → at < le
 joined-front v w at e l = rw e (get_or-set_same v at _ 0 l)
 
 -- two free neighbours are joined
-pub merging-join : BlockLaws → (u v w : List ℕ) (at : ℕ) → Merging u v at → IsFree v at → IsFree v (at + size_at v at) → w ≡ join_words v at
+pub merging_join : BlockLaws → (u v w : List ℕ) (at : ℕ) → Merging u v at → IsFree v at → IsFree v (at + size_at v at) → w ≡ join_words v at
     → Splits w v (at + size_at v at) → FormedHeap v → Merging u w at
-merging-join laws u v w at m f g e c z = record {
+merging_join laws u v w at m f g e c z = record {
   begins = start (c.each at m.begins);
   kept = keeps-trans u v w m.kept (keeps-join laws v w at f g front others c n);
   apart = λ i h l q. near i h l q;
@@ -192,9 +192,9 @@ merging-join laws u v w at m f g e c z = record {
         m.apart i (was i h l) l (subst (λ s. IsFree v (i + s)) e (second (i + size_at w i) q (cases_eq _ at)))
 
 -- a block without a free neighbour is passed
-pub merging-next : BlockLaws → (u v : List ℕ) (at : ℕ) → Merging u v at → Begins v (at + size_at v at)
+pub merging_next : BlockLaws → (u v : List ℕ) (at : ℕ) → Merging u v at → Begins v (at + size_at v at)
     → (used_at v at ≡ true) ⊎ (used_at v (at + size_at v at) ≡ true) → Merging u v (at + size_at v at)
-merging-next laws u v at m b h = record { begins = b; kept = m.kept; apart = λ i f l g. near i f g (earlier laws v at i m.begins f.begins l) }
+merging_next laws u v at m b h = record { begins = b; kept = m.kept; apart = λ i f l g. near i f g (earlier laws v at i m.begins f.begins l) }
   where
     here : (used_at v at ≡ true) ⊎ (used_at v (at + size_at v at) ≡ true) → IsFree v at → IsFree v (at + size_at v at) → ⊥
     here (inl t) f g = let k = f.free in cc
@@ -205,18 +205,18 @@ merging-next laws u v at m b h = record { begins = b; kept = m.kept; apart = λ 
     near i f g (inr e) = here h (subst (IsFree v) e f) (subst (λ j. IsFree v (j + size_at v j)) e g)
 
 -- at the end no two free blocks are neighbours
-pub merging-last : BlockLaws → (u v : List ℕ) (at : ℕ) → Merging u v at → at + size_at v at ≡ length v → NoNeighbours v
-merging-last laws u v at m e i f g = near (earlier laws v at i m.begins f.begins (let n = f.begins.inside in omega arith))
+pub merging_last : BlockLaws → (u v : List ℕ) (at : ℕ) → Merging u v at → at + size_at v at ≡ length v → NoNeighbours v
+merging_last laws u v at m e i f g = near (earlier laws v at i m.begins f.begins (let n = f.begins.inside in omega arith))
   where
     near : (i < at) ⊎ (i ≡ at) → ⊥
     near (inl l) = m.apart i f l g
     near (inr q) = let n = (subst (λ j. Begins v (j + size_at v j)) q g.begins).inside in omega arith
 
 -- merging goes on behind a block without a free neighbour
-pub merging-to : BlockLaws → (u v : List ℕ) (at next : ℕ) → Merging u v at → next ≡ at + size_at v at → Begins v next → (used_at v at ≡ true) ⊎ (used_at v next ≡ true) → Merging u v next
-merging-to laws u v at next m e b h =
+pub merging_to : BlockLaws → (u v : List ℕ) (at next : ℕ) → Merging u v at → next ≡ at + size_at v at → Begins v next → (used_at v at ≡ true) ⊎ (used_at v next ≡ true) → Merging u v next
+merging_to laws u v at next m e b h =
     let P : ℕ → Type 0 = λ j. (used_at v at ≡ true) ⊎ (used_at v j ≡ true) in
-    rw e (merging-next laws u v at m (subst (Begins v) e b) (subst P e h))
+    rw e (merging_next laws u v at m (subst (Begins v) e b) (subst P e h))
 
 -- a join brings the end of the heap nearer
 pub joined-less : BlockLaws → (v w : List ℕ) (at next size : ℕ) → FormedHeap v → next ≡ at + size_at v at → Begins v next → size ≡ length v → w ≡ join_words v at

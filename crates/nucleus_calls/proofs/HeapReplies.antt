@@ -87,28 +87,28 @@ array-word places (Code n) u shape e = absurd (cc)
 array-word places (Ret n) u shape e = absurd (cc)
 array-word places (Tab n) u shape e = absurd (cc)
 
-allocates-asked : (o : Option ObjectShape) (reply : ReplyView) → option_map Allocates o ≡ Some reply → (shape : ObjectShape) × (o ≡ Some shape) × (reply ≡ Allocates shape)
-allocates-asked None reply e = absurd (cc)
-allocates-asked (Some shape) reply e = (shape, refl, let q : Allocates shape ≡ reply = cc in sym q)
+allocates_asked : (o : Option ObjectShape) (reply : ReplyView) → option_map Allocates o ≡ Some reply → (shape : ObjectShape) × (o ≡ Some shape) × (reply ≡ Allocates shape)
+allocates_asked None reply e = absurd (cc)
+allocates_asked (Some shape) reply e = (shape, refl, let q : Allocates shape ≡ reply = cc in sym q)
 
 -- what entries 0 and 1 ask for
-pub allocation-asked : (s : State) (k : ℕ) (reply : ReplyView) → k < 2 → Reply k s ≡ Some reply
+pub allocation_asked : (s : State) (k : ℕ) (reply : ReplyView) → k < 2 → Reply k s ≡ Some reply
     → (shape : ObjectShape) × (reply ≡ Allocates shape) × Asked s shape (Word (places_of s) (s.thread.regs Eax)) (Word (places_of s) (s.thread.regs Ecx)) k
 unfolding Reply
-allocation-asked s zero reply l e =
-    let a = allocates-asked (class_asked (s.thread.regs Eax)) reply e in
+allocation_asked s zero reply l e =
+    let a = allocates_asked (class_asked (s.thread.regs Eax)) reply e in
     let w = class-word (places_of s) (s.thread.regs Eax) a.0 a.1 in
     (a.0, a.2, record { named = w.0; elements = w.1 })
-allocation-asked s (suc zero) reply l e =
-    let a = allocates-asked (array_asked (s.thread.regs Eax) (s.thread.regs Ecx)) reply e in
+allocation_asked s (suc zero) reply l e =
+    let a = allocates_asked (array_asked (s.thread.regs Eax) (s.thread.regs Ecx)) reply e in
     let w = array-word (places_of s) (s.thread.regs Eax) (s.thread.regs Ecx) a.0 a.1 in
     (a.0, a.2, record { named = w.0; elements = w.1 })
-allocation-asked s (suc (suc k)) reply l e = absurd (omega arith)
+allocation_asked s (suc (suc k)) reply l e = absurd (omega arith)
 
 -- entry 2 collects
-pub collects-asked : (s : State) (k : ℕ) (reply : ReplyView) → k ≡ 2 → Reply k s ≡ Some reply → reply ≡ Collects
+pub collects_asked : (s : State) (k : ℕ) (reply : ReplyView) → k ≡ 2 → Reply k s ≡ Some reply → reply ≡ Collects
 unfolding Reply
-collects-asked s k reply is e = let f : Some Collects ≡ Some reply = rw is at e in cc
+collects_asked s k reply is e = let f : Some Collects ≡ Some reply = rw is at e in cc
 
 -- ---- values and objects
 
@@ -167,11 +167,11 @@ module _ (image : ImageParts) (s : State) (next k : ℕ) (shapes : ShapesView) (
   pub eax-is : slice_index cpu.regs 0 ≡ Word (places_of s) (s.thread.regs Eax)
   eax-is = rw h.before.processor.regs refl
 
-  pub ecx-is : slice_index cpu.regs 1 ≡ Word (places_of s) (s.thread.regs Ecx)
-  ecx-is = rw h.before.processor.regs refl
+  pub ecx_is : slice_index cpu.regs 1 ≡ Word (places_of s) (s.thread.regs Ecx)
+  ecx_is = rw h.before.processor.regs refl
 
-  esp-is : slice_index cpu.regs 4 ≡ esp_of s
-  esp-is = rw h.before.processor.regs refl
+  esp_is : slice_index cpu.regs 4 ≡ esp_of s
+  esp_is = rw h.before.processor.regs refl
 
   -- ---- where the turn leads
 
@@ -184,7 +184,7 @@ module _ (image : ImageParts) (s : State) (next k : ℕ) (shapes : ShapesView) (
     is = rw h.comes.gives (r.turn left);
     legal = refl;
     stands = record {
-      processor = rw h.before.processor.place (fresh-value-stands (comes_back r.value next r.state) r.value word next (slice_index cpu.regs 4) refl r.is_word (esp-is ∙ rw (r.current, r.values) refl));
+      processor = rw h.before.processor.place (fresh-value-stands (comes_back r.value next r.state) r.value word next (slice_index cpu.regs 4) refl r.is_word (esp_is ∙ rw (r.current, r.values) refl));
       nucleus = goes-on image (live_in image (comes_back r.value next r.state)) r.state after r.value next r.nucleus;
       entries = ap (λ (e : Entry). before ++ e ∷ []) (rw (← turns, current-is h.before.typed h.before.nucleus one) refl);
       same_turn = record { turns = r.same_turn.turns; ending = r.same_turn.ending };
@@ -222,8 +222,8 @@ module _ (laws : HeapLaws) (image : ImageParts) (s : State) (next k : ℕ) (shap
       two k l = grind arith
 
       go : (k < 2) ⊎ (k ≡ 2) → (h.reply ≡ Collects) ⊎ ((shape : ObjectShape) × (h.reply ≡ Allocates shape))
-      go (inl l) = let a = allocation-asked s k h.reply l h.comes.gives in inr (a.0, a.1)
-      go (inr e) = inl (collects-asked s k h.reply e h.comes.gives)
+      go (inl l) = let a = allocation_asked s k h.reply l h.comes.gives in inr (a.0, a.1)
+      go (inr e) = inl (collects_asked s k h.reply e h.comes.gives)
 
   pub awaited-among : k < 3 → (live : ℕ → Bool) → TypedAmong image live s → IsAwaited live
   awaited-among few live t = awaited-by live h.reply (which few) (laws.typed image h.before.well_typed live s t next k h.reply h.comes)
@@ -245,7 +245,7 @@ module _ (laws : HeapLaws) (image : ImageParts) (s : State) (next k : ℕ) (shap
     lives = reach-lives few;
     memory = h.before.nucleus.memory;
     states = h.before.nucleus.stacks;
-    pointer = esp-is image s next k shapes table cpu v h;
+    pointer = esp_is image s next k shapes table cpu v h;
     marked = h.before.nucleus.marks;
     rows = h.rows;
     classes = h.classes;
@@ -330,7 +330,7 @@ module _ (laws : HeapLaws) (image : ImageParts) (s : State) (next k : ℕ) (shap
 
   pub names-shape : FormedImagesTell → ((shapes : ShapesView) (shape : Shape) → length shapes.classes ≤ 1024 → IsShape shapes shape → shape_named (shape_word shape) ≡ shape) → k < 2 → (shape : ObjectShape) × NamesShape shape
   names-shape formed back few =
-      let a = allocation-asked s k h.reply few h.comes.gives in
+      let a = allocation_asked s k h.reply few h.comes.gives in
       let typed = rw a.1 at (laws.typed image h.before.well_typed all_objects s h.typed.among next k h.reply h.comes) in
       let classes = (formed image h.before.well_typed.formed).classes.few_classes in (
         a.0,
@@ -338,7 +338,7 @@ module _ (laws : HeapLaws) (image : ImageParts) (s : State) (next k : ℕ) (shap
           asks = a.1;
           named = ap shape_named (eax-is image s next k shapes table cpu v h ∙ a.2.named) ∙ back (shown image).shapes (shape_in a.0) classes typed.is_shape;
           there = rw h.classes typed.is_shape;
-          elements = rw (ecx-is image s next k shapes table cpu v h) a.2.elements;
+          elements = rw (ecx_is image s next k shapes table cpu v h) a.2.elements;
         },
       )
 
@@ -354,12 +354,12 @@ module _ (laws : HeapLaws) (image : ImageParts) (s : State) (next k : ℕ) (shap
       let f = subst (λ place. CallFinds image (live_in image s) s type place (slice_index cpu.regs 4) v.memory v.marks table shapes v.stacks) (sym h.before.processor.place) (finds few) in
       subst (λ u. (t : Ty) × Found u t) (sym e) (type, f)
 
-  pub collected-with : (few : k < 3) → k ≡ 2 → (w : NucleusView) → w ≡ v → (word : ℕ) (memory : MemoryView) (index : List ℕ) → ((t : Ty) → Found w t → CollectionTold image cpu.pc s word memory)
+  pub collected_with : (few : k < 3) → k ≡ 2 → (w : NucleusView) → w ≡ v → (word : ℕ) (memory : MemoryView) (index : List ℕ) → ((t : Ty) → Found w t → CollectionTold image cpu.pc s word memory)
       → HeapReplied image s next k word h.reply (with_memory w memory index)
-  collected-with few is w e word memory index told =
+  collected_with few is w e word memory index told =
       let f = found few w e in
       subst (λ u. HeapReplied image s next k word h.reply (with_memory u memory index)) (sym e)
-      (collected word memory index (collects-asked s k h.reply is h.comes.gives) (rw h.before.processor.place at (told f.0 f.1)))
+      (collected word memory index (collects_asked s k h.reply is h.comes.gives) (rw h.before.processor.place at (told f.0 f.1)))
 
   pub answered-with : (few : k < 3) → (formed : FormedImagesTell) (back : (shapes : ShapesView) (shape : Shape) → length shapes.classes ≤ 1024 → IsShape shapes shape → shape_named (shape_word shape) ≡ shape) → k < 2 → (w : NucleusView) → w ≡ v
       → (shape : Shape) → shape ≡ shape_named (slice_index cpu.regs 0) → (elements : ℕ) → elements ≡ (if k == 0 then 0 else slice_index cpu.regs 1)

@@ -27,15 +27,15 @@ abbrev pub WritesKeepLists : Type 0
 WritesKeepLists = (heads words : List ℕ) (i w : ℕ) → FreeLists heads words → IsObjectWord words i → FreeLists heads (slice_set words i w)
 
 -- so does what is written of the heap
-pub lists-kept : WritesKeepLists → (heads before after : List ℕ) → HeapWritten before after → FreeLists heads before → FreeLists heads after
-lists-kept law heads before after (inl same) h = rw same h
-lists-kept law heads before after (inr w) h = rw w.is (law heads before w.index w.word h w.object)
+pub lists_kept : WritesKeepLists → (heads before after : List ℕ) → HeapWritten before after → FreeLists heads before → FreeLists heads after
+lists_kept law heads before after (inl same) h = rw same h
+lists_kept law heads before after (inr w) h = rw w.is (law heads before w.index w.word h w.object)
 
-heap-kept : WritesKeepLists → (heads : List ℕ) (start n reply : ℕ) (was : StackState) (m : MemoryView) (cpu : Cpu) (after : MemoryView) → GoesOn start n reply was m cpu after → FreeLists heads m.heap → FreeLists heads after.heap
-heap-kept law heads start n reply Empty m cpu after (is, put) h = lists-kept law heads m.heap after.heap put.heap h
-heap-kept law heads start n reply Running m cpu after went h = absurd went
-heap-kept law heads start n reply (Yielded sp pc) m cpu after (is, unchanged) h = rw unchanged h
-heap-kept law heads start n reply (Interrupted regs flags pc) m cpu after (is, unchanged) h = rw unchanged h
+heap_kept : WritesKeepLists → (heads : List ℕ) (start n reply : ℕ) (was : StackState) (m : MemoryView) (cpu : Cpu) (after : MemoryView) → GoesOn start n reply was m cpu after → FreeLists heads m.heap → FreeLists heads after.heap
+heap_kept law heads start n reply Empty m cpu after (is, put) h = lists_kept law heads m.heap after.heap put.heap h
+heap_kept law heads start n reply Running m cpu after went h = absurd went
+heap_kept law heads start n reply (Yielded sp pc) m cpu after (is, unchanged) h = rw unchanged h
+heap_kept law heads start n reply (Interrupted regs flags pc) m cpu after (is, unchanged) h = rw unchanged h
 
 -- as many stacks, and what is mapped
 pub kept-after : WritesKeepLists → (v : NucleusView) (start n reply : ℕ) (was : StackState) (cpu : Cpu) (after : MemoryView) (stacks : List StackState) (devices : DevicesView)
@@ -43,7 +43,7 @@ pub kept-after : WritesKeepLists → (v : NucleusView) (start n reply : ℕ) (wa
 kept-after law v start n reply was cpu after stacks devices kept went same = record {
   room = λ a low high aligned. mapped-kept start n reply was v.memory cpu after went a (kept.room a low (rw same at high) aligned);
   starts = kept.starts ∙ sym same;
-  lists = heap-kept law v.index start n reply was v.memory cpu after went kept.lists;
+  lists = heap_kept law v.index start n reply was v.memory cpu after went kept.lists;
 }
 
 -- a table handed over has as many states

@@ -111,10 +111,10 @@ tested-keeps s true o h = h
 tested-keeps s false o h = tt
 
 -- the thread and its values alone change, behind a test
-thread-keeps : (s : State) (thread : Thread) (values : List Value) (b : Bool)
+thread_keeps : (s : State) (thread : Thread) (values : List Value) (b : Bool)
     → EffectKeeps s (if b then Some (Moves (record s { thread = thread; values = values })) else None)
-thread-keeps s thread values true = runs-keeps s s thread values (unchanged s)
-thread-keeps s thread values false = tt
+thread_keeps s thread values true = runs-keeps s s thread values (unchanged s)
+thread_keeps s thread values false = tt
 
 -- registers and flags after an operation
 settled-keeps : (s t : State) (wide : Bool) (k : Option FlagKind) (m : WordState) → KeepsRest s t → KeepsRest s (settled wide k m t)
@@ -122,11 +122,11 @@ settled-keeps s t true k m h = runs-keeps s t _ _ h
 settled-keeps s t false k m h = runs-keeps s t _ _ h
 
 -- a fault, or what the operation does
-fault-keeps : (s : State) (e : StepEffect) (o : Option EffectView) → EffectKeeps s o → EffectKeeps s (fault_or e o)
-fault-keeps s (step.Fault n) o h = tt
-fault-keeps s step.Next o h = h
-fault-keeps s (step.Call a) o h = h
-fault-keeps s step.Return o h = h
+fault_keeps : (s : State) (e : StepEffect) (o : Option EffectView) → EffectKeeps s o → EffectKeeps s (fault_or e o)
+fault_keeps s (step.Fault n) o h = tt
+fault_keeps s step.Next o h = h
+fault_keeps s (step.Call a) o h = h
+fault_keeps s step.Return o h = h
 
 -- an operation's result is written
 result-keeps : (s : State) (next : ℕ) (wide : Bool) (k : Option FlagKind) (m : WordState) (o : Option State) → StateKeeps s o
@@ -138,7 +138,7 @@ computes-keep : (v : ShownImage) (s : State) (i : Inst) (len next : ℕ) (source
     → EffectKeeps s (computes v s i len next sources d wide k)
 unfolding computes
 computes-keep v s i len next sources d wide k =
-    tested-keeps s (list_all (is_number v s) sources) _ (fault-keeps s (effect_of i (words_of s (word_among v s (d ∷ sources))) len) _
+    tested-keeps s (list_all (is_number v s) sources) _ (fault_keeps s (effect_of i (words_of s (word_among v s (d ∷ sources))) len) _
     (result-keeps s next wide k (executed i (words_of s (word_among v s (d ∷ sources)))) _ (operand-keeps v s d _)))
 
 -- a value is moved
@@ -170,7 +170,7 @@ tests-keep v s i next d x = flags-keep v s i next (d ∷ x ∷ []) _
 -- an address is computed
 addresses-keep : (s : State) (i : Inst) (next : ℕ) (r : Reg) (m : Mem) → EffectKeeps s (addresses s i next r m)
 unfolding addresses
-addresses-keep s i next r m = thread-keeps s _ _ _
+addresses-keep s i next r m = thread_keeps s _ _ _
 
 -- a value is pushed
 pushes-keep : (s t : State) (next : ℕ) (w : Value) → KeepsRest s t → EffectKeeps s (Some (pushes next w t))
@@ -186,20 +186,20 @@ pushed-keeps s next None = tt
 pushed-keeps s next (Some w) = pushes-keep s s next w (unchanged s)
 
 -- a value is popped
-popped-keeps : (s : State) (next : ℕ) (r : Reg) (w : Value) (vs : List Value) (b : Bool)
+popped_keeps : (s : State) (next : ℕ) (r : Reg) (w : Value) (vs : List Value) (b : Bool)
     → EffectKeeps s (if b then None else Some (goes_on next (with_register r w (with_values vs s))))
-popped-keeps s next r w vs true = tt
-popped-keeps s next r w vs false = runs-keeps s s _ _ (unchanged s)
+popped_keeps s next r w vs true = tt
+popped_keeps s next r w vs false = runs-keeps s s _ _ (unchanged s)
 
 pops-keep : (s : State) (next : ℕ) (r : Reg) (vs : List Value) → EffectKeeps s (pops next r vs s)
 pops-keep s next r [] = tt
 pops-keep s next r (Ret a ∷ vs) = tt
-pops-keep s next r (w ∷ vs) = popped-keeps s next r w vs (same r Esp)
+pops-keep s next r (w ∷ vs) = popped_keeps s next r w vs (same r Esp)
 
 -- values are dropped
 drops-keep : (s : State) (i : Inst) (next : ℕ) (o : Option ℕ) → EffectKeeps s (drops s i next o)
 drops-keep s i next None = tt
-drops-keep s i next (Some n) = thread-keeps s _ _ _
+drops-keep s i next (Some n) = thread_keeps s _ _ _
 
 -- a function is called
 called-keeps : (v : ShownImage) (s : State) (next address : ℕ) (o : Option Sig)
@@ -218,10 +218,10 @@ returns-keep s (Ret (suc a) ∷ vs) = runs-keeps s s _ _ (unchanged s)
 returns-keep s vs = tt
 
 jumps-keep : (image : ImageParts) (s : State) (to : ℕ) → EffectKeeps s (jumps image s to)
-jumps-keep image s to = thread-keeps s _ _ _
+jumps-keep image s to = thread_keeps s _ _ _
 
 branches-keep : (image : ImageParts) (s : State) (next : ℕ) (c : Cond) (to : ℕ) → EffectKeeps s (branches image s next c to)
-branches-keep image s next c to = thread-keeps s _ _ _
+branches-keep image s next c to = thread_keeps s _ _ _
 
 -- ---- all instructions
 
@@ -245,25 +245,25 @@ calls-keep v s next address = numbered (entry_number address)
     numbered None = called-keeps v s next address _
     numbered (Some k) = entry k (slice_get nucleus_arguments k)
 
-form-keeps : (image : ImageParts) (s : State) (i : Inst) (len next : ℕ) (form : Form) → EffectKeeps s (form_effect image s i len next form)
+form_keeps : (image : ImageParts) (s : State) (i : Inst) (len next : ℕ) (form : Form) → EffectKeeps s (form_effect image s i len next form)
 unfolding form_effect
-form-keeps image s i len next Refused = tt
-form-keeps image s i len next (Compute sources d wide k) = computes-keep (shown image) s i len next sources d wide k
-form-keeps image s i len next (Move d x) = moves-keep (shown image) s next d x
-form-keeps image s i len next (Address r m) = addresses-keep s i next r m
-form-keeps image s i len next (Compare d x) = compares-keep (shown image) s i next d x
-form-keeps image s i len next (TestBits d x) = tests-keep (shown image) s i next d x
-form-keeps image s i len next (PushOf x) = pushed-keeps s next (operand_value (shown image) s x)
-form-keeps image s i len next (PopTo r) = pops-keep s next r s.values
-form-keeps image s i len next (DropSlots bytes) = drops-keep s i next (slots_in bytes)
-form-keeps image s i len next (CallTo a) = calls-keep (shown image) s next a
-form-keeps image s i len next (CallBy x) = value-calls-keep (shown image) s next (operand_value (shown image) s x)
-form-keeps image s i len next Return = returns-keep s s.values
-form-keeps image s i len next (Jump to) = jumps-keep image s to
-form-keeps image s i len next (Branch c to) = branches-keep image s next c to
-form-keeps image s i len next Nothing = runs-keeps s s _ _ (unchanged s)
+form_keeps image s i len next Refused = tt
+form_keeps image s i len next (Compute sources d wide k) = computes-keep (shown image) s i len next sources d wide k
+form_keeps image s i len next (Move d x) = moves-keep (shown image) s next d x
+form_keeps image s i len next (Address r m) = addresses-keep s i next r m
+form_keeps image s i len next (Compare d x) = compares-keep (shown image) s i next d x
+form_keeps image s i len next (TestBits d x) = tests-keep (shown image) s i next d x
+form_keeps image s i len next (PushOf x) = pushed-keeps s next (operand_value (shown image) s x)
+form_keeps image s i len next (PopTo r) = pops-keep s next r s.values
+form_keeps image s i len next (DropSlots bytes) = drops-keep s i next (slots_in bytes)
+form_keeps image s i len next (CallTo a) = calls-keep (shown image) s next a
+form_keeps image s i len next (CallBy x) = value-calls-keep (shown image) s next (operand_value (shown image) s x)
+form_keeps image s i len next Return = returns-keep s s.values
+form_keeps image s i len next (Jump to) = jumps-keep image s to
+form_keeps image s i len next (Branch c to) = branches-keep image s next c to
+form_keeps image s i len next Nothing = runs-keeps s s _ _ (unchanged s)
 
 -- what an instruction leaves as it was
-pub effect-keeps : (image : ImageParts) (s : State) (i : Inst) (len : ℕ) → EffectKeeps s (Effect image s i len)
+pub effect_keeps : (image : ImageParts) (s : State) (i : Inst) (len : ℕ) → EffectKeeps s (Effect image s i len)
 unfolding Effect
-effect-keeps image s i len = form-keeps image s i len (next_address s.thread.place len) (form_of (next_address s.thread.place len) i)
+effect_keeps image s i len = form_keeps image s i len (next_address s.thread.place len) (form_of (next_address s.thread.place len) i)

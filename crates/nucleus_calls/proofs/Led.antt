@@ -80,14 +80,14 @@ leave-leads law image live s next cpu v h one application was waits start starts
 
 -- ---- a yield
 
-pub yield-leads : EmptyStacksAreFree → (image : ImageParts) (live : ℕ → Bool) (s : State) (next : ℕ) (cpu : Cpu) (v : NucleusView) → StandsBefore image live s next cpu v
+pub yield_leads : EmptyStacksAreFree → (image : ImageParts) (live : ℕ → Bool) (s : State) (next : ℕ) (cpu : Cpu) (v : NucleusView) → StandsBefore image live s next cpu v
     → OneRuns v.stacks → (to : ℕ) → to ≢ current_of v.stacks → (was : StackState) → slice_get v.stacks to ≡ Some was → (start : ℕ) → slice_get v.starts to ≡ Some start
     → (k : ℕ) → Reply k s ≡ Some (YieldsTo to) → (ran : Cpu) (after : MemoryView) → GoesOn start to (65536 + current_of v.stacks) was v.memory ran after
     → (turn : ℕ) → s.turns ≡ turn → (before : List Entry) (answers : List Answer)
     → Leads image live s answers before (before ++ entry_at turn (current_of v.stacks) Yield to ∷ []) ran
     (with_parts v after (table.handed_over v.stacks (Yielded (slice_index cpu.regs 4) cpu.pc) to) v.devices) (after_effect image answers next s (Calls k))
 unfolding kept_values
-yield-leads law image live s next cpu v h one to other was waits start starts k reply ran after went turn turns before answers =
+yield_leads law image live s next cpu v h one to other was waits start starts k reply ran after went turn turns before answers =
     let current = current-is h.typed h.nucleus one in
     rw (reply, h.processor.regs, h.processor.place)
     (switch-leads image live s answers before _ _ _ ran _ (entry-same s turn (current_of v.stacks) Yield to turns current)
@@ -147,9 +147,9 @@ devices-typed image live s history h =
     record { thread = h.thread; others = h.others; one = h.one; only = h.only; kernel = h.kernel; count = h.count; statics = h.statics; store = h.store }
 
 -- a switch from the state with another history is one in its turn
-retold-switch : (image : ImageParts) (live : ℕ → Bool) (s : State) (history : History) (o : Option State) (cpu : Cpu) (v : NucleusView)
+retold_switch : (image : ImageParts) (live : ℕ → Bool) (s : State) (history : History) (o : Option State) (cpu : Cpu) (v : NucleusView)
     → SwitchStands image live (record s { devices = history }) o cpu v → SwitchStands image live s o cpu v
-retold-switch image live s history o cpu v sw = record {
+retold_switch image live s history o cpu v sw = record {
   state = sw.state;
   is = sw.is;
   same_turn = record { turns = sw.same_turn.turns; ending = sw.same_turn.ending };
@@ -171,7 +171,7 @@ interrupt-leads law image live s cpu v h one application was waits start starts 
     devices-stand image live s v (Granted line ∷ s.devices) devices h.nucleus stand in
     rw (h.processor.regs, h.processor.flags, h.processor.place)
     (switch-leads image live s answers before _ _ _ ran _ (entry-same s turn (current_of v.stacks) Interrupt line turns current)
-    (retold-switch image live s (Granted line ∷ s.devices) _ _ _
+    (retold_switch image live s (Granted line ∷ s.devices) _ _ _
     (switch-stands law image live (record s { devices = Granted line ∷ s.devices }) (with_parts v v.memory v.stacks devices) h.well_typed
     (devices-typed image live s (Granted line ∷ s.devices) h.typed) granted one 0 (λ e. application (sym e)) was waits start starts
     (InterruptedStack s.thread s.values) (inl refl) (131072 + line) ran after went)))

@@ -26,16 +26,16 @@ use Rattle.typed_machine.specs.Words.{stack_pointer}
 use Rattle.word_machine.specs.Standing.{HoldsValues, values_at, kept_values}
 use Rattle.nucleus_calls.specs.Nucleus.{NucleusView, state_by, NucleusStands}
 use Rattle.nucleus_calls.specs.Calling.{number_of, yield_refusal, RepliesAt, AsksOf}
-use Rattle.nucleus_calls.proofs.Tables.{set-here, set-elsewhere, states-get, states-set, StackThere}
+use Rattle.nucleus_calls.proofs.Tables.{set-here, set-elsewhere, states_get, states_set, StackThere}
 use Rattle.nucleus_calls.proofs.Restacked.{restacked}
 use Rattle.nucleus_calls.proofs.Switched.{current-is, there-is}
 use Rattle.nucleus_calls.proofs.Led.{with_parts, devices-stand}
 
 -- ---- each entry's row, where the registers have the numbers that it asks for
 
-pub yield-row : (n m : ℕ) (s : State) → AsksOf 3 n m s → Reply 3 s ≡ Some (yield_to n s)
+pub yield_row : (n m : ℕ) (s : State) → AsksOf 3 n m s → Reply 3 s ≡ Some (yield_to n s)
 unfolding Reply nucleus_arguments number_in
-yield-row n m s asks = let eax : s.thread.regs Eax ≡ Number n = asks OneNumber refl in rw eax refl
+yield_row n m s asks = let eax : s.thread.regs Eax ≡ Number n = asks OneNumber refl in rw eax refl
 
 pub state-row : (n m : ℕ) (s : State) → AsksOf 4 n m s → Reply 4 s ≡ Some (get_stack_state n s)
 unfolding Reply nucleus_arguments number_in
@@ -53,13 +53,13 @@ pub read-row : (s : State) → Reply 7 s ≡ Some (try_read_keyboard s)
 unfolding Reply
 read-row s = refl
 
-pub timer-row : (n m : ℕ) (s : State) → AsksOf 8 n m s → Reply 8 s ≡ Some (start_timer n s)
+pub timer_row : (n m : ℕ) (s : State) → AsksOf 8 n m s → Reply 8 s ≡ Some (start_timer n s)
 unfolding Reply nucleus_arguments number_in
-timer-row n m s asks = let eax : s.thread.regs Eax ≡ Number n = asks OneNumber refl in rw eax refl
+timer_row n m s asks = let eax : s.thread.regs Eax ≡ Number n = asks OneNumber refl in rw eax refl
 
-pub eoi-row : (s : State) → Reply 9 s ≡ Some (send_eoi s)
+pub eoi_row : (s : State) → Reply 9 s ≡ Some (send_eoi s)
 unfolding Reply
-eoi-row s = refl
+eoi_row s = refl
 
 pub current-row : (s : State) → Reply 10 s ≡ Some (current_stack s)
 unfolding Reply
@@ -68,9 +68,9 @@ current-row s = refl
 -- ---- stacks
 
 -- a reply that changes nothing
-pub replies-alone : (image : ImageParts) (live : ℕ → Bool) (s : State) (v : NucleusView) (r : ℕ) (o : Option ReplyView) → NucleusStands image live s v
+pub replies_alone : (image : ImageParts) (live : ℕ → Bool) (s : State) (v : NucleusView) (r : ℕ) (o : Option ReplyView) → NucleusStands image live s v
     → o ≡ Some (Replies r s) → RepliesAt image live s r o v
-replies-alone image live s v r o stands is =
+replies_alone image live s v r o stands is =
     record { state = s; replies = is; nucleus = stands; kept = record { current = refl; values = refl; store = refl; same_turn = record { turns = refl; ending = refl } } }
 
 number-is : (places : List ℕ) (n : ℕ) (o : Option Stack) → number_of (option_map (state_by places n) o) ≡ state_number o
@@ -83,27 +83,27 @@ number-is places n (Some (InterruptedStack thread values)) = refl
 -- the state of the table at a number is that of the stack there
 pub state-at : (image : ImageParts) (live : ℕ → Bool) (s : State) (v : NucleusView) → NucleusStands image live s v → (n : ℕ)
     → slice_get v.stacks n ≡ option_map (state_by (places_of s) n) (slice_get s.stacks n)
-state-at image live s v stands n = rw stands.stacks (states-get (places_of s) 0 s.stacks n n (omega arith))
+state-at image live s v stands n = rw stands.stacks (states_get (places_of s) 0 s.stacks n n (omega arith))
 
 pub state-replies : (image : ImageParts) (live : ℕ → Bool) (s : State) (v : NucleusView) → NucleusStands image live s v → (n : ℕ)
     → RepliesAt image live s (number_of (slice_get v.stacks n)) (Some (get_stack_state n s)) v
 state-replies image live s v stands n =
-    replies-alone image live s v _ _ stands
+    replies_alone image live s v _ _ stands
     (ap (λ (k : ℕ). Some (Replies k s)) (sym (ap number_of (state-at image live s v stands n) ∙ number-is (places_of s) n (slice_get s.stacks n))))
 
 pub current-replies : (image : ImageParts) (live : ℕ → Bool) (s : State) (v : NucleusView) → TypedAmong image live s → NucleusStands image live s v → OneRuns v.stacks
     → RepliesAt image live s (current_of v.stacks) (Some (current_stack s)) v
 current-replies image live s v typed stands one =
-    replies-alone image live s v _ _ stands (ap (λ (k : ℕ). Some (Replies k s)) (sym (current-is typed stands one)))
+    replies_alone image live s v _ _ stands (ap (λ (k : ℕ). Some (Replies k s)) (sym (current-is typed stands one)))
 
 there-same : (places : List ℕ) (n : ℕ) (o : Option Stack) → is_some (option_map (state_by places n) o) ≡ is_some o
 there-same places n None = refl
 there-same places n (Some stack) = refl
 
 -- whether a yield is refused, on the table as in the state
-pub yield-is : (image : ImageParts) (live : ℕ → Bool) (s : State) (v : NucleusView) → TypedAmong image live s → NucleusStands image live s v → OneRuns v.stacks
+pub yield_is : (image : ImageParts) (live : ℕ → Bool) (s : State) (v : NucleusView) → TypedAmong image live s → NucleusStands image live s v → OneRuns v.stacks
     → (n : ℕ) → yield_to n s ≡ option_map_or (λ r. Replies r s) (yield_refusal v.stacks n) (YieldsTo n)
-yield-is image live s v typed stands one n =
+yield_is image live s v typed stands one n =
     let there : is_some (slice_get v.stacks n) ≡ is_some (slice_get s.stacks n) =
     ap (λ (o : Option StackState). is_some o) (state-at image live s v stands n) ∙ there-same (places_of s) n (slice_get s.stacks n) in
     rw (there, current-is typed stands one) (go (not (is_some (slice_get s.stacks n)) || n == s.current) (nat_lt 0 s.current && nat_lt 0 n))
@@ -114,10 +114,10 @@ yield-is image live s v typed stands one n =
     go false true = refl
     go false false = refl
 
-pub yield-refused : (image : ImageParts) (live : ℕ → Bool) (s : State) (v : NucleusView) → TypedAmong image live s → NucleusStands image live s v → OneRuns v.stacks
+pub yield_refused : (image : ImageParts) (live : ℕ → Bool) (s : State) (v : NucleusView) → TypedAmong image live s → NucleusStands image live s v → OneRuns v.stacks
     → (n r : ℕ) → yield_refusal v.stacks n ≡ Some r → RepliesAt image live s r (Some (yield_to n s)) v
-yield-refused image live s v typed stands one n r refused =
-    replies-alone image live s v _ _ stands (ap (λ (x : ReplyView). Some x) (yield-is image live s v typed stands one n ∙ rw refused refl))
+yield_refused image live s v typed stands one n r refused =
+    replies_alone image live s v _ _ stands (ap (λ (x : ReplyView). Some x) (yield_is image live s v typed stands one n ∙ rw refused refl))
 
 -- a call that yields does so in the state
 pub yields-row : (image : ImageParts) (live : ℕ → Bool) (s : State) (v : NucleusView) → TypedAmong image live s → NucleusStands image live s v → OneRuns v.stacks
@@ -127,7 +127,7 @@ yields-row image live s v typed stands one k n m yields asks = go (k == 3) refl 
     go : (b : Bool) → (k == 3) ≡ b → (o : Option ℕ) → yield_refusal v.stacks n ≡ o → (b && not (is_some o)) ≡ true → Reply k s ≡ Some (YieldsTo n)
     go true e None f h =
         let is : k ≡ 3 = grind (arith, nat_tests) in
-        rw is (yield-row n m s (rw is at asks) ∙ ap (λ (x : ReplyView). Some x) (yield-is image live s v typed stands one n ∙ rw f refl))
+        rw is (yield_row n m s (rw is at asks) ∙ ap (λ (x : ReplyView). Some x) (yield_is image live s v typed stands one n ∙ rw f refl))
     go true e (Some r) f h = absurd (cc)
     go false e o f h = absurd (cc)
 
@@ -149,7 +149,7 @@ emptied-stands image live s v h n inside = record {
   memory = restacked image live s (record s { stacks = slice_set s.stacks n EmptyStack }) v.memory h.memory refl refl
       (λ k there.
       values-emptied s n inside (λ xs. HoldsValues v.memory (places_of s) (stack_pointer k (length xs)) xs) k (λ j w e. absurd (cc)) (h.memory.stacks k there));
-  stacks = rw h.stacks (states-set (places_of s) 0 s.stacks n n EmptyStack (omega arith));
+  stacks = rw h.stacks (states_set (places_of s) 0 s.stacks n n EmptyStack (omega arith));
   starts = h.starts;
   devices = h.devices;
   marks = h.marks;
@@ -161,7 +161,7 @@ pub reset-by-application : (image : ImageParts) (live : ℕ → Bool) (s : State
 reset-by-application image live s v typed stands one n application =
     let current = current-is typed stands one in
     let e : nat_lt 0 s.current ≡ true = grind (arith, nat_tests) in
-    replies-alone image live s v _ _ stands (rw e refl)
+    replies_alone image live s v _ _ stands (rw e refl)
 
 reset-row-is : (s : State) (n : ℕ) → s.current ≡ 0 → reset_stack n s ≡ emptied n s (slice_get s.stacks n)
 reset-row-is s n kernel = rw kernel refl
@@ -169,7 +169,7 @@ reset-row-is s n kernel = rw kernel refl
 pub reset-of-none : (image : ImageParts) (live : ℕ → Bool) (s : State) (v : NucleusView) → TypedAmong image live s → NucleusStands image live s v → OneRuns v.stacks
     → (n : ℕ) → current_of v.stacks ≡ 0 → slice_get v.stacks n ≡ None → RepliesAt image live s 1 (Some (reset_stack n s)) v
 reset-of-none image live s v typed stands one n kernel none =
-    replies-alone image live s v _ _ stands (rw (reset-row-is s n (sym (current-is typed stands one) ∙ kernel)) (go (slice_get s.stacks n) (state-at image live s v stands n)))
+    replies_alone image live s v _ _ stands (rw (reset-row-is s n (sym (current-is typed stands one) ∙ kernel)) (go (slice_get s.stacks n) (state-at image live s v stands n)))
   where
     go : (o : Option Stack) → slice_get v.stacks n ≡ option_map (state_by (places_of s) n) o → Some (emptied n s o) ≡ Some (Replies 1 s)
     go None e = refl
@@ -180,7 +180,7 @@ pub reset-of-running : (image : ImageParts) (live : ℕ → Bool) (s : State) (v
 reset-of-running image live s v typed stands one n kernel is =
     let current = current-is typed stands one in
     let runs : slice_get s.stacks n ≡ Some RunningStack = rw (is ∙ current) typed.one in
-    replies-alone image live s v _ _ stands (rw (reset-row-is s n (sym current ∙ kernel), runs) refl)
+    replies_alone image live s v _ _ stands (rw (reset-row-is s n (sym current ∙ kernel), runs) refl)
 
 pub reset-replies : (image : ImageParts) (live : ℕ → Bool) (s : State) (v : NucleusView) → TypedAmong image live s → NucleusStands image live s v → OneRuns v.stacks
     → (n : ℕ) → current_of v.stacks ≡ 0 → n ≢ current_of v.stacks → (was : StackState) → slice_get v.stacks n ≡ Some was
@@ -250,10 +250,10 @@ some-below test (suc n) line below e = go (cases_eq line n) (λ inside. some-bel
     go (inr other) lower = rw (lower (omega arith)) refl
 
 -- a reply with which the devices change
-pub replies-by : (image : ImageParts) (live : ℕ → Bool) (s : State) (v : NucleusView) (r : ℕ) (o : Option ReplyView) (history : History) (devices : DevicesView)
+pub replies_by : (image : ImageParts) (live : ℕ → Bool) (s : State) (v : NucleusView) (r : ℕ) (o : Option ReplyView) (history : History) (devices : DevicesView)
     → NucleusStands image live s v → StandsFor devices history → o ≡ Some (Replies r (record s { devices = history }))
     → RepliesAt image live s r o (with_parts v v.memory v.stacks devices)
-replies-by image live s v r o history devices stands stand is = record {
+replies_by image live s v r o history devices stands stand is = record {
   state = record s { devices = history };
   replies = is;
   nucleus = devices-stand image live s v history devices stands stand;
@@ -265,43 +265,43 @@ pub write-replies : (image : ImageParts) (live : ℕ → Bool) (s : State) (v : 
     → nat_lt position CELLS ≡ true → StandsFor devices (Drew position (value % 2 ^ 16) ∷ s.devices)
     → RepliesAt image live s 0 (Some (vga_text_write position value s)) (with_parts v v.memory v.stacks devices)
 write-replies image live s v position value devices stands inside stand =
-    replies-by image live s v 0 _ (Drew position (value % 2 ^ 16) ∷ s.devices) devices stands stand (rw inside refl)
+    replies_by image live s v 0 _ (Drew position (value % 2 ^ 16) ∷ s.devices) devices stands stand (rw inside refl)
 
 pub write-refused : (image : ImageParts) (live : ℕ → Bool) (s : State) (v : NucleusView) (position value : ℕ) → NucleusStands image live s v
     → nat_lt position CELLS ≡ false → RepliesAt image live s 1 (Some (vga_text_write position value s)) v
-write-refused image live s v position value stands outside = replies-alone image live s v _ _ stands (rw outside refl)
+write-refused image live s v position value stands outside = replies_alone image live s v _ _ stands (rw outside refl)
 
 -- a code is taken, or none waits
 pub read-replies : (image : ImageParts) (live : ℕ → Bool) (s : State) (v : NucleusView) (code : ℕ) (devices : DevicesView) → NucleusStands image live s v
     → slice_get (waiting s.devices) 0 ≡ Some code → StandsFor devices (Took ∷ s.devices)
     → RepliesAt image live s code (Some (try_read_keyboard s)) (with_parts v v.memory v.stacks devices)
 read-replies image live s v code devices stands waits stand =
-    replies-by image live s v code _ (Took ∷ s.devices) devices stands stand (rw waits refl)
+    replies_by image live s v code _ (Took ∷ s.devices) devices stands stand (rw waits refl)
 
 pub read-none : (image : ImageParts) (live : ℕ → Bool) (s : State) (v : NucleusView) (devices : DevicesView) → NucleusStands image live s v
     → slice_get (waiting s.devices) 0 ≡ None → StandsFor devices s.devices → RepliesAt image live s 256 (Some (try_read_keyboard s)) (with_parts v v.memory v.stacks devices)
-read-none image live s v devices stands none stand = replies-by image live s v 256 _ s.devices devices stands stand (rw none refl)
+read-none image live s v devices stands none stand = replies_by image live s v 256 _ s.devices devices stands stand (rw none refl)
 
 -- a count is set, or it is none
-pub timer-replies : (image : ImageParts) (live : ℕ → Bool) (s : State) (v : NucleusView) (count : ℕ) (devices : DevicesView) → NucleusStands image live s v
+pub timer_replies : (image : ImageParts) (live : ℕ → Bool) (s : State) (v : NucleusView) (count : ℕ) (devices : DevicesView) → NucleusStands image live s v
     → 2 ≤ count → count ≤ 65536 → StandsFor devices (count_items count ++ s.devices)
     → RepliesAt image live s 0 (Some (start_timer count s)) (with_parts v v.memory v.stacks devices)
-timer-replies image live s v count devices stands low high stand =
+timer_replies image live s v count devices stands low high stand =
     let a : nat_le 2 count ≡ true = grind (arith, nat_tests) in
     let b : nat_le count 65536 ≡ true = grind (arith, nat_tests) in
-    replies-by image live s v 0 _ (count_items count ++ s.devices) devices stands stand (rw (a, b) refl)
+    replies_by image live s v 0 _ (count_items count ++ s.devices) devices stands stand (rw (a, b) refl)
 
-pub timer-refused : (image : ImageParts) (live : ℕ → Bool) (s : State) (v : NucleusView) (count : ℕ) → NucleusStands image live s v
+pub timer_refused : (image : ImageParts) (live : ℕ → Bool) (s : State) (v : NucleusView) (count : ℕ) → NucleusStands image live s v
     → (nat_le 2 count && nat_le count 65536) ≡ false → RepliesAt image live s 1 (Some (start_timer count s)) v
-timer-refused image live s v count stands out = replies-alone image live s v _ _ stands (rw out refl)
+timer_refused image live s v count stands out = replies_alone image live s v _ _ stands (rw out refl)
 
 -- the line in service of lowest number is so no more, or none is
-pub eoi-replies : (image : ImageParts) (live : ℕ → Bool) (s : State) (v : NucleusView) (devices : DevicesView) → NucleusStands image live s v
+pub eoi_replies : (image : ImageParts) (live : ℕ → Bool) (s : State) (v : NucleusView) (devices : DevicesView) → NucleusStands image live s v
     → any_below (is_served s.devices) 8 ≡ true → StandsFor devices (Wrote 0x20 0x20 ∷ s.devices)
     → RepliesAt image live s 0 (Some (send_eoi s)) (with_parts v v.memory v.stacks devices)
-eoi-replies image live s v devices stands some stand =
-    replies-by image live s v 0 _ (Wrote 0x20 0x20 ∷ s.devices) devices stands stand (rw some refl)
+eoi_replies image live s v devices stands some stand =
+    replies_by image live s v 0 _ (Wrote 0x20 0x20 ∷ s.devices) devices stands stand (rw some refl)
 
-pub eoi-refused : (image : ImageParts) (live : ℕ → Bool) (s : State) (v : NucleusView) → NucleusStands image live s v → any_below (is_served s.devices) 8 ≡ false
+pub eoi_refused : (image : ImageParts) (live : ℕ → Bool) (s : State) (v : NucleusView) → NucleusStands image live s v → any_below (is_served s.devices) 8 ≡ false
     → RepliesAt image live s 1 (Some (send_eoi s)) v
-eoi-refused image live s v stands none = replies-alone image live s v _ _ stands (rw none refl)
+eoi_refused image live s v stands none = replies_alone image live s v _ _ stands (rw none refl)

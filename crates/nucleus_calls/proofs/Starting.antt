@@ -37,15 +37,15 @@ first-stands image m starts devices index marks memory each stand marked live = 
   marks = marked;
 }
 
-replicate-count : (count : ℕ) (x : StackState) → length (replicate count x) ≡ count
-replicate-count zero x = refl
-replicate-count (suc count) x = ap suc (replicate-count count x)
+replicate_count : (count : ℕ) (x : StackState) → length (replicate count x) ≡ count
+replicate_count zero x = refl
+replicate_count (suc count) x = ap suc (replicate_count count x)
 
 pub first-kept : (image : ImageParts) (m : MemoryView) (starts : List ℕ) (devices : DevicesView) (index : List ℕ) (marks : List Bool) → ((live : ℕ → Bool) → MemoryStands image live (first_state image) m)
     → length starts ≡ image.stacks → 1 ≤ image.stacks → FreeLists index m.heap
     → IsNucleus (record { memory = m; stacks = Running ∷ replicate (image.stacks - 1) Empty; starts = starts; devices = devices; index = index; marks = marks })
 first-kept image m starts devices index marks memory count some lists =
-    let rest = replicate-count (image.stacks - 1) Empty in
+    let rest = replicate_count (image.stacks - 1) Empty in
     let same : length (Running ∷ replicate (image.stacks - 1) Empty) ≡ image.stacks = omega arith in
     record {
       room = λ a low high aligned. (memory all_objects).room a low (rw same at high) aligned;

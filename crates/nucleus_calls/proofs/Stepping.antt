@@ -13,10 +13,10 @@ use Rattle.word_machine.specs.Standing.{MemoryStands, WordsStand}
 use Rattle.word_machine.specs.Following.{StandsAt, Runs, Came}
 use Rattle.nucleus_calls.specs.Nucleus.{NucleusView, NucleusStands, IsNucleus}
 use Rattle.nucleus_calls.specs.Turning.{AtInstruction, MayStep, BothStand, Stepped}
-use Rattle.nucleus_calls.proofs.KeptParts.{KeepsRest, EffectKeeps, effect-keeps}
+use Rattle.nucleus_calls.proofs.KeptParts.{KeepsRest, EffectKeeps, effect_keeps}
 use Rattle.nucleus_calls.proofs.Switched.{count-is, current-is}
 use Rattle.nucleus_calls.proofs.Led.{with_parts}
-use Rattle.nucleus_calls.proofs.Keeping.{WritesKeepLists, lists-kept}
+use Rattle.nucleus_calls.proofs.Keeping.{WritesKeepLists, lists_kept}
 
 -- the words stand for the state at whose place the instruction is
 words-stand : (image : ImageParts) (live : ℕ → Bool) (s : State) (i : Inst) (len : ℕ) (cpu : Cpu) (v : NucleusView) → AtInstruction image live s i len cpu v → StandsAt image live s cpu v.memory i len
@@ -33,8 +33,8 @@ words-stand image live s i len cpu v h = record {
 }
 
 -- the instruction may run on the running stack
-pub may-run : (i : Inst) (len : ℕ) (cpu : Cpu) (v : NucleusView) → MayStep i len cpu v → OneRuns v.stacks → Runs (current_of v.stacks) i len cpu v.memory
-may-run i len cpu v (image, live, s, h) one =
+pub may_run : (i : Inst) (len : ℕ) (cpu : Cpu) (v : NucleusView) → MayStep i len cpu v → OneRuns v.stacks → Runs (current_of v.stacks) i len cpu v.memory
+may_run i len cpu v (image, live, s, h) one =
     (image, live, s, words-stand image live s i len cpu v h, sym (current-is h.before.typed h.before.nucleus one))
 
 -- what `advance` ensures
@@ -64,14 +64,14 @@ rest-stands image live s t v ran after h keeps words = record {
   };
 }
 
-came-stands : (image : ImageParts) (live : ℕ → Bool) (s : State) (v : NucleusView) (r : Step) (ran : Cpu) (after : MemoryView) → NucleusStands image live s v
+came_stands : (image : ImageParts) (live : ℕ → Bool) (s : State) (v : NucleusView) (r : Step) (ran : Cpu) (after : MemoryView) → NucleusStands image live s v
     → (o : Option EffectView) → EffectKeeps s o → Came r ran after image live s o → Stepped r ran (with_parts v after v.stacks v.devices) image live s o
-came-stands image live s v r ran after h None keeps came = came
-came-stands image live s v r ran after h (Some (Moves t)) keeps (is, words) =
+came_stands image live s v r ran after h None keeps came = came
+came_stands image live s v r ran after h (Some (Moves t)) keeps (is, words) =
     (is, rest-stands image live s t v ran after h keeps words, record { turns = keeps.turns; ending = keeps.ending })
-came-stands image live s v r ran after h (Some (Faults vector)) keeps (is, words) = (is, same-stands image live s v ran after h words)
-came-stands image live s v r ran after h (Some (Calls k)) keeps (is, words) = (is, same-stands image live s v ran after h words)
-came-stands image live s v r ran after h (Some Ends) keeps (is, words) = (is, same-stands image live s v ran after h words)
+came_stands image live s v r ran after h (Some (Faults vector)) keeps (is, words) = (is, same-stands image live s v ran after h words)
+came_stands image live s v r ran after h (Some (Calls k)) keeps (is, words) = (is, same-stands image live s v ran after h words)
+came_stands image live s v r ran after h (Some Ends) keeps (is, words) = (is, same-stands image live s v ran after h words)
 
 -- the instruction leads them as it leads the state
 pub step-leads : (i : Inst) (len : ℕ) (cpu : Cpu) (v : NucleusView) (r : Step) (ran : Cpu) (after : MemoryView) → OneRuns v.stacks
@@ -79,22 +79,22 @@ pub step-leads : (i : Inst) (len : ℕ) (cpu : Cpu) (v : NucleusView) (r : Step)
     → (image : ImageParts) (live : ℕ → Bool) (s : State) → AtInstruction image live s i len cpu v
     → Stepped r ran (with_parts v after v.stacks v.devices) image live s (Effect image s i len)
 step-leads i len cpu v r ran after one advances image live s h =
-    came-stands image live s v r ran after h.before.nucleus (Effect image s i len) (effect-keeps image s i len)
+    came_stands image live s v r ran after h.before.nucleus (Effect image s i len) (effect_keeps image s i len)
     (advances image live s (words-stand image live s i len cpu v h) (sym (current-is h.before.typed h.before.nucleus one)))
 
 -- the words still stand for some state
-came-memory : (image : ImageParts) (live : ℕ → Bool) (s : State) (r : Step) (ran : Cpu) (after : MemoryView) (o : Option EffectView) → Came r ran after image live s o
+came_memory : (image : ImageParts) (live : ℕ → Bool) (s : State) (r : Step) (ran : Cpu) (after : MemoryView) (o : Option EffectView) → Came r ran after image live s o
     → (t : State) × MemoryStands image live t after
-came-memory image live s r ran after None came = absurd came
-came-memory image live s r ran after (Some (Moves t)) (is, words) = (t, words.memory)
-came-memory image live s r ran after (Some (Faults vector)) (is, words) = (s, words.memory)
-came-memory image live s r ran after (Some (Calls k)) (is, words) = (s, words.memory)
-came-memory image live s r ran after (Some Ends) (is, words) = (s, words.memory)
+came_memory image live s r ran after None came = absurd came
+came_memory image live s r ran after (Some (Moves t)) (is, words) = (t, words.memory)
+came_memory image live s r ran after (Some (Faults vector)) (is, words) = (s, words.memory)
+came_memory image live s r ran after (Some (Calls k)) (is, words) = (s, words.memory)
+came_memory image live s r ran after (Some Ends) (is, words) = (s, words.memory)
 
 -- so each stack has all of its words
 pub step-kept : WritesKeepLists → (i : Inst) (len : ℕ) (cpu : Cpu) (v : NucleusView) (r : Step) (ran : Cpu) (after : MemoryView) → IsNucleus v → OneRuns v.stacks
     → MayStep i len cpu v → Advances i len (current_of v.stacks) cpu v.memory r ran after → HeapWritten v.memory.heap after.heap → IsNucleus (with_parts v after v.stacks v.devices)
 step-kept law i len cpu v r ran after kept one (image, live, s, h) advances written =
-    let t = came-memory image live s r ran after _ (advances image live s (words-stand image live s i len cpu v h) (sym (current-is h.before.typed h.before.nucleus one))) in
+    let t = came_memory image live s r ran after _ (advances image live s (words-stand image live s i len cpu v h) (sym (current-is h.before.typed h.before.nucleus one))) in
     let count = count-is h.before.typed h.before.nucleus in
-    record { room = λ a low high aligned. t.1.room a low (rw count at high) aligned; starts = kept.starts; lists = lists-kept law v.index v.memory.heap after.heap written kept.lists }
+    record { room = λ a low high aligned. t.1.room a low (rw count at high) aligned; starts = kept.starts; lists = lists_kept law v.index v.memory.heap after.heap written kept.lists }

@@ -22,7 +22,7 @@ use Rattle.word_machine.specs.Laws.{WordChanges, EmptyStacksAreFree}
 use Rattle.nucleus_calls.specs.Nucleus.{NucleusView, state_by, states_by, NucleusStands}
 use Rattle.nucleus_calls.specs.Turning.{SameTurn}
 use Rattle.nucleus_calls.specs.Calling.{fresh_cpu, GoesOn}
-use Rattle.nucleus_calls.proofs.Tables.{set-here, set-elsewhere, states-count, states-get, StackThere, stack-there, states-set}
+use Rattle.nucleus_calls.proofs.Tables.{set-here, set-elsewhere, states_count, states_get, StackThere, stack_there, states_set}
 use Rattle.nucleus_calls.proofs.Restacked.{restacked}
 use Rattle.nucleus_calls.proofs.Stores.{written-there}
 
@@ -42,24 +42,24 @@ next_state s left to thread values = put_away left to (runs thread values s)
 module _ {image : ImageParts} {live : ℕ → Bool} {s : State} {v : NucleusView} (typed : TypedAmong image live s) (stands : NucleusStands image live s v) where
   -- there are as many stacks as the image has
   pub count-is : length v.stacks ≡ image.stacks
-  count-is = rw stands.stacks (states-count (places_of s) 0 s.stacks ∙ typed.count)
+  count-is = rw stands.stacks (states_count (places_of s) 0 s.stacks ∙ typed.count)
 
   -- the running one is the state's
   pub current-is : OneRuns v.stacks → current_of v.stacks ≡ s.current
-  current-is one = sym (one.1 s.current (rw stands.stacks (states-get (places_of s) 0 s.stacks s.current s.current (omega arith) ∙ rw typed.one refl)))
+  current-is one = sym (one.1 s.current (rw stands.stacks (states_get (places_of s) 0 s.stacks s.current s.current (omega arith) ∙ rw typed.one refl)))
 
   -- what stands for a stack
   pub there-is : (n : ℕ) (state : StackState) → slice_get v.stacks n ≡ Some state → StackThere (places_of s) s.stacks n state
-  there-is n state h = stack-there (places_of s) s.stacks n state (rw stands.stacks at h)
+  there-is n state h = stack_there (places_of s) s.stacks n state (rw stands.stacks at h)
 
   module _ (to : ℕ) (other : to ≢ s.current) (inside : to < length s.stacks) (left : Stack) (keeps : KeepsValues s left) where
     -- the stacks' states
-    states-switched : current_of v.stacks ≡ s.current
+    states_switched : current_of v.stacks ≡ s.current
         → table.handed_over v.stacks (state_by (places_of s) s.current left) to ≡ states_by (places_of s) 0 (slice_set (slice_set s.stacks s.current left) to RunningStack)
-    states-switched current =
+    states_switched current =
         rw (current, stands.stacks)
-        (ap (λ (xs : List StackState). slice_set xs to Running) (states-set (places_of s) 0 s.stacks s.current s.current left (omega arith))
-        ∙ states-set (places_of s) 0 (slice_set s.stacks s.current left) to to RunningStack (omega arith))
+        (ap (λ (xs : List StackState). slice_set xs to Running) (states_set (places_of s) 0 s.stacks s.current s.current left (omega arith))
+        ∙ states_set (places_of s) 0 (slice_set s.stacks s.current left) to to RunningStack (omega arith))
 
     -- the table of stacks after it, at a stack that did not run and does not
     elsewhere : (n : ℕ) → n ≢ to → n ≢ s.current → slice_get (slice_set (slice_set s.stacks s.current left) to RunningStack) n ≡ slice_get s.stacks n
@@ -98,7 +98,7 @@ module _ {image : ImageParts} {live : ℕ → Bool} {s : State} {v : NucleusView
           (λ n there.
           values-switched (λ xs. HoldsValues after (places_of s) (stack_pointer n (length xs)) xs) thread values n (λ is. rw is holds) (λ k w h. absurd (cc))
           (memory.stacks n there));
-      stacks = states-switched current;
+      stacks = states_switched current;
       starts = stands.starts;
       devices = stands.devices;
       marks = stands.marks;

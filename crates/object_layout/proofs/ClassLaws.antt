@@ -14,8 +14,8 @@ use Rattle.object_layout.specs.Laws.{ClassLaws}
 use Rattle.object_layout.proofs.Tables.{table_word-at, display-word}
 use Rattle.object_layout.specs.Faults.{first_fault, is_front, keeps_methods}
 use Rattle.object_layout.proofs.Fronts.{is_front-refl, is_front-trans, is_front-get}
-use Rattle.object_layout.proofs.Lineages.{IsEarlierBelow, Descends, itself, under, descends-within, lineage-front}
-use Rattle.object_layout.proofs.Sound.{parents_earlier, classes-sound, classes-few, kinds-sound, kinds-few}
+use Rattle.object_layout.proofs.Lineages.{IsEarlierBelow, Descends, itself, under, descends_within, lineage-front}
+use Rattle.object_layout.proofs.Sound.{parents_earlier, classes_sound, classes_few, kinds-sound, kinds-few}
 
 -- the lineage of a class ends in it
 pub lineage-end : (s : ShapesView) (c : ℕ) → (front : List ℕ) × (lineage s c ≡ front ++ c ∷ [])
@@ -44,20 +44,20 @@ ancestor_at s k c d h l t =
     )
 
 -- what stands in a lineage is the class or an ancestor
-pub descends-at : (s : ShapesView) (c d i : ℕ) → i < length (lineage s c) → get_or (lineage s c) i 0 ≡ d → list_any (nat_eq d) (lineage s c) ≡ true
-descends-at s c d i l e = list_any_at (nat_eq d) (lineage s c) i 0 l (grind (arith, nat_tests))
+pub descends_at : (s : ShapesView) (c d i : ℕ) → i < length (lineage s c) → get_or (lineage s c) i 0 ≡ d → list_any (nat_eq d) (lineage s c) ≡ true
+descends_at s c d i l e = list_any_at (nat_eq d) (lineage s c) i 0 l (grind (arith, nat_tests))
 
 -- what `Below` says, as facts
 pub below-parts : (s : ShapesView) (c d : ℕ) → Below s c d ≡ true → (c < length s.classes) × Descends s c d
 unfolding Below lineage
 below-parts s c d h =
     let parts = and_parts (nat_lt c (length s.classes)) _ h in
-    (grind (arith, nat_tests), descends-within s (suc c) c d parts.1)
+    (grind (arith, nat_tests), descends_within s (suc c) c d parts.1)
 
 -- what stands in the lineage of a class is above it
 pub below-from : (s : ShapesView) (c d i : ℕ) → c < length s.classes → i < length (lineage s c) → get_or (lineage s c) i 0 ≡ d → Below s c d ≡ true
 unfolding Below
-below-from s c d i there l e = grind (arith, nat_tests, descends-at s c d i l e)
+below-from s c d i there l e = grind (arith, nat_tests, descends_at s c d i l e)
 
 -- an ancestor is above
 pub below-from_descends : (s : ShapesView) (c d : ℕ) → IsEarlierBelow s (length s.classes) → c < length s.classes → Descends s c d → Below s c d ≡ true
@@ -66,23 +66,23 @@ below-from_descends s c d h there t =
     below-from s c d (Depth s d) there (omega (arith, lineage-length s c)) a.1
 
 -- an ancestor is no later class
-pub descends-there : (s : ShapesView) (k c d : ℕ) → IsEarlierBelow s k → c < k → Descends s c d → d ≤ c
-descends-there s k _ _ h l (itself c) = omega arith
-descends-there s k _ _ h l (under c p d e t) = let less = h.earlier c p l e in omega (arith, descends-there s k p d h (omega arith) t)
+pub descends_there : (s : ShapesView) (k c d : ℕ) → IsEarlierBelow s k → c < k → Descends s c d → d ≤ c
+descends_there s k _ _ h l (itself c) = omega arith
+descends_there s k _ _ h l (under c p d e t) = let less = h.earlier c p l e in omega (arith, descends_there s k p d h (omega arith) t)
 
 -- an ancestor of an ancestor is an ancestor
-pub descends-trans : (s : ShapesView) (c d e : ℕ) → Descends s c d → Descends s d e → Descends s c e
-descends-trans s _ _ e (itself c) g = g
-descends-trans s _ _ e (under c p d x t) g = under c p e x (descends-trans s p d e t g)
+pub descends_trans : (s : ShapesView) (c d e : ℕ) → Descends s c d → Descends s d e → Descends s c e
+descends_trans s _ _ e (itself c) g = g
+descends_trans s _ _ e (under c p d x t) g = under c p e x (descends_trans s p d e t g)
 
 -- of two ancestors, one is below the other
-pub descends-tree : (s : ShapesView) (k c d e : ℕ) → IsEarlierBelow s k → c < k → k ≤ length s.classes → Descends s c d → Descends s c e
+pub descends_tree : (s : ShapesView) (k c d e : ℕ) → IsEarlierBelow s k → c < k → k ≤ length s.classes → Descends s c d → Descends s c e
     → Depth s e ≤ Depth s d → Below s d e ≡ true
-descends-tree s k c d e h l there t u less =
+descends_tree s k c d e h l there t u less =
     let a = ancestor_at s k c e h l u in
     let f = lineage-front s k c d h l t in
     let short : Depth s e < length (lineage s d) = omega (arith, lineage-length s d) in
-    let low = descends-there s k c d h l t in
+    let low = descends_there s k c d h l t in
     below-from s d e (Depth s e) (omega arith) short (sym (get_or_append_left (lineage s d) f.0 0 (Depth s e) short) ∙ sym (ap (λ xs. get_or xs (Depth s e) 0) f.1) ∙ a.1)
 
 -- the fields of an ancestor stand in front
@@ -104,18 +104,18 @@ unfolding keeps_methods
 signatures-front s _ _ sound l (itself c) = is_front-refl _
 signatures-front s _ _ sound l (under c p d e t) =
     let less = (parents_earlier s sound).earlier c p l e in
-    let kept = (classes-sound s sound c l).kept in
+    let kept = (classes_sound s sound c l).kept in
     is_front-trans _ (signatures s p) _ (signatures-front s p d sound (omega arith) t) (rw e at kept)
 
 -- the first rows of a table: a class with its lineage and its methods is small
 pub lineage-short : (s : ShapesView) (c : ℕ) → first_fault s ≡ None → c < length s.classes → length (lineage s c) ≤ 8
-lineage-short s c sound l = omega (arith, lineage-length s c, (classes-sound s sound c l).shallow)
+lineage-short s c sound l = omega (arith, lineage-length s c, (classes_sound s sound c l).shallow)
 
 -- the table of a class names its lineage
-display_words-law : (s : ShapesView) (c k : ℕ) → first_fault s ≡ None → c < length s.classes → k < 8 → table_word s c (3 + k) ≡ Some (get_or (map table_address (lineage s c)) k 0)
-display_words-law s c k sound l h =
+display_words_law : (s : ShapesView) (c k : ℕ) → first_fault s ≡ None → c < length s.classes → k < 8 → table_word s c (3 + k) ≡ Some (get_or (map table_address (lineage s c)) k 0)
+display_words_law s c k sound l h =
     let short = lineage-short s c sound l in
-    table_word-at s c (3 + k) _ l short (classes-sound s sound c l).few_methods (omega arith) (display-word s c k short h)
+    table_word-at s c (3 + k) _ l short (classes_sound s sound c l).few_methods (omega arith) (display-word s c k short h)
 
 -- the table of a class names each ancestor at its depth
 display-law : (s : ShapesView) (c d : ℕ) → first_fault s ≡ None → Below s c d ≡ true → table_word s c (3 + Depth s d) ≡ Some (table_address d)
@@ -126,7 +126,7 @@ display-law s c d sound h =
     let short = lineage-short s c sound p.0 in
     let a = ancestor_at s k c d earlier p.0 p.1 in
     let inside : Depth s d < length (lineage s c) = omega (arith, lineage-length s c) in
-    display_words-law s c (Depth s d) sound p.0 (omega arith)
+    display_words_law s c (Depth s d) sound p.0 (omega arith)
     ∙ ap Some (get_or-map table_address (lineage s c) (Depth s d) 0 0 inside ∙ ap table_address a.1)
 
 -- tables of two classes are apart
@@ -140,11 +140,11 @@ unfolding table_address
 table_address-above c = omega arith
 
 -- what the table of a class names at its depth is above the class
-displayed-law : (s : ShapesView) (c d : ℕ) → first_fault s ≡ None → c < length s.classes → d < length s.classes
+displayed_law : (s : ShapesView) (c d : ℕ) → first_fault s ≡ None → c < length s.classes → d < length s.classes
     → table_word s c (3 + Depth s d) ≡ Some (table_address d) → Below s c d ≡ true
-displayed-law s c d sound l m h =
-    let level : Depth s d < 8 = omega (arith, (classes-sound s sound d m).shallow) in
-    let word = display_words-law s c (Depth s d) sound l level in
+displayed_law s c d sound l m h =
+    let level : Depth s d < 8 = omega (arith, (classes_sound s sound d m).shallow) in
+    let word = display_words_law s c (Depth s d) sound l level in
     let same : get_or (map table_address (lineage s c)) (Depth s d) 0 ≡ table_address d = same_Some _ _ (sym word ∙ h) in
     ⊎_elim
     (λ (inside : Depth s d < length (lineage s c)).
@@ -178,24 +178,24 @@ tree-law s c d e sound h g =
     let earlier = parents_earlier s sound in
     let p = below-parts s c d h in let q = below-parts s c e g in
     ⊎_elim
-    (λ (less : Depth s e < Depth s d). inl (descends-tree s k c d e earlier p.0 (omega arith) p.1 q.1 (omega arith)))
-    (λ (less : Depth s d ≤ Depth s e). inr (descends-tree s k c e d earlier p.0 (omega arith) q.1 p.1 less))
+    (λ (less : Depth s e < Depth s d). inl (descends_tree s k c d e earlier p.0 (omega arith) p.1 q.1 (omega arith)))
+    (λ (less : Depth s d ≤ Depth s e). inr (descends_tree s k c e d earlier p.0 (omega arith) q.1 p.1 less))
     (cases_lt (Depth s e) (Depth s d))
 
 -- two classes that are below each other are one
-antisymmetric-law : (s : ShapesView) (c d : ℕ) → first_fault s ≡ None → Below s c d ≡ true → Below s d c ≡ true → c ≡ d
-antisymmetric-law s c d sound h g =
+antisymmetric_law : (s : ShapesView) (c d : ℕ) → first_fault s ≡ None → Below s c d ≡ true → Below s d c ≡ true → c ≡ d
+antisymmetric_law s c d sound h g =
     let k = length s.classes in
     let earlier = parents_earlier s sound in
     let p = below-parts s c d h in let q = below-parts s d c g in
-    let a = descends-there s k c d earlier p.0 p.1 in let b = descends-there s k d c earlier q.0 q.1 in
+    let a = descends_there s k c d earlier p.0 p.1 in let b = descends_there s k d c earlier q.0 q.1 in
     omega arith
 
 -- both classes are there
 pub there-law : (s : ShapesView) (c d : ℕ) → first_fault s ≡ None → Below s c d ≡ true → (c < length s.classes) × (d < length s.classes)
 there-law s c d sound h =
     let p = below-parts s c d h in
-    let a = descends-there s (length s.classes) c d (parents_earlier s sound) p.0 p.1 in
+    let a = descends_there s (length s.classes) c d (parents_earlier s sound) p.0 p.1 in
     (p.0, omega arith)
 
 -- rows without a fault meet the laws of classes
@@ -204,17 +204,17 @@ class-laws s sound = record {
   is_there = λ c d h. there-law s c d sound h;
   reflexive = λ c l. below-from_descends s c c (parents_earlier s sound) l (itself c);
   transitive = λ c d e h g. let p = below-parts s c d h in let q = below-parts s d e g in
-      below-from_descends s c e (parents_earlier s sound) p.0 (descends-trans s c d e p.1 q.1);
+      below-from_descends s c e (parents_earlier s sound) p.0 (descends_trans s c d e p.1 q.1);
   tree = λ c d e h g. tree-law s c d e sound h g;
-  antisymmetric = λ c d h g. antisymmetric-law s c d sound h g;
+  antisymmetric = λ c d h g. antisymmetric_law s c d sound h g;
   field_kept = λ c d byte t h e. field_law s c d byte t sound h e;
   slot_kept = λ c d byte g h e. slot_law s c d byte g sound h e;
-  few_classes = classes-few s sound;
+  few_classes = classes_few s sound;
   few_kinds = kinds-few s (length s.kinds) (kinds-sound s sound);
-  shallow = λ c l. (classes-sound s sound c l).shallow;
-  few_fields = λ c l. (classes-sound s sound c l).few_fields;
-  few_methods = λ c l. (classes-sound s sound c l).few_methods;
-  display_words = λ c k l h. display_words-law s c k sound l h;
+  shallow = λ c l. (classes_sound s sound c l).shallow;
+  few_fields = λ c l. (classes_sound s sound c l).few_fields;
+  few_methods = λ c l. (classes_sound s sound c l).few_methods;
+  display_words = λ c k l h. display_words_law s c k sound l h;
   display = λ c d h. display-law s c d sound h;
-  displayed = λ c d l m h. displayed-law s c d sound l m h;
+  displayed = λ c d l m h. displayed_law s c d sound l m h;
 }

@@ -84,9 +84,9 @@ unfolding first_fault
 no_fault s e f = rw (e, ← f) refl
 
 -- the first fault of the class rows is the first of all
-pub classes-fault : (s : ShapesView) (x : ShapeFault) → (x ≡ NoMemory) ⊎ (first_below (length s.classes) (class_fault s) ≡ Some x) → (x ≡ NoMemory) ⊎ (first_fault s ≡ Some x)
+pub classes_fault : (s : ShapesView) (x : ShapeFault) → (x ≡ NoMemory) ⊎ (first_below (length s.classes) (class_fault s) ≡ Some x) → (x ≡ NoMemory) ⊎ (first_fault s ≡ Some x)
 unfolding first_fault
-classes-fault s x h = ⊎_elim inl (λ e. inr (ap (λ o. option_or o (first_below (length s.kinds) (kind_fault s))) e)) h
+classes_fault s x h = ⊎_elim inl (λ e. inr (ap (λ o. option_or o (first_below (length s.kinds) (kind_fault s))) e)) h
 
 -- behind class rows without a fault, the first fault of the kind rows is the first of all
 pub kinds-fault : (s : ShapesView) (x : ShapeFault) → first_below (length s.classes) (class_fault s) ≡ None

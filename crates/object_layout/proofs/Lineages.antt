@@ -53,23 +53,23 @@ pub lineage-under : (s : ShapesView) (k c p : ℕ) → IsEarlierBelow s k → c 
 lineage-under s k c p h l e = rw (lineage-step s k c h l, e) refl
 
 -- what is equal to a class is the class itself
-descends-last : (s : ShapesView) (c d : ℕ) → (nat_eq d c || false) ≡ true → Descends s c d
-descends-last s c d e = let same : d ≡ c = grind (arith, nat_tests) in subst (λ x. Descends s c x) (sym same) (itself c)
+descends_last : (s : ShapesView) (c d : ℕ) → (nat_eq d c || false) ≡ true → Descends s c d
+descends_last s c d e = let same : d ≡ c = grind (arith, nat_tests) in subst (λ x. Descends s c x) (sym same) (itself c)
 
 -- what stands in the lineage of the parent is an ancestor
-descends-above : (s : ShapesView) (c d : ℕ) (f : ℕ → List ℕ) → ((p : ℕ) → list_any (nat_eq d) (f p) ≡ true → Descends s p d) → (o : Option ℕ)
+descends_above : (s : ShapesView) (c d : ℕ) (f : ℕ → List ℕ) → ((p : ℕ) → list_any (nat_eq d) (f p) ≡ true → Descends s p d) → (o : Option ℕ)
     → parent s c ≡ o → list_any (nat_eq d) (option_map_or f o []) ≡ true → Descends s c d
-descends-above s c d f ih None e g = absurd (grind arith)
-descends-above s c d f ih (Some p) e g = under c p d e (ih p g)
+descends_above s c d f ih None e g = absurd (grind arith)
+descends_above s c d f ih (Some p) e g = under c p d e (ih p g)
 
 -- what stands in a lineage is the class or an ancestor
-pub descends-within : (s : ShapesView) (n c d : ℕ) → list_any (nat_eq d) (lineage_within n s c) ≡ true → Descends s c d
+pub descends_within : (s : ShapesView) (n c d : ℕ) → list_any (nat_eq d) (lineage_within n s c) ≡ true → Descends s c d
 unfolding lineage_within
-descends-within s zero c d h = absurd (grind arith)
-descends-within s (suc n) c d h =
-    let ih : (p : ℕ) → list_any (nat_eq d) (lineage_within n s p) ≡ true → Descends s p d = λ p e. descends-within s n p d e in
+descends_within s zero c d h = absurd (grind arith)
+descends_within s (suc n) c d h =
+    let ih : (p : ℕ) → list_any (nat_eq d) (lineage_within n s p) ≡ true → Descends s p d = λ p e. descends_within s n p d e in
     let split = list_any-append (nat_eq d) (option_map_or (lineage_within n s) (parent s c) []) (c ∷ []) in
-    ⊎_elim (λ x. descends-above s c d (lineage_within n s) ih (parent s c) refl x) (λ x. descends-last s c d x) (or_cases _ _ (sym split ∙ h))
+    ⊎_elim (λ x. descends_above s c d (lineage_within n s) ih (parent s c) refl x) (λ x. descends_last s c d x) (or_cases _ _ (sym split ∙ h))
 
 -- the lineage of an ancestor is a front of the class's
 pub lineage-front : (s : ShapesView) (k c d : ℕ) → IsEarlierBelow s k → c < k → Descends s c d → (rest : List ℕ) × (lineage s c ≡ lineage s d ++ rest)

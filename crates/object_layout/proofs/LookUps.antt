@@ -14,7 +14,7 @@ use Rattle.object_layout.specs.declared.rows.KindRow.{KindRow}
 use Rattle.object_layout.specs.declared.rows.Shape.TheVariants.{Class, Kind}
 use Rattle.object_layout.specs.Faults.{first_fault, has_indexes}
 use Rattle.object_layout.specs.Layout.{IsLaid}
-use Rattle.object_layout.proofs.Sound.{parents_earlier, classes-sound}
+use Rattle.object_layout.proofs.Sound.{parents_earlier, classes_sound}
 use Rattle.object_layout.proofs.ClassLaws.{lineage-length, ancestor_at, below-parts, below-from, there-law}
 
 -- What the look-ups find where there is no class.
@@ -144,9 +144,9 @@ unfolding slot_at
 slot_at-no_word s c byte e = rw (← e) refl
 
 -- a slot's address, by its function
-pub address-method : (s : ShapesView) (c slot : ℕ)
+pub address_method : (s : ShapesView) (c slot : ℕ)
     → slice_index (map (λ f. (fun_row s f).address) (Methods s c)) slot ≡ option_map_or (λ (row : FunRow). row.address) (option_map (fun_row s) (slice_get (Methods s c) slot)) 0
-address-method s c slot = sym (unwrap_or-slice_get (map (λ f. (fun_row s f).address) (Methods s c)) slot 0) ∙ rw slice_get-map (two_maps (slice_get (Methods s c) slot))
+address_method s c slot = sym (unwrap_or-slice_get (map (λ f. (fun_row s f).address) (Methods s c)) slot 0) ∙ rw slice_get-map (two_maps (slice_get (Methods s c) slot))
   where
     two_maps : (o : Option ℕ) → unwrap_or (option_map (λ f. (fun_row s f).address) o) 0 ≡ option_map_or (λ (row : FunRow). row.address) (option_map (fun_row s) o) 0
     two_maps None = refl
@@ -155,7 +155,7 @@ address-method s c slot = sym (unwrap_or-slice_get (map (λ f. (fun_row s f).add
 -- the function in a slot is there
 pub method-there : (s : ShapesView) (c slot f : ℕ) (laid : LaidClass) → first_fault s ≡ None → IsLaid s c laid → Some f ≡ slice_get laid.row.methods slot → f < length s.funs
 method-there s c slot f laid sound h e =
-    let all = methods-named s c laid (classes-sound s sound c (slice_get_within _ _ _ h.row)).named h in
+    let all = methods-named s c laid (classes_sound s sound c (slice_get_within _ _ _ h.row)).named h in
     let inside = slice_get_within _ _ _ (sym e) in
     subst (λ x. x < length s.funs) (get_or_from_slice_get laid.row.methods slot f 0 (sym e)) (all slot 0 inside)
 
@@ -167,16 +167,16 @@ fun_row-read s f row l e = get_or_read s.funs f row l e _
 -- The words that an object needs.
 
 -- an object's need, by the fields that are kept
-pub need-class : (s : ShapesView) (c n : ℕ) (laid : LaidClass) → IsLaid s c laid → rounded_up (3 + length laid.fields) ≡ Need s (Class c) n
+pub need_class : (s : ShapesView) (c n : ℕ) (laid : LaidClass) → IsLaid s c laid → rounded_up (3 + length laid.fields) ≡ Need s (Class c) n
 unfolding Need
-need-class s c n laid h = rw h.whole refl
+need_class s c n laid h = rw h.whole refl
 
 -- an array's need
-pub need-kind : (s : ShapesView) (k n : ℕ) → rounded_up (4 + n) ≡ Need s (Kind k) n
+pub need_kind : (s : ShapesView) (k n : ℕ) → rounded_up (4 + n) ≡ Need s (Kind k) n
 unfolding Need
-need-kind s k n = refl
+need_kind s k n = refl
 
 -- the element type, by the row
-pub element-at : (s : ShapesView) (k : ℕ) (o : Option KindRow) → o ≡ slice_get s.kinds k → option_map (λ (row : KindRow). row.element) o ≡ Element s k
+pub element_at : (s : ShapesView) (k : ℕ) (o : Option KindRow) → o ≡ slice_get s.kinds k → option_map (λ (row : KindRow). row.element) o ≡ Element s k
 unfolding Element
-element-at s k o e = ap (option_map (λ (row : KindRow). row.element)) e
+element_at s k o e = ap (option_map (λ (row : KindRow). row.element)) e

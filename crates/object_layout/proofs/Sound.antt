@@ -80,13 +80,13 @@ unfolding parent
 parent-there s c p e = grind (arith, slice_get_cases s.classes c)
 
 -- in a table each class row is without a fault
-pub classes-sound : (s : ShapesView) → first_fault s ≡ None → (c : ℕ) → c < length s.classes → IsSoundClass s c
+pub classes_sound : (s : ShapesView) → first_fault s ≡ None → (c : ℕ) → c < length s.classes → IsSoundClass s c
 unfolding first_fault
-classes-sound s e c l = class-sound s c (first_below-none (length s.classes) (class_fault s) (or-none _ _ e).0 c l)
+classes_sound s e c l = class-sound s c (first_below-none (length s.classes) (class_fault s) (or-none _ _ e).0 c l)
 
 -- in a table each parent is an earlier class
 pub parents_earlier : (s : ShapesView) → first_fault s ≡ None → IsEarlierBelow s (length s.classes)
-parents_earlier s e = record { earlier = λ c p l h. earlier-fact s c p (classes-sound s e c l).earlier h }
+parents_earlier s e = record { earlier = λ c p l h. earlier-fact s c p (classes_sound s e c l).earlier h }
 
 -- kind row 256 is one too many
 no_row_256 : (s : ShapesView) → kind_fault s 256 ≡ None → ⊥
@@ -106,13 +106,13 @@ unfolding first_fault
 kinds-sound s e = (or-none _ _ e).1
 
 -- class rows without a fault are few
-pub classes-few_below : (s : ShapesView) (c : ℕ) → first_below c (class_fault s) ≡ None → c ≤ 1024
-classes-few_below s c e = ⊎_elim
+pub classes_few_below : (s : ShapesView) (c : ℕ) → first_below c (class_fault s) ≡ None → c ≤ 1024
+classes_few_below s c e = ⊎_elim
     (λ (past : 1024 < c). absurd (omega (arith, (class-sound s 1024 (first_below-none c (class_fault s) e 1024 past)).few_classes)))
     (λ (l : c ≤ 1024). l)
     (cases_lt 1024 c)
 
 -- a table has few classes
-pub classes-few : (s : ShapesView) → first_fault s ≡ None → length s.classes ≤ 1024
+pub classes_few : (s : ShapesView) → first_fault s ≡ None → length s.classes ≤ 1024
 unfolding first_fault
-classes-few s e = classes-few_below s (length s.classes) (or-none _ _ e).0
+classes_few s e = classes_few_below s (length s.classes) (or-none _ _ e).0

@@ -8,7 +8,7 @@ use Rattle.object_layout.specs.Areas.{table_address}
 use Rattle.object_layout.specs.Classes.{ShapesView, lineage, Methods, fun_row, table, table_word}
 use Rattle.object_layout.specs.Faults.{first_fault}
 use Rattle.object_layout.specs.Layout.{IsLaid}
-use Rattle.object_layout.proofs.Sound.{classes-sound}
+use Rattle.object_layout.proofs.Sound.{classes_sound}
 use Rattle.object_layout.proofs.Tables.{table_word-at, table_word-past, display-word, method-word}
 use Rattle.object_layout.proofs.LookUps.{lineage-laid, depth-laid, ancestor_laid}
 
@@ -18,7 +18,7 @@ use Rattle.object_layout.proofs.LookUps.{lineage-laid, depth-laid, ancestor_laid
 word-kept : (s : ShapesView) (c k x : ℕ) (laid : LaidClass) → first_fault s ≡ None → IsLaid s c laid → k < 64 → get_or (table s c) k 0 ≡ x → Some x ≡ table_word s c k
 word-kept s c k x laid sound h l e =
     let there = slice_get_within _ _ _ h.row in
-    sym (table_word-at s c k x there (omega (arith, lineage-laid s c laid h, h.shallow)) (classes-sound s sound c there).few_methods l e)
+    sym (table_word-at s c k x there (omega (arith, lineage-laid s c laid h, h.shallow)) (classes_sound s sound c there).few_methods l e)
 
 -- word 0 is the size of an object
 pub size-word : (s : ShapesView) (c : ℕ) (laid : LaidClass) → first_fault s ≡ None → IsLaid s c laid → Some (1 + length laid.fields) ≡ table_word s c 0
@@ -63,7 +63,7 @@ pub slot_word : (s : ShapesView) (c word : ℕ) (laid : LaidClass) → first_fau
     → Some (slice_index (map (λ f. (fun_row s f).address) (Methods s c)) (word - 11)) ≡ table_word s c word
 slot_word s c word laid sound h l m =
     let place : 11 + (word - 11) ≡ word = omega arith in
-    let few = (classes-sound s sound c (slice_get_within _ _ _ h.row)).few_methods in
+    let few = (classes_sound s sound c (slice_get_within _ _ _ h.row)).few_methods in
     word-kept s c (11 + (word - 11)) _ laid sound h (omega arith)
     (method-word s c (word - 11) (omega (arith, lineage-laid s c laid h, h.shallow)) few (omega arith))
     ∙ ap (table_word s c) place
@@ -71,5 +71,5 @@ slot_word s c word laid sound h l m =
 -- a table has 64 words
 pub no_word : (s : ShapesView) (c word : ℕ) (laid : LaidClass) → first_fault s ≡ None → IsLaid s c laid → 64 ≤ word → None ≡ table_word s c word
 no_word s c word laid sound h l =
-    let few = (classes-sound s sound c (slice_get_within _ _ _ h.row)).few_methods in
+    let few = (classes_sound s sound c (slice_get_within _ _ _ h.row)).few_methods in
     sym (table_word-past s c word (omega (arith, lineage-laid s c laid h, h.shallow)) few l)

@@ -51,8 +51,8 @@ writes-all ps new name part bytes made all room =
         subst (λ l. Writes (Some (files_of ps)) (Some (files_of (written ps name bytes))) name l) (take_all p.room bytes fits) (writes-place ps name bytes p found)
 
 -- Where a front of the bytes passes, the write leaves one, or nothing where no place has the name.
-pub leaves-front : (ps new : List FilePlace) (name part bytes : List ℕ) → new ≡ written ps name part → IsFront part bytes → LeavesFront (Some (files_of ps)) (Some (files_of new)) name bytes
-leaves-front ps new name part bytes made is_front = rw made (by_place (place_of ps name) refl)
+pub leaves_front : (ps new : List FilePlace) (name part bytes : List ℕ) → new ≡ written ps name part → IsFront part bytes → LeavesFront (Some (files_of ps)) (Some (files_of new)) name bytes
+leaves_front ps new name part bytes made is_front = rw made (by_place (place_of ps name) refl)
   where
     by_place : (o : Option FilePlace) → place_of ps name ≡ o → LeavesFront (Some (files_of ps)) (Some (files_of (written ps name part))) name bytes
     by_place None missing = inr (rw missing refl, ap (λ l. Some (files_of l)) (written-missing ps name part missing))

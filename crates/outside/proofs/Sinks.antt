@@ -8,8 +8,8 @@ use Rattle.outside.specs.Failing.{passing, through_at}
 use Rattle.outside.proofs.Fronts.{IsFront-take, IsFront-trans, IsFront-all}
 
 -- Filling with some of the bytes gains a front of them.
-pub gains-front : (old new : BytesInMemory) (part bytes : List ℕ) → new.bytes ≡ filled old part → IsFront part bytes → GainedFront (Some old.bytes) (Some new.bytes) bytes
-gains-front old new part bytes made is_front =
+pub gains_front : (old new : BytesInMemory) (part bytes : List ℕ) → new.bytes ≡ filled old part → IsFront part bytes → GainedFront (Some old.bytes) (Some new.bytes) bytes
+gains_front old new part bytes made is_front =
     (take (old.room - length old.bytes) part, IsFront-trans _ _ _ (IsFront-take _ part) is_front, ap (λ l. Some l) made)
 
 -- What passes at a call is a front of the bytes.
@@ -21,8 +21,8 @@ passing-front failing call bytes = by_row (through_at failing call)
     by_row (Some n) = IsFront-take n bytes
 
 -- Where all bytes pass and there is room, they are gained.
-pub gains-all : (old new : BytesInMemory) (part bytes : List ℕ) → new.bytes ≡ filled old part → part ≡ bytes → HasRoomFor old (length bytes) → Gained (Some old.bytes) (Some new.bytes) bytes
-gains-all old new part bytes made all room =
+pub gains_all : (old new : BytesInMemory) (part bytes : List ℕ) → new.bytes ≡ filled old part → part ≡ bytes → HasRoomFor old (length bytes) → Gained (Some old.bytes) (Some new.bytes) bytes
+gains_all old new part bytes made all room =
     let fits : length bytes ≤ old.room - length old.bytes = omega arith in
     ap (λ l. Some l) (made ∙ ap (λ l. filled old l) all ∙ ap (λ l. old.bytes ++ l) (take_all _ bytes fits))
 

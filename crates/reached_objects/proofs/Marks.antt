@@ -69,26 +69,26 @@ pub record Refers (s : ShapesView) (marks : List Bool) (store : Store) (j : ℕ)
   pub names : names (references_of s object) j ≡ true
 
 -- what a marked object refers to is collected
-pub refers-in : (s : ShapesView) (marks : List Bool) (store : Store) (i j : ℕ) (o : Object) → slice_index_or marks i false ≡ true → slice_get store i ≡ Some o → names (references_of s o) j ≡ true
+pub refers_in : (s : ShapesView) (marks : List Bool) (store : Store) (i j : ℕ) (o : Object) → slice_index_or marks i false ≡ true → slice_get store i ≡ Some o → names (references_of s o) j ≡ true
     → names (references_in s marks store) j ≡ true
-refers-in s [] store i j o m e h = absurd (false≢true m)
-refers-in s (b ∷ marks) [] i j o m e h = cc
-refers-in s (true ∷ marks) (p ∷ store) zero j o m e h = names-left (references_of s p) (references_in s marks store) j (let q : p ≡ o = cc in rw q h)
-refers-in s (true ∷ marks) (p ∷ store) (suc i) j o m e h = names-right (references_of s p) (references_in s marks store) j (refers-in s marks store i j o m e h)
-refers-in s (false ∷ marks) (p ∷ store) zero j o m e h = absurd (false≢true m)
-refers-in s (false ∷ marks) (p ∷ store) (suc i) j o m e h = refers-in s marks store i j o m e h
+refers_in s [] store i j o m e h = absurd (false≢true m)
+refers_in s (b ∷ marks) [] i j o m e h = cc
+refers_in s (true ∷ marks) (p ∷ store) zero j o m e h = names-left (references_of s p) (references_in s marks store) j (let q : p ≡ o = cc in rw q h)
+refers_in s (true ∷ marks) (p ∷ store) (suc i) j o m e h = names-right (references_of s p) (references_in s marks store) j (refers_in s marks store i j o m e h)
+refers_in s (false ∷ marks) (p ∷ store) zero j o m e h = absurd (false≢true m)
+refers_in s (false ∷ marks) (p ∷ store) (suc i) j o m e h = refers_in s marks store i j o m e h
 
 -- and nothing else
-pub in-refers : (s : ShapesView) (marks : List Bool) (store : Store) (j : ℕ) → names (references_in s marks store) j ≡ true → Refers s marks store j
-in-refers s [] store j h = absurd (false≢true h)
-in-refers s (b ∷ marks) [] j h = absurd (false≢true h)
-in-refers s (true ∷ marks) (p ∷ store) j h = go (names-split (references_of s p) (references_in s marks store) j h) (in-refers s marks store j)
+pub in_refers : (s : ShapesView) (marks : List Bool) (store : Store) (j : ℕ) → names (references_in s marks store) j ≡ true → Refers s marks store j
+in_refers s [] store j h = absurd (false≢true h)
+in_refers s (b ∷ marks) [] j h = absurd (false≢true h)
+in_refers s (true ∷ marks) (p ∷ store) j h = go (names-split (references_of s p) (references_in s marks store) j h) (in_refers s marks store j)
   where
     go : (names (references_of s p) j ≡ true) ⊎ (names (references_in s marks store) j ≡ true) → (names (references_in s marks store) j ≡ true → Refers s marks store j) → Refers s (true ∷ marks) (p ∷ store) j
     go (inl g) more = record { number = 0; object = p; marked = refl; is = refl; names = g }
     go (inr g) more = let q = more g in record { number = suc q.number; object = q.object; marked = q.marked; is = q.is; names = q.names }
-in-refers s (false ∷ marks) (p ∷ store) j h =
-    let q = in-refers s marks store j h in
+in_refers s (false ∷ marks) (p ∷ store) j h =
+    let q = in_refers s marks store j h in
     record { number = suc q.number; object = q.object; marked = q.marked; is = q.is; names = q.names }
 
 -- ---- more marks

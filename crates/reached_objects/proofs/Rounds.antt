@@ -6,7 +6,7 @@ use Rattle.typed_machine.specs.Stores.{Object, Store}
 use Rattle.typed_machine.specs.Reaching.{names, references_of, references_in, marks_of, marked, Reach}
 use Rattle.reached_objects.specs.ReachedFrom.{ReachedFrom}
 use Rattle.reached_objects.specs.ReachedFrom.ReachedFrom.{named, followed}
-use Rattle.reached_objects.proofs.Marks.{names-left, names-right, names-split, marks-at, marks-long, mark-inside, Refers, refers-in, in-refers, AreIn, marked_count, few-marked, same-or-more}
+use Rattle.reached_objects.proofs.Marks.{names-left, names-right, names-split, marks-at, marks-long, mark-inside, Refers, refers_in, in_refers, AreIn, marked_count, few-marked, same-or-more}
 
 module _ (s : ShapesView) (store : Store) (values : List Value) where
   -- the marks after so many rounds
@@ -46,7 +46,7 @@ module _ (s : ShapesView) (store : Store) (values : List Value) where
       choose : (names values i ≡ true) ⊎ (names (references_in s (after n) store) i ≡ true) → ((j : ℕ) → slice_index_or (after n) j false ≡ true → ReachedFrom s store values j) → ReachedFrom s store values i
       choose (inl h) before = named i inside h
       choose (inr h) before =
-          let q : Refers s (after n) store i = in-refers s (after n) store i h in
+          let q : Refers s (after n) store i = in_refers s (after n) store i h in
           followed q.number i q.object (before q.number q.marked) q.is inside q.names
 
   -- ---- rounds come to rest
@@ -64,8 +64,8 @@ module _ (s : ShapesView) (store : Store) (values : List Value) where
       choose : (names values i ≡ true) ⊎ (names (references_in s (after n) store) i ≡ true) → AreIn (after n) (after (suc n)) → names (collected (suc n)) i ≡ true
       choose (inl h) kept = names-left values (references_in s (after (suc n)) store) i h
       choose (inr h) kept =
-          let q : Refers s (after n) store i = in-refers s (after n) store i h in
-          names-right values (references_in s (after (suc n)) store) i (refers-in s (after (suc n)) store q.number i q.object (kept q.number q.marked) q.is q.names)
+          let q : Refers s (after n) store i = in_refers s (after n) store i h in
+          names-right values (references_in s (after (suc n)) store) i (refers_in s (after (suc n)) store q.number i q.object (kept q.number q.marked) q.is q.names)
 
   -- one round more leaves the marks, or adds one
   next-round : (n : ℕ) → (after n ≡ after (suc n)) ⊎ (marked_count (after n) < marked_count (after (suc n)))
@@ -106,7 +106,7 @@ module _ (s : ShapesView) (store : Store) (values : List Value) where
 
   complete : (i : ℕ) → ReachedFrom s store values i → slice_index_or (after (length store)) i false ≡ true
   complete i (named _ l h) = last-marks i l (names-left values (references_in s (after (length store)) store) i h)
-  complete j (followed i _ o r e l h) = last-marks j l (names-right values (references_in s (after (length store)) store) j (refers-in s (after (length store)) store i j o (complete i r) e h))
+  complete j (followed i _ o r e l h) = last-marks j l (names-right values (references_in s (after (length store)) store) j (refers_in s (after (length store)) store i j o (complete i r) e h))
 
 -- what is reached is the least set
 pub reach-least : (s : ShapesView) (store : Store) (values : List Value) (i : ℕ) → (Reach s store values i ≡ true) ↔ ReachedFrom s store values i

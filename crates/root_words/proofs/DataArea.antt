@@ -76,10 +76,10 @@ unfolding object_values head_values
 values-are o a e = rw e refl
 
 -- the same as an object of the store
-object-marked : (places : List ℕ) (s : ShapesView) (a : ArrayPart) (o : Object) (words : List ℕ) (marks : List Bool) → o.shape ≡ ArrayOf a.kind a.size
+object_marked : (places : List ℕ) (s : ShapesView) (a : ArrayPart) (o : Object) (words : List ℕ) (marks : List Bool) → o.shape ≡ ArrayOf a.kind a.size
     → length o.values ≡ a.size → Front words places (object_values o)
     → marked_words (array_marks s a ++ marks) words ≡ map (Word places) (references_of s o) ++ marked_words marks (drop (suc (suc a.size)) words)
-object-marked places s a o words marks e n h =
+object_marked places s a o words marks e n h =
     array-marked places s a o.values words marks n (rw (values-are o a e) at h)
     ∙ ap (λ shape. map (Word places) (references_from s shape 0 o.values) ++ marked_words marks (drop (suc (suc a.size)) words)) (sym e)
 
@@ -124,7 +124,7 @@ arrays-marked places s first start words (a ∷ arrays) (o ∷ store) h =
     let laid : IsLaid places first start words a start o = subst (λ p. IsLaid places first start words a start p) is found.2 in
     let at : first + (start - start) / 4 ≡ first = omega arith in
     let holds : Front (drop first words) places (object_values o) = front words places first (object_values o) (subst (λ n. WordsHold words places n (object_values o)) at laid.held) in
-    let one = object-marked places s a o (drop first words) (flat_map (array_marks s) arrays) laid.shape laid.count holds in
+    let one = object_marked places s a o (drop first words) (flat_map (array_marks s) arrays) laid.shape laid.count holds in
     let behind : drop (suc (suc a.size)) (drop first words) ≡ drop (first + array_room a) words =
     let e : suc (suc a.size) ≡ array_room a = omega arith in rw e (drop-drop (array_room a) first words) in
     let more = arrays-marked places s (first + array_room a) (start + 4 * array_room a) words arrays store (laid-behind places first start words a arrays o store h) in
@@ -161,9 +161,9 @@ module _ {image : ImageParts} {live : ℕ → Bool} {s : State} (area : List ℕ
       )
 
   -- the marked words of the data area are those of its references
-  pub data-listed : marked_words (data_marks image) area ≡ map (Word (places_of s)) (data_references image s)
+  pub data_listed : marked_words (data_marks image) area ≡ map (Word (places_of s)) (data_references image s)
   unfolding data_marks
-  data-listed =
+  data_listed =
       let v = (shown image).shapes in
       let first : Front area (places_of s) s.statics = front area (places_of s) 0 s.statics statics in
       statics-marked (places_of s) image.statics s.statics area (flat_map (array_marks v) image.arrays) typed.statics.count first

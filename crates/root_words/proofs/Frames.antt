@@ -138,12 +138,12 @@ module _ (l : Scope) (places : List ℕ) (rows : RowsTell l.image) where
       rw inside (walk-goes t row (slot + 1) us values (omega arith) h.1)
 
   -- the words of a whole stack are frames, from the place on where its top frame goes on
-  pub stack-goes : (t : Ty) (place : ℕ) (c : LiveContext) (values : List Value) → strongest_at l.image place ≡ Live c → FramesFit l t c.slots values
+  pub stack_goes : (t : Ty) (place : ℕ) (c : LiveContext) (values : List Value) → strongest_at l.image place ≡ Live c → FramesFit l t c.slots values
       → IsStack (frames_of l.image) place (map (Word places) values)
-  stack-goes t place c values e h = rw (rows place c e) (walk-goes t (row_in (Live c)) 0 c.slots values (rw (live-slots c) (omega arith)) h)
+  stack_goes t place c values e h = rw (rows place c e) (walk-goes t (row_in (Live c)) 0 c.slots values (rw (live-slots c) (omega arith)) h)
 
   -- and the walk lists the words of its references
-  pub stack-lists : (t : Ty) (place : ℕ) (c : LiveContext) (values : List Value) → strongest_at l.image place ≡ Live c → FramesFit l t c.slots values
+  pub stack_lists : (t : Ty) (place : ℕ) (c : LiveContext) (values : List Value) → strongest_at l.image place ≡ Live c → FramesFit l t c.slots values
       → references (frames_of l.image) place (map (Word places) values) ≡ map (Word places) (frame_references l.image (slots_at l.image place) values)
-  stack-lists t place c values e h =
+  stack_lists t place c values e h =
       rw (rows place c e, e) (walk-lists t (row_in (Live c)) 0 c.slots values (rw (live-slots c) (omega arith)) (bits-first (row_in (Live c)).refs c.slots (live-refs c)) h)

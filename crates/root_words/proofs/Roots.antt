@@ -15,7 +15,7 @@ use Rattle.typed_machine.specs.Reaching.{slots_at, frame_references, data_refere
 use Rattle.root_words.specs.Listing.{stack_words, states_words, root_words}
 use Rattle.root_words.specs.Standing.{StackHolds, CallStands}
 use Rattle.root_words.specs.Laws.{ListsRoots}
-use Rattle.root_words.proofs.DataArea.{data-listed}
+use Rattle.root_words.proofs.DataArea.{data_listed}
 use Rattle.root_words.proofs.Frames.{RowsTell, rows-tell}
 use Rattle.root_words.proofs.Stacks.{AllStand, is-walked, is-listed, all-walkable, all-listed, current-is}
 
@@ -42,7 +42,7 @@ module _ (law : RowsByAddress) (image : ImageParts) (live : ℕ → Bool) (t : T
     walked = rw current (is-walked (scope_of image live s) (places_of s) words rows s.current next _ c.caller.context s.values c.caller.here c.caller.frames c.caller.room c.running);
     walkable = rw c.states (all-walkable (scope_of image live s) (places_of s) words rows 0 s.stacks stand);
     listed =
-        rw (data-listed area c.typed c.statics c.arrays, caller-listed, others-listed)
+        rw (data_listed area c.typed c.statics c.arrays, caller-listed, others-listed)
         (ap (λ ws. ws ++ map (Word (places_of s)) (waiting_references image s))
         (sym (map-append (Word (places_of s)) (data_references image s) (frame_references image (slots_at image next) s.values)))
         ∙ sym (map-append (Word (places_of s)) (data_references image s ++ frame_references image (slots_at image next) s.values) (waiting_references image s)));

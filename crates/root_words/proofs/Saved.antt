@@ -33,16 +33,16 @@ module _ (places : List ℕ) (bits : ℕ) (c : LiveContext) (t : Thread) where
       go false = refl
 
   -- ESP is passed over
-  esp-step : (esp : ℕ) (words : List ℕ) → saved_references bits 4 (esp ∷ words) ≡ saved_references bits 5 words
-  esp-step esp words = go (nat_eq (bit_at bits 4) 1)
+  esp_step : (esp : ℕ) (words : List ℕ) → saved_references bits 4 (esp ∷ words) ≡ saved_references bits 5 words
+  esp_step esp words = go (nat_eq (bit_at bits 4) 1)
     where
       go : (b : Bool) → (if b && false then esp ∷ saved_references bits 5 words else saved_references bits 5 words) ≡ saved_references bits 5 words
       go true = refl
       go false = refl
 
-  pub saved-lists : (esp : ℕ) → bits ≡ reference_bits (register_types c)
+  pub saved_lists : (esp : ℕ) → bits ≡ reference_bits (register_types c)
       → saved_references bits 0 (register_words places t.regs esp) ≡ map (Word places) (register_references (Live c) t)
-  saved-lists esp e =
+  saved_lists esp e =
       let b0 = bits-first bits (register_types c) e in
       let b1 = bits-next bits 0 _ _ b0 in
       let b2 = bits-next bits 1 _ _ b1 in
@@ -55,7 +55,7 @@ module _ (places : List ℕ) (bits : ℕ) (c : LiveContext) (t : Thread) where
       let esi = step 6 Esi (Edi ∷ []) (w Edi ∷ []) _ b6 refl edi in
       let ebp = step 5 Ebp (Esi ∷ Edi ∷ []) (w Esi ∷ w Edi ∷ []) _ b5 refl esi in
       let behind = w Ebp ∷ w Esi ∷ w Edi ∷ [] in
-      let ebx = step 3 Ebx (Ebp ∷ Esi ∷ Edi ∷ []) (esp ∷ behind) _ b3 refl (esp-step esp behind ∙ ebp) in
+      let ebx = step 3 Ebx (Ebp ∷ Esi ∷ Edi ∷ []) (esp ∷ behind) _ b3 refl (esp_step esp behind ∙ ebp) in
       let edx = step 2 Edx (Ebx ∷ Ebp ∷ Esi ∷ Edi ∷ []) (w Ebx ∷ esp ∷ behind) _ b2 refl ebx in
       let ecx = step 1 Ecx (Edx ∷ Ebx ∷ Ebp ∷ Esi ∷ Edi ∷ []) (w Edx ∷ w Ebx ∷ esp ∷ behind) _ b1 refl edx in
       step 0 Eax (Ecx ∷ Edx ∷ Ebx ∷ Ebp ∷ Esi ∷ Edi ∷ []) (w Ecx ∷ w Edx ∷ w Ebx ∷ esp ∷ behind) _ b0 refl ecx

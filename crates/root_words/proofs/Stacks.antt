@@ -18,8 +18,8 @@ use Rattle.typed_machine.specs.Reaching.{slots_at, frame_references, register_re
 use Rattle.root_words.specs.Listing.{stack_index, stack_words, register_bits, saved_references, state_words, states_words, IsWalked, IsWalkable, AreWalkable}
 use Rattle.root_words.specs.Standing.{WordsHold, first_word, StackHolds, state_by, states_by}
 use Rattle.root_words.proofs.Words.{front, front-long, front-words}
-use Rattle.root_words.proofs.Frames.{RowsTell, live-regs, frames-some, stack-goes, stack-lists}
-use Rattle.root_words.proofs.Saved.{saved-lists}
+use Rattle.root_words.proofs.Frames.{RowsTell, live-regs, frames-some, stack_goes, stack_lists}
+use Rattle.root_words.proofs.Saved.{saved_lists}
 
 -- ---- the words of a stack
 
@@ -49,12 +49,12 @@ module _ (l : Scope) (places words : List ℕ) (rows : RowsTell l.image) where
           let long = front-long _ places values (front words places _ values holds) in
           let dropped = length-drop (first_word n (length values)) words in
           omega (arith, some, long, dropped, room);
-      frames = rw (words-are words places n values room holds) (stack-goes l places rows t place c values here frames);
+      frames = rw (words-are words places n values room holds) (stack_goes l places rows t place c values here frames);
     }
 
     pub is-listed : references (frames_of l.image) place (stack_words words n (stack_pointer n (length values)))
         ≡ map (Word places) (frame_references l.image (slots_at l.image place) values)
-    is-listed = rw (words-are words places n values room holds) (stack-lists l places rows t place c values here frames)
+    is-listed = rw (words-are words places n values room holds) (stack_lists l places rows t place c values here frames)
 
   -- ---- a stack that does not run
 
@@ -75,7 +75,7 @@ module _ (l : Scope) (places words : List ℕ) (rows : RowsTell l.image) where
   state-listed n (InterruptedStack thread values) fits holds =
       let saved : saved_references (register_bits (frames_of l.image) thread.place) 0 (register_words places thread.regs (stack_pointer n (length values)))
       ≡ map (Word places) (register_references (strongest_at l.image thread.place) thread) =
-      rw fits.here (saved-lists places _ fits.context thread (stack_pointer n (length values)) (bits-are thread.place fits.context fits.here)) in
+      rw fits.here (saved_lists places _ fits.context thread (stack_pointer n (length values)) (bits-are thread.place fits.context fits.here)) in
       rw (saved, is-listed n thread.place _ fits.context values fits.here fits.frames fits.room holds)
       (sym (map-append (Word places) (register_references (strongest_at l.image thread.place) thread) (frame_references l.image (slots_at l.image thread.place) values)))
 

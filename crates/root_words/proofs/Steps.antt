@@ -42,18 +42,18 @@ cut bits r regs l =
     ap (saved_references bits r) d
 
 -- a register that is no root is passed over
-pub saved-skip : (bits r : ℕ) (regs : List ℕ) (root : Bool) → r < length regs → (IsTrue root ↔ ((bit_at bits r ≡ 1) × (r ≢ 4))) → root ≡ false
+pub saved_skip : (bits r : ℕ) (regs : List ℕ) (root : Bool) → r < length regs → (IsTrue root ↔ ((bit_at bits r ≡ 1) × (r ≢ 4))) → root ≡ false
     → saved_references bits r (drop r regs) ≡ saved_references bits (r + 1) (drop (r + 1) regs)
-saved-skip bits r regs root l (a, b) e = cut bits r regs l ∙ rw (test-no bits r (λ h. let z : root ≡ true = b h in cc)) refl
+saved_skip bits r regs root l (a, b) e = cut bits r regs l ∙ rw (test-no bits r (λ h. let z : root ≡ true = b h in cc)) refl
 
 -- one that is a root comes first
-pub saved-take : (bits r : ℕ) (regs : List ℕ) (root : Bool) → r < length regs → (IsTrue root ↔ ((bit_at bits r ≡ 1) × (r ≢ 4))) → root ≡ true
+pub saved_take : (bits r : ℕ) (regs : List ℕ) (root : Bool) → r < length regs → (IsTrue root ↔ ((bit_at bits r ≡ 1) × (r ≢ 4))) → root ≡ true
     → saved_references bits r (drop r regs) ≡ get_or regs r 0 ∷ saved_references bits (r + 1) (drop (r + 1) regs)
-saved-take bits r regs root l (a, b) e = cut bits r regs l ∙ rw (test-yes bits r (a e)) refl
+saved_take bits r regs root l (a, b) e = cut bits r regs l ∙ rw (test-yes bits r (a e)) refl
 
 -- behind the last register there is none
-pub saved-end : (bits r : ℕ) (regs : List ℕ) → length regs ≤ r → saved_references bits r (drop r regs) ≡ []
-saved-end bits r regs h = rw (drop_of_length-le regs h) refl
+pub saved_end : (bits r : ℕ) (regs : List ℕ) → length regs ≤ r → saved_references bits r (drop r regs) ≡ []
+saved_end bits r regs h = rw (drop_of_length-le regs h) refl
 
 -- ---- stacks
 
@@ -71,9 +71,9 @@ pub words-cut : (table : List RowAt) (words : List ℕ) (n : ℕ) (xs : List Sta
     → rest_words table words n xs ≡ state_words table words n x ++ rest_words table words (n + 1) xs
 words-cut table words n xs x e = ap (states_words table words n) (next-at xs n x (sym e))
 
-pub walkable-cut : (table : List RowAt) (words : List ℕ) (n : ℕ) (xs : List StackState) (x : StackState) → Some x ≡ slice_get xs n → WalkableFrom table words n xs
+pub walkable_cut : (table : List RowAt) (words : List ℕ) (n : ℕ) (xs : List StackState) (x : StackState) → Some x ≡ slice_get xs n → WalkableFrom table words n xs
     → IsWalkable table words n x × WalkableFrom table words (n + 1) xs
-walkable-cut table words n xs x e h = subst (AreWalkable table words n) (next-at xs n x (sym e)) h
+walkable_cut table words n xs x e h = subst (AreWalkable table words n) (next-at xs n x (sym e)) h
 
 -- a word is taken from the stack that has come
 pub took : (old words stack rest first behind marked : List ℕ) (w : ℕ) → words ≡ old → words ≡ stack ++ rest → first ≡ stack → first ≡ w ∷ behind → marked ≡ []

@@ -27,7 +27,7 @@ use Rattle.tal_checker.proofs.FunctionSpans.{Covers, covered, begun_covered, num
 use Rattle.tal_checker.proofs.FormedCode.{HasCode, has_code}
 use Rattle.tal_checker.proofs.FirstRefusals.{OneRuleIsLeast}
 use Rattle.tal_checker.proofs.StrongestLaw.{RowsPass, none_fails}
-use Rattle.tal_checker.proofs.Edges.{EdgesFit, no_number, edges-fit, target-is, target-block, in-span}
+use Rattle.tal_checker.proofs.Edges.{EdgesFit, no_number, edges-fit, target_is, target_block, in_span}
 use Rattle.tal_checker.proofs.OwnContexts.{at-known, known-function, known-block}
 
 -- the laws on which runs rest
@@ -100,7 +100,7 @@ module _ (laws : RunLaws) (image : ImageParts) (w : WellTyped image) (k : HasCod
       let p = k.blocks to b here in
       let y = back to p.0.0 p.0.1 in
       let f = function from x e in
-      let s = in-span (shown image) from to f.0 f.1.here inside in
+      let s = in_span (shown image) from to f.0 f.1.here inside in
       let t : context_below (shown image).shapes (Live d) b ≡ true = rw here at fits in
       record {
         placed = p.0.0;
@@ -130,7 +130,7 @@ module _ (laws : RunLaws) (image : ImageParts) (w : WellTyped image) (k : HasCod
       let form = form_of (next_address x.pc x.len) x.inst in
       let f = fits-at pc x c e a in
       let here = (spot-of pc x e).address in
-      let block = target-block v x.pc to (target-is v c x.pc to form t f.operands) in
+      let block = target_block v x.pc to (target_is v c x.pc to form t f.operands) in
       let fits : edge_fits v.shapes (branching v c form) (v.block_at to) ≡ true = ap (λ (o : Option ℕ). edge_fits v.shapes (branching v c form) (option_and_then v.block_at o)) (sym t) ∙ f.branch in
       let fit : edge_fits v.shapes (Live d) (v.block_at to) ≡ true = ap (λ (q : ContextView). edge_fits v.shapes q (v.block_at to)) (sym b) ∙ fits in
       to-block pc to x d block.0.0 e (subst (λ (n : ℕ). in_function v n to ≡ true) here block.1) block.0.1 fit
@@ -169,7 +169,7 @@ module _ (laws : RunLaws) (image : ImageParts) (w : WellTyped image) (k : HasCod
       let inside : in_function v pc next ≡ true = subst (λ (m : ℕ). in_function v m next ≡ true) here (living d (in_function v x.pc next) alive) in
       let fit : edge_fits v.shapes (Live d) (v.block_at next) ≡ true = ap (λ (q : ContextView). edge_fits v.shapes q (v.block_at next)) (sym b) ∙ f.fall in
       let g = function pc x e in
-      let span = in-span v pc next g.0 g.1.here inside in
+      let span = in_span v pc next g.0 g.1.here inside in
       let before = span.1 in
       let end = g.1.within in
       let from = g.1.start in

@@ -47,24 +47,24 @@ edges-fit v c pc next form e = go (operand_rule v c pc form) refl e
         record { operands = p; branch = t.0; fall = t.1; stays = t.2 }
 
 -- a jump or a branch goes to a block of the function
-pub target-is : (v : ShownImage) (c : LiveContext) (pc to : ℕ) (form : Form) → target_of form ≡ Some to → operand_rule v c pc form ≡ None → has_block v pc to ≡ true
+pub target_is : (v : ShownImage) (c : LiveContext) (pc to : ℕ) (form : Form) → target_of form ≡ Some to → operand_rule v c pc form ≡ None → has_block v pc to ≡ true
 unfolding target_of operand_rule
-target-is v c pc to (Jump address) t e = test (has_block v pc address) None refl e
+target_is v c pc to (Jump address) t e = test (has_block v pc address) None refl e
   where
     test : (b : Bool) (more : Option RuleName) → has_block v pc address ≡ b → demand rule.Target b more ≡ None → has_block v pc to ≡ true
     test true more p e = let q : address ≡ to = cc in subst (λ (n : ℕ). has_block v pc n ≡ true) q p
     test false more p e = absurd cc
-target-is v c pc to (Branch condition address) t e = test (has_block v pc address) (demand rule.Condition (allows c.kind condition) None) refl e
+target_is v c pc to (Branch condition address) t e = test (has_block v pc address) (demand rule.Condition (allows c.kind condition) None) refl e
   where
     test : (b : Bool) (more : Option RuleName) → has_block v pc address ≡ b → demand rule.Target b more ≡ None → has_block v pc to ≡ true
     test true more p e = let q : address ≡ to = cc in subst (λ (n : ℕ). has_block v pc n ≡ true) q p
     test false more p e = absurd cc
-target-is v c pc to form t e = absurd cc
+target_is v c pc to form t e = absurd cc
 
 -- a target is a block
-pub target-block : (v : ShownImage) (pc to : ℕ) → has_block v pc to ≡ true → ((d : ContextView) × (v.block_at to ≡ Some d)) × (in_function v pc to ≡ true)
+pub target_block : (v : ShownImage) (pc to : ℕ) → has_block v pc to ≡ true → ((d : ContextView) × (v.block_at to ≡ Some d)) × (in_function v pc to ≡ true)
 unfolding has_block
-target-block v pc to e = go (v.block_at to) (in_function v pc to) refl refl e
+target_block v pc to e = go (v.block_at to) (in_function v pc to) refl refl e
   where
     go : (o : Option ContextView) (b : Bool) → v.block_at to ≡ o → in_function v pc to ≡ b → (is_some o && b) ≡ true
         → ((d : ContextView) × (v.block_at to ≡ Some d)) × (in_function v pc to ≡ true)
@@ -73,6 +73,6 @@ target-block v pc to e = go (v.block_at to) (in_function v pc to) refl refl e
     go None b p q e = absurd cc
 
 -- an address in the function that has the byte at another
-pub in-span : (v : ShownImage) (pc to : ℕ) (s : Span) → v.function_of pc ≡ Some s → in_function v pc to ≡ true → (s.start ≤ to) × (to < s.end)
+pub in_span : (v : ShownImage) (pc to : ℕ) (s : Span) → v.function_of pc ≡ Some s → in_function v pc to ≡ true → (s.start ≤ to) × (to < s.end)
 unfolding in_function
-in-span v pc to s e h = let k : (nat_le s.start to && nat_lt to s.end) ≡ true = rw e at h in (grind (arith, nat_tests), grind (arith, nat_tests))
+in_span v pc to s e h = let k : (nat_le s.start to && nat_lt to s.end) ≡ true = rw e at h in (grind (arith, nat_tests), grind (arith, nat_tests))

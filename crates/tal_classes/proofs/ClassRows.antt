@@ -24,7 +24,7 @@ use Rattle.unit_files.specs.declared.parts.UnitClass.{UnitClass}
 use Rattle.unit_files.specs.Formed.{IsMention, IsUnitClass, with_unit_class}
 use Rattle.tal_classes.specs.Members.{ClassSoFar, field_count, methods_of, class_begins, class_row}
 use Rattle.tal_classes.specs.Formed.{TypesKnown, AreDeclared, AreFirst, FitsBelow, AreClasses, function_sig}
-use Rattle.tal_classes.proofs.Rows.{each_after-push, after, there, last-or, front-get, last-get, same-head, same-tail}
+use Rattle.tal_classes.proofs.Rows.{each_after_push, after, there, last-or, front-get, last-get, same-head, same-tail}
 use Rattle.tal_classes.proofs.OpenClasses.{IsOpen, lines_kept}
 use Rattle.tal_classes.proofs.Ancestors.{bare, view_of, Earlier, same_depth, same_count, count_end, count_past}
 
@@ -244,7 +244,7 @@ with_class_kept m t functions names rows parent c name ext row h fits mention k 
     let fields : row.fields ≡ c.fields = ap (λ (r : ClassRow). r.fields) is in
     let methods : row.methods ≡ c.methods = ap (λ (r : ClassRow). r.methods) is in
     record {
-      formed = each_after-push with_unit_class (λ classes x. IsUnitClass names t functions classes x) [] rows new h.formed
+      formed = each_after_push with_unit_class (λ classes x. IsUnitClass names t functions classes x) [] rows new h.formed
           (record { mention = mention; row = subst (λ cs. IsClass t functions cs row) (sym (classes_after [] rows)) class });
       earlier = λ i p x at e. ⊎_elim (λ (old : slice_get rows i ≡ Some x). h.earlier i p x old e)
           (λ end. let lt : p < length rows = below_parent m rows parent fits p (sym up ∙ ap (λ (y : UnitClass). y.row.parent) end.1 ∙ e) in omega (arith, lt, end.0))

@@ -26,11 +26,11 @@ after step s [] = s
 after step s (x ∷ xs) = after step (step s x) xs
 
 -- one row more, which does not look at how many follow
-pub each_after-push : {S A : Type 0} (step : S → A → S) (P : S → A → Type 0) (s : S) (xs : List A) (x : A)
+pub each_after_push : {S A : Type 0} (step : S → A → S) (P : S → A → Type 0) (s : S) (xs : List A) (x : A)
     → EachAfter step (λ later kept y. P kept y) s xs → P (after step s xs) x → EachAfter step (λ later kept y. P kept y) s (xs ++ x ∷ [])
 unfolding after
-each_after-push step P s [] x h p = (p, tt)
-each_after-push step P s (y ∷ xs) x h p = (h.0, each_after-push step P (step s y) xs x h.1 p)
+each_after_push step P s [] x h p = (p, tt)
+each_after_push step P s (y ∷ xs) x h p = (h.0, each_after_push step P (step s y) xs x h.1 p)
 
 -- a row that is there
 pub there : {A : Type 0} (xs : List A) (i : ℕ) → i < length xs → (x : A) × (slice_get xs i ≡ Some x)

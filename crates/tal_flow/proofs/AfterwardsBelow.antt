@@ -104,25 +104,25 @@ module _ (types : TypeLaws) where
   with_slots-below s a b ts us h e = record { regs = h.regs; slots = e; kind = h.kind; pairs = h.pairs; heads = h.heads }
 
   -- a value is stored at a place that both have
-  store_slot-below : (s : ShapesView) (a b : LiveContext) (p q : Place) (t u : Ty) → LiveBelow s a b → PlaceBelow s p q → is_writable q ≡ true → sub s t u ≡ true
+  store_slot_below : (s : ShapesView) (a b : LiveContext) (p q : Place) (t u : Ty) → LiveBelow s a b → PlaceBelow s p q → is_writable q ≡ true → sub s t u ≡ true
       → LiveBelow s (store_place (Some p) t a) (store_place (Some q) u b)
-  store_slot-below s a b (Whole x) (Whole y) t u h e w f = h
-  store_slot-below s a b (Slot i) (Slot j) t u h e w f = rw e (with_slots-below s a b _ _ h (all_sub-set s a.slots b.slots j t u h.slots f))
-  store_slot-below s a b p q t u h e w f = absurd (grind arith)
+  store_slot_below s a b (Whole x) (Whole y) t u h e w f = h
+  store_slot_below s a b (Slot i) (Slot j) t u h e w f = rw e (with_slots-below s a b _ _ h (all_sub-set s a.slots b.slots j t u h.slots f))
+  store_slot_below s a b p q t u h e w f = absurd (grind arith)
 
   -- a value is stored at a place that the higher one may write
-  store_memory-below : (s : ShapesView) (a b : LiveContext) (p q : Option Place) (t u : Ty) → LiveBelow s a b → FoundBelow s p q → option_map_or is_writable q false ≡ true
+  store_memory_below : (s : ShapesView) (a b : LiveContext) (p q : Option Place) (t u : Ty) → LiveBelow s a b → FoundBelow s p q → option_map_or is_writable q false ≡ true
       → sub s t u ≡ true → LiveBelow s (store_place p t a) (store_place q u b)
-  store_memory-below s a b p None t u h e w f = absurd (grind arith)
-  store_memory-below s a b (Some p) (Some q) t u h e w f = store_slot-below s a b p q t u h e w f
-  store_memory-below s a b None (Some q) t u h e w f = absurd e
+  store_memory_below s a b p None t u h e w f = absurd (grind arith)
+  store_memory_below s a b (Some p) (Some q) t u h e w f = store_slot_below s a b p q t u h e w f
+  store_memory_below s a b None (Some q) t u h e w f = absurd e
 
   -- a lower value is stored in both
   pub store-below : (v : ShownImage) → ClassLaws v.shapes → (a b : LiveContext) (pc : ℕ) (d : Operand) (t u : Ty) → LiveBelow v.shapes a b → writable (resolve v b pc d) ≡ true
       → sub v.shapes t u ≡ true → LiveBelow v.shapes (store (resolve v a pc d) t a) (store (resolve v b pc d) u b)
   unfolding store writable operand_place
   store-below v l a b pc (R r) t u h w e = write-below v.shapes a b r t u h e
-  store-below v l a b pc (M m) t u h w e = store_memory-below v.shapes a b _ _ t u h (place-below types v.shapes l v.statics a b m h) w e
+  store-below v l a b pc (M m) t u h w e = store_memory_below v.shapes a b _ _ t u h (place-below types v.shapes l v.statics a b m h) w e
   store-below v l a b pc (I n) t u h w e = h
 
   -- the upper half of a wide result is written in both
@@ -138,11 +138,11 @@ module _ (types : TypeLaws) where
   give_kind-below s a b (Some k) h = with_kind-below s a b k k h (types.kinds_reflexive k)
 
   -- a kind that may not be there is below one that may not be there
-  kind_given-below : (j k : Option FlagKind) → KindBelow j k → kind_below (unwrap_or j Lost) (unwrap_or k Lost) ≡ true
+  kind_given_below : (j k : Option FlagKind) → KindBelow j k → kind_below (unwrap_or j Lost) (unwrap_or k Lost) ≡ true
   unfolding kind_below
-  kind_given-below j None h = refl
-  kind_given-below (Some j) (Some k) h = h
-  kind_given-below None (Some k) h = absurd h
+  kind_given_below j None h = refl
+  kind_given_below (Some j) (Some k) h = h
+  kind_given_below None (Some k) h = absurd h
 
   -- both learn of a head
   add_head-below : (s : ShapesView) (a b : LiveContext) (t r : Reg) → LiveBelow s a b → LiveBelow s (add_head t r a) (add_head t r b)
@@ -186,8 +186,8 @@ module _ (types : TypeLaws) where
       let w : writable (resolve v b pc d) ≡ true = grind arith in
       note_head-below v.shapes _ _ d _ _ (store-below v l a b pc d _ _ h w (operand_type-below types v l a b pc x h)) (operand_place-below types v l a b x h)
   after_form-below v l a b pc (Address r m) h one e = write-below v.shapes a b r Num Num h (types.types_reflexive v.shapes Num)
-  after_form-below v l a b pc (Compare d x) h one e = with_kind-below v.shapes a b _ _ h (kind_given-below _ _ (compare_kind-below types v l a b pc d x h one))
-  after_form-below v l a b pc (TestBits d x) h one e = with_kind-below v.shapes a b _ _ h (kind_given-below _ _ (test_kind-below types v l a b pc d x h))
+  after_form-below v l a b pc (Compare d x) h one e = with_kind-below v.shapes a b _ _ h (kind_given_below _ _ (compare_kind-below types v l a b pc d x h one))
+  after_form-below v l a b pc (TestBits d x) h one e = with_kind-below v.shapes a b _ _ h (kind_given_below _ _ (test_kind-below types v l a b pc d x h))
   after_form-below v l a b pc (PushOf x) h one e = with_slots-below v.shapes a b _ _ h (all_sub-push v.shapes _ _ a.slots b.slots (operand_type-below types v l a b pc x h) h.slots)
   after_form-below v l a b pc (PopTo r) h one e = pop_to-below v.shapes a b r h
   after_form-below v l a b pc (DropSlots n) h one e = with_kind-below v.shapes _ _ _ _ (with_slots-below v.shapes a b _ _ h (all_sub-drop v.shapes a.slots b.slots (unwrap_or (slots_in n) 0) h.slots)) (types.kinds_reflexive Lost)
@@ -247,9 +247,9 @@ module _ (types : TypeLaws) where
   within-tree s l c d e g h f = grind (arith, nat_tests, l.tree c d e)
 
   -- objects of a lower class are below those of a higher one
-  object-sub : (s : ShapesView) (c d : ℕ) → within s c d ≡ true → sub s (Obj c) (Obj d) ≡ true
+  object_sub : (s : ShapesView) (c d : ℕ) → within s c d ≡ true → sub s (Obj c) (Obj d) ≡ true
   unfolding sub
-  object-sub s c d h = h
+  object_sub s c d h = h
 
   -- each of two contexts is below, and so is the one that a test picks
   either-below : (s : ShapesView) (t : Bool) (c d b : ContextView) → (t ≡ true → ContextBelow s c b) → ContextBelow s d b → ContextBelow s (if t then c else d) b
@@ -271,25 +271,25 @@ module _ (types : TypeLaws) where
     where
       cases : (p q x y : Bool) → within s j d ≡ p → within s d j ≡ q → within s k d ≡ x → within s d k ≡ y
           → ContextBelow s (if p then Live (refine_reg r (Obj j) a) else if q then Live (refine_reg r (Obj d) a) else Dead) (if x then Live (refine_reg r (Obj k) b) else if y then Live (refine_reg r (Obj d) b) else Dead)
-      cases true q true y e1 e2 e3 e4 = refine_reg-below s a b r (Obj j) (Obj k) h (object-sub s j k e)
+      cases true q true y e1 e2 e3 e4 = refine_reg-below s a b r (Obj j) (Obj k) h (object_sub s j k e)
       cases false q true y e1 e2 e3 e4 = let g = types.within_transitive s l j k d e e3 in absurd (grind arith)
-      cases true q false true e1 e2 e3 e4 = refine_reg-below s a b r (Obj j) (Obj d) h (object-sub s j d e1)
-      cases false true false true e1 e2 e3 e4 = refine_reg-below s a b r (Obj d) (Obj d) h (object-sub s d d (types.within_reflexive s d))
+      cases true q false true e1 e2 e3 e4 = refine_reg-below s a b r (Obj j) (Obj d) h (object_sub s j d e1)
+      cases false true false true e1 e2 e3 e4 = refine_reg-below s a b r (Obj d) (Obj d) h (object_sub s d d (types.within_reflexive s d))
       cases false false false true e1 e2 e3 e4 = tt
       cases true q false false e1 e2 e3 e4 = let g = within-tree s l j k d e e1 e3 in absurd (grind arith)
       cases false true false false e1 e2 e3 e4 = let g = types.within_transitive s l d j k e2 e in absurd (grind arith)
       cases false false false false e1 e2 e3 e4 = tt
 
   -- an object is below what its reference is below
-  object-less : (s : ShapesView) (c : ℕ) (u : Ty) → sub s (Ref c) u ≡ true → sub s (Obj c) u ≡ true
+  object_less : (s : ShapesView) (c : ℕ) (u : Ty) → sub s (Ref c) u ≡ true → sub s (Obj c) u ≡ true
   unfolding sub
-  object-less s c u e = grind arith
+  object_less s c u e = grind arith
 
   -- a test of a register's class leaves the lower context below
   meet-less : (s : ShapesView) → ClassLaws s → (a b : LiveContext) (r : Reg) (t : Ty) (d : ℕ) → LiveBelow s a b → sub s t (b.regs r) ≡ true → ContextBelow s (meet s a r t d) (Live b)
   unfolding meet
   meet-less s l a b r (Obj k) d h e = meet_class-less s l a b r k d h e
-  meet-less s l a b r (Ref k) d h e = meet_class-less s l a b r k d h (object-less s k (b.regs r) e)
+  meet-less s l a b r (Ref k) d h e = meet_class-less s l a b r k d h (object_less s k (b.regs r) e)
   meet-less s l a b r t d h e = h
 
   -- a test of a register's class in both

@@ -32,8 +32,8 @@ module _ (types : TypeLaws) where
       (λ r. types.types_transitive s l _ (b.regs r) _ (h.regs r) (types.every_told (λ r. sub s (b.regs r) (register_type sig.params r)) r e))
 
   -- a call that does not fit is above each
-  misfit-above : (s : ShapesView) (p : Called) → CalledBelow s p Misfit
-  misfit-above s p = grind arith
+  misfit_above : (s : ShapesView) (p : Called) → CalledBelow s p Misfit
+  misfit_above s p = grind arith
 
   -- a call of the same signature, if there is one
   called_with-below : (s : ShapesView) → ClassLaws s → (a b : LiveContext) (o : Option Sig) → LiveBelow s a b → CalledBelow s (called_with s a o) (called_with s b o)
@@ -42,7 +42,7 @@ module _ (types : TypeLaws) where
     where
       go : (t : Bool) → (t ≡ true → arguments_fit s a sig ≡ true)
           → CalledBelow s (if arguments_fit s a sig then Gives sig.result else Misfit) (if t then Gives sig.result else Misfit)
-      go false f = misfit-above s (if arguments_fit s a sig then Gives sig.result else Misfit)
+      go false f = misfit_above s (if arguments_fit s a sig then Gives sig.result else Misfit)
       go true f = rw (f refl) (types.types_reflexive s sig.result)
 
   -- a call of the same signature

@@ -49,12 +49,12 @@ pub refined : (s t : ShapesView) (c : LiveContext) (k : FlagKind) (e f : Told) �
 refined s t c k e f p q = rw (p, q) refl
 
 -- an instruction that is no jump or branch fits whatever stands anywhere
-pub elsewhere-fits : (v : ShownImage) (c : LiveContext) (f : Form) → ((t : ℕ) → f ≡ Jump t → ⊥) → ((k : Cond) (t : ℕ) → f ≡ Branch k t → ⊥)
+pub elsewhere_fits : (v : ShownImage) (c : LiveContext) (f : Form) → ((t : ℕ) → f ≡ Jump t → ⊥) → ((k : Cond) (t : ℕ) → f ≡ Branch k t → ⊥)
     → true ≡ edge_fits v.shapes (branching v c f) (option_and_then v.block_at (target_of f))
 unfolding edge_fits branching target_of
-elsewhere-fits v c (Jump t) j b = absurd (j t refl)
-elsewhere-fits v c (Branch k t) j b = absurd (b k t refl)
-elsewhere-fits v c f j b = refl
+elsewhere_fits v c (Jump t) j b = absurd (j t refl)
+elsewhere_fits v c (Branch k t) j b = absurd (b k t refl)
+elsewhere_fits v c f j b = refl
 
 -- it falls through with what it leaves
 pub left-falls : (v : ShownImage) (c : LiveContext) (pc : ℕ) (f : Form) (seen : Seen) (d : Context) → d.dead ≡ false → live_of d ≡ left_by seen c → seen ≡ see v c pc f
@@ -130,9 +130,9 @@ unfolding branches_to
 live-branches v d f e = rw (live-context d e) refl
 
 -- a jump takes along what is known before it
-pub jump-branches : (v : ShownImage) (d : Context) (f : Form) (t : ℕ) → d.dead ≡ false → f ≡ Jump t → context_of d ≡ branches_to v (context_of d) f
+pub jump_branches : (v : ShownImage) (d : Context) (f : Form) (t : ℕ) → d.dead ≡ false → f ≡ Jump t → context_of d ≡ branches_to v (context_of d) f
 unfolding branching
-jump-branches v d f t e is = live-context d e ∙ sym (live-branches v d f e ∙ ap (branching v (live_of d)) is)
+jump_branches v d f t e is = live-context d e ∙ sym (live-branches v d f e ∙ ap (branching v (live_of d)) is)
 
 -- a branch takes along what is refined
 pub taken-branches : (v : ShownImage) (d : Context) (f : Form) (k : Cond) (t : ℕ) (c : ContextView) → d.dead ≡ false → f ≡ Branch k t
@@ -180,10 +180,10 @@ whole-branch v c pc f inst len o is h =
     subst (λ x. MatchOption o (branches_to v c x ≡ Dead) (λ b. (target_of x ≡ Some b.0) × (context_of b.1 ≡ branches_to v c x) × (b.1.dead ≡ false))) is h
 
 -- the annotation at a jump's target
-pub jump-fits : (v : ShownImage) (d : Context) (f : Form) (t : ℕ) (b : Bool) → d.dead ≡ false → f ≡ Jump t → b ≡ edge_fits v.shapes (context_of d) (v.block_at t)
+pub jump_fits : (v : ShownImage) (d : Context) (f : Form) (t : ℕ) (b : Bool) → d.dead ≡ false → f ≡ Jump t → b ≡ edge_fits v.shapes (context_of d) (v.block_at t)
     → b ≡ edge_fits v.shapes (branching v (live_of d) f) (option_and_then v.block_at (target_of f))
 unfolding branching target_of
-jump-fits v d f t b e is h = rw is (h ∙ ap (λ x. edge_fits v.shapes x (v.block_at t)) (live-context d e))
+jump_fits v d f t b e is h = rw is (h ∙ ap (λ x. edge_fits v.shapes x (v.block_at t)) (live-context d e))
 
 -- the annotation at a branch's target
 pub taken-fits : (v : ShownImage) (d : Context) (f : Form) (k : Cond) (t : ℕ) (taken : ContextView) (b : Bool) → f ≡ Branch k t

@@ -28,8 +28,8 @@ unfolding same
 kept_type-set xs r q t h = grind (arith, common_steps)
 
 -- ESP's type, when another register is written
-pub esp-kept : (xs : List Ty) (r : Reg) (t : Ty) → length xs ≡ 8 → (r ≡ Esp → t ≡ Junk) → get_or xs 4 Junk ≡ Junk → get_or (set xs (number r) t) 4 Junk ≡ Junk
-esp-kept xs r t h f e = grind (arith, common_steps)
+pub esp_kept : (xs : List Ty) (r : Reg) (t : Ty) → length xs ≡ 8 → (r ≡ Esp → t ≡ Junk) → get_or xs 4 Junk ≡ Junk → get_or (set xs (number r) t) 4 Junk ≡ Junk
+esp_kept xs r t h f e = grind (arith, common_steps)
 
 -- the two tests say the same
 abbrev pub agrees : Bool → Bool → Bool
@@ -144,10 +144,10 @@ take-pushed (y ∷ ys) xs d t l m h e f =
     rw (add-one d) (ap (λ z. z ∷ take d ys) e ∙ ap (λ zs. t ∷ zs) (take-alike d ys xs (omega arith) (omega arith) (λ k i. next_of_front ys y k ∙ f k (omega arith))))
 
 -- the places behind them are Junk
-pub junk-pushed : (ys xs : List Ty) (d k : ℕ) → length ys ≡ 64 → length xs ≡ 64 → ((k : ℕ) → k < 63 → get_or ys (k + 1) Junk ≡ get_or xs k Junk)
+pub junk_pushed : (ys xs : List Ty) (d k : ℕ) → length ys ≡ 64 → length xs ≡ 64 → ((k : ℕ) → k < 63 → get_or ys (k + 1) Junk ≡ get_or xs k Junk)
     → ((k : ℕ) → d ≤ k → get_or xs k Junk ≡ Junk) → d + 1 ≤ k → get_or ys k Junk ≡ Junk
-junk-pushed ys xs d zero l m f j h = absurd (omega arith)
-junk-pushed ys xs d (suc k) l m f j h = go (nat_lt k 63) refl
+junk_pushed ys xs d zero l m f j h = absurd (omega arith)
+junk_pushed ys xs d (suc k) l m f j h = go (nat_lt k 63) refl
   where
     go : (t : Bool) → nat_lt k 63 ≡ t → get_or ys (suc k) Junk ≡ Junk
     go true e = let low : k < 63 = grind (arith, nat_tests) in (rw (add-one k) at (f k low)) ∙ j k (omega arith)
@@ -203,9 +203,9 @@ kept_type-first t Esi = refl
 kept_type-first t Edi = refl
 
 -- ESP's type, when a register other than ESP is written
-pub esp-other : (xs : List Ty) (r : Reg) (t : Ty) → length xs ≡ 8 → same r Esp ≡ false → get_or xs 4 Junk ≡ Junk → get_or (set xs (number r) t) 4 Junk ≡ Junk
+pub esp_other : (xs : List Ty) (r : Reg) (t : Ty) → length xs ≡ 8 → same r Esp ≡ false → get_or xs 4 Junk ≡ Junk → get_or (set xs (number r) t) 4 Junk ≡ Junk
 unfolding same
-esp-other xs r t h f e = grind (arith, common_steps)
+esp_other xs r t h f e = grind (arith, common_steps)
 
 -- the depth of a context is the number of its slots
 pub depth-of : (c : Context) → length c.slots ≡ 64 → length (live_of c).slots ≡ c.depth

@@ -109,15 +109,15 @@ module _ (types : TypeLaws) where
   meet-esp s c r t d e h = h
 
   -- the type of a register that is ESP
-  esp-type : (c : LiveContext) (r : Reg) → c.regs Esp ≡ Junk → r ≡ Esp → c.regs r ≡ Junk
-  esp-type c r h e = rw e h
+  esp_type : (c : LiveContext) (r : Reg) → c.regs Esp ≡ Junk → r ≡ Esp → c.regs r ≡ Junk
+  esp_type c r h e = rw e h
 
   -- refinement
   refine-esp : (s : ShapesView) (c : LiveContext) (k : FlagKind) (told : Told) → c.regs Esp ≡ Junk → HasJunkEsp (refine s c k told)
   unfolding refine add_pair
-  refine-esp s c (NullTest r) Unequal h = refine_reg-esp c r (not_null (c.regs r)) (λ e. not_null-junk (c.regs r) (esp-type c r h e)) h
+  refine-esp s c (NullTest r) Unequal h = refine_reg-esp c r (not_null (c.regs r)) (λ e. not_null-junk (c.regs r) (esp_type c r h e)) h
   refine-esp s c (Bound i a) Below h = h
-  refine-esp s c (IsA r d) Equal h = meet-esp s c r (c.regs r) d (esp-type c r h) h
+  refine-esp s c (IsA r d) Equal h = meet-esp s c r (c.regs r) d (esp_type c r h) h
   refine-esp s c k told h = h
 
   -- what falls through, where no rule fails

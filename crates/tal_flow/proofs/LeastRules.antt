@@ -94,24 +94,24 @@ first-of-form v Dead pc next form = refl
 first-of-form v (Live c) pc next form = sym (first-append (operand_trials c (see v c pc form)) (edge_trials v c pc next form))
 
 -- each form's rules are tried in their order
-form-ascends : (v : ShownImage) (c : ContextView) (pc next : ℕ) (form : Form) → ascends 0 (trials v c pc next form) ≡ true
+form_ascends : (v : ShownImage) (c : ContextView) (pc next : ℕ) (form : Form) → ascends 0 (trials v c pc next form) ≡ true
 unfolding rule_number
-form-ascends v Dead pc next form = refl
-form-ascends v (Live c) pc next Refused = refl
-form-ascends v (Live c) pc next (Compute sources d wide kind) = refl
-form-ascends v (Live c) pc next (Move d x) = refl
-form-ascends v (Live c) pc next (Address r m) = refl
-form-ascends v (Live c) pc next (Compare d x) = refl
-form-ascends v (Live c) pc next (TestBits d x) = refl
-form-ascends v (Live c) pc next (PushOf x) = refl
-form-ascends v (Live c) pc next (PopTo r) = refl
-form-ascends v (Live c) pc next (DropSlots bytes) = refl
-form-ascends v (Live c) pc next (CallTo address) = refl
-form-ascends v (Live c) pc next (CallBy x) = refl
-form-ascends v (Live c) pc next Return = refl
-form-ascends v (Live c) pc next (Jump address) = refl
-form-ascends v (Live c) pc next (Branch condition address) = refl
-form-ascends v (Live c) pc next Nothing = refl
+form_ascends v Dead pc next form = refl
+form_ascends v (Live c) pc next Refused = refl
+form_ascends v (Live c) pc next (Compute sources d wide kind) = refl
+form_ascends v (Live c) pc next (Move d x) = refl
+form_ascends v (Live c) pc next (Address r m) = refl
+form_ascends v (Live c) pc next (Compare d x) = refl
+form_ascends v (Live c) pc next (TestBits d x) = refl
+form_ascends v (Live c) pc next (PushOf x) = refl
+form_ascends v (Live c) pc next (PopTo r) = refl
+form_ascends v (Live c) pc next (DropSlots bytes) = refl
+form_ascends v (Live c) pc next (CallTo address) = refl
+form_ascends v (Live c) pc next (CallBy x) = refl
+form_ascends v (Live c) pc next Return = refl
+form_ascends v (Live c) pc next (Jump address) = refl
+form_ascends v (Live c) pc next (Branch condition address) = refl
+form_ascends v (Live c) pc next Nothing = refl
 
 -- the rule of an instruction is the number of the first that fails of those that are tried
 first-of : (v : ShownImage) (c : ContextView) (pc : ℕ) (inst : Inst) (len : ℕ)
@@ -134,20 +134,20 @@ module _ (v : ShownImage) (c : ContextView) (pc : ℕ) (inst : Inst) (len : ℕ)
   tried = trials v c pc (next_address pc len) (form_of (next_address pc len) inst)
 
   -- the number of the first rule that fails is the least that does
-  least-first : (n : ℕ) (o : Option RuleName) → first_failing tried ≡ o → option_map rule_number o ≡ Some n → LeastIn tried n
-  least-first n None f e = absurd cc
-  least-first n (Some r) f e =
-      subst (LeastIn tried) (same_Some (rule_number r) n e) (first-least 0 r tried (form-ascends v c pc (next_address pc len) (form_of (next_address pc len) inst)) f)
+  least_first : (n : ℕ) (o : Option RuleName) → first_failing tried ≡ o → option_map rule_number o ≡ Some n → LeastIn tried n
+  least_first n None f e = absurd cc
+  least_first n (Some r) f e =
+      subst (LeastIn tried) (same_Some (rule_number r) n e) (first-least 0 r tried (form_ascends v c pc (next_address pc len) (form_of (next_address pc len) inst)) f)
 
   -- the rule of an instruction is the least that fails at it
-  pub rule-least : (n : ℕ) → rule_of v c pc inst len ≡ Some n → LeastRule v c pc inst len n
-  rule-least n e =
-      let l = least-first n (first_failing tried) refl (sym (first-of v c pc inst len) ∙ e) in
+  pub rule_least : (n : ℕ) → rule_of v c pc inst len ≡ Some n → LeastRule v c pc inst len n
+  rule_least n e =
+      let l = least_first n (first_failing tried) refl (sym (first-of v c pc inst len) ∙ e) in
       record { fails = l.fails; least = λ m k f. not-both (fails_in tried m) (l.least m k) f }
 
   -- an instruction that has no rule fails none
-  pub rule-none : rule_of v c pc inst len ≡ None → NoRuleFails v c pc inst len
-  rule-none e m f = not-both (fails_in tried m) (first-none tried m (no_number (first_failing tried) (sym (first-of v c pc inst len) ∙ e))) f
+  pub rule_none : rule_of v c pc inst len ≡ None → NoRuleFails v c pc inst len
+  rule_none e m f = not-both (fails_in tried m) (first-none tried m (no_number (first_failing tried) (sym (first-of v c pc inst len) ∙ e))) f
 
   -- two least rules are one
   one-least : (n m : ℕ) → LeastRule v c pc inst len n → LeastRule v c pc inst len m → n ≡ m
@@ -157,12 +157,12 @@ module _ (v : ShownImage) (c : ContextView) (pc : ℕ) (inst : Inst) (len : ℕ)
   ]
 
   -- the least rule that fails is the rule of the instruction
-  pub least-rule : (n : ℕ) → LeastRule v c pc inst len n → rule_of v c pc inst len ≡ Some n
-  least-rule n f = go (rule_of v c pc inst len) refl
+  pub least_rule_given : (n : ℕ) → LeastRule v c pc inst len n → rule_of v c pc inst len ≡ Some n
+  least_rule_given n f = go (rule_of v c pc inst len) refl
     where
       go : (o : Option ℕ) → rule_of v c pc inst len ≡ o → o ≡ Some n
-      go None e = absurd (rule-none e n f.fails)
-      go (Some m) e = ap Some (one-least m n (rule-least m e) f)
+      go None e = absurd (rule_none e n f.fails)
+      go (Some m) e = ap Some (one-least m n (rule_least m e) f)
 
   -- where no rule fails, the instruction has none
   pub none-rule : NoRuleFails v c pc inst len → rule_of v c pc inst len ≡ None
@@ -170,4 +170,4 @@ module _ (v : ShownImage) (c : ContextView) (pc : ℕ) (inst : Inst) (len : ℕ)
     where
       go : (o : Option ℕ) → rule_of v c pc inst len ≡ o → o ≡ None
       go None e = refl
-      go (Some m) e = absurd (none m (rule-least m e).fails)
+      go (Some m) e = absurd (none m (rule_least m e).fails)

@@ -12,7 +12,7 @@ use Rattle.tal_flow.specs.Edges.{falling, branching, target_of, falls_to, branch
 use Rattle.tal_flow.specs.Trials.{rule_number}
 use Rattle.tal_flow.specs.Rules.{operand_rule, edge_fits, is_dead, edge_rule, rule_of_form, rule_of, next_address, NoRuleFails, Falls, Branches}
 use Rattle.tal_flow.specs.Strongest.{OneHead, HasOneHead}
-use Rattle.tal_flow.proofs.LeastRules.{no_number, rule-none, none-rule}
+use Rattle.tal_flow.proofs.LeastRules.{no_number, rule_none, none-rule}
 use Rattle.tal_flow.proofs.RulesBelow.{operand_rule-below}
 use Rattle.tal_flow.proofs.AfterwardsBelow.{after_form-below, refine-below}
 use Rattle.tal_types.specs.Laws.{TypeLaws}
@@ -63,36 +63,36 @@ module _ (types : TypeLaws) where
       )
 
   -- where no rule fails in the higher of two live contexts, none does in the lower
-  live_rule-below : (v : ShownImage) → ClassLaws v.shapes → (a b : LiveContext) (pc next : ℕ) (f : Form) → LiveBelow v.shapes a b → OneHead a
+  live_rule_below : (v : ShownImage) → ClassLaws v.shapes → (a b : LiveContext) (pc next : ℕ) (f : Form) → LiveBelow v.shapes a b → OneHead a
       → rule_of_form v (Live b) pc next f ≡ None → rule_of_form v (Live a) pc next f ≡ None
   unfolding rule_of_form
-  live_rule-below v l a b pc next f h one e = grind (arith, operand_rule-below types v l a b pc f h one, edge_rule-below v l a b pc next f h one)
+  live_rule_below v l a b pc next f h one e = grind (arith, operand_rule-below types v l a b pc f h one, edge_rule-below v l a b pc next f h one)
 
   -- a form that fails rule 1 in the dead context fails it in each
-  dead_rule-below : (v : ShownImage) (b : ContextView) (pc next : ℕ) (f : Form) → rule_of_form v b pc next f ≡ None → rule_of_form v Dead pc next f ≡ None
+  dead_rule_below : (v : ShownImage) (b : ContextView) (pc next : ℕ) (f : Form) → rule_of_form v b pc next f ≡ None → rule_of_form v Dead pc next f ≡ None
   unfolding rule_of_form operand_rule
-  dead_rule-below v Dead pc next f e = e
-  dead_rule-below v (Live b) pc next Refused e = absurd (grind arith)
-  dead_rule-below v (Live b) pc next f e = refl
+  dead_rule_below v Dead pc next f e = e
+  dead_rule_below v (Live b) pc next Refused e = absurd (grind arith)
+  dead_rule_below v (Live b) pc next f e = refl
 
   -- the same of contexts that may be dead
-  form_rule-below : (v : ShownImage) → ClassLaws v.shapes → (a b : ContextView) (pc next : ℕ) (f : Form) → ContextBelow v.shapes a b → HasOneHead a
+  form_rule_below : (v : ShownImage) → ClassLaws v.shapes → (a b : ContextView) (pc next : ℕ) (f : Form) → ContextBelow v.shapes a b → HasOneHead a
       → rule_of_form v b pc next f ≡ None → rule_of_form v a pc next f ≡ None
-  form_rule-below v l (Live a) (Live b) pc next f h one e = live_rule-below v l a b pc next f h one e
-  form_rule-below v l (Live a) Dead pc next f h one e = absurd h
-  form_rule-below v l Dead b pc next f h one e = dead_rule-below v b pc next f e
+  form_rule_below v l (Live a) (Live b) pc next f h one e = live_rule_below v l a b pc next f h one e
+  form_rule_below v l (Live a) Dead pc next f h one e = absurd h
+  form_rule_below v l Dead b pc next f h one e = dead_rule_below v b pc next f e
 
   -- no rule is the first to fail in the lower context where none is in the higher one
   first-below : (v : ShownImage) → ClassLaws v.shapes → (a b : ContextView) (pc : ℕ) (inst : Inst) (len : ℕ) → ContextBelow v.shapes a b → HasOneHead a
       → rule_of v b pc inst len ≡ None → rule_of v a pc inst len ≡ None
   unfolding rule_of
   first-below v l a b pc inst len h one e =
-      ap (option_map rule_number) (form_rule-below v l a b pc (next_address pc len) (form_of (next_address pc len) inst) h one (no_number _ e))
+      ap (option_map rule_number) (form_rule_below v l a b pc (next_address pc len) (form_of (next_address pc len) inst) h one (no_number _ e))
 
   -- where no rule fails in the higher context, none fails in the lower one
-  pub rule-below : (v : ShownImage) → ClassLaws v.shapes → (a b : ContextView) (pc : ℕ) (inst : Inst) (len : ℕ) → ContextBelow v.shapes a b → HasOneHead a
+  pub rule_below : (v : ShownImage) → ClassLaws v.shapes → (a b : ContextView) (pc : ℕ) (inst : Inst) (len : ℕ) → ContextBelow v.shapes a b → HasOneHead a
       → NoRuleFails v b pc inst len → NoRuleFails v a pc inst len
-  rule-below v l a b pc inst len h one e = rule-none v a pc inst len (first-below v l a b pc inst len h one (none-rule v b pc inst len e))
+  rule_below v l a b pc inst len h one e = rule_none v a pc inst len (first-below v l a b pc inst len h one (none-rule v b pc inst len e))
 
   -- where no rule fails, none of the operands does
   pub no_operand_rule : (v : ShownImage) (b : LiveContext) (pc next : ℕ) (f : Form) → rule_of_form v (Live b) pc next f ≡ None → operand_rule v b pc f ≡ None
@@ -122,7 +122,7 @@ module _ (types : TypeLaws) where
   branches_to-below v l Dead b f h = tt
 
   -- what its branch takes along is lower
-  pub branches-below : (v : ShownImage) → ClassLaws v.shapes → (a b : ContextView) (pc : ℕ) (inst : Inst) (len : ℕ) → ContextBelow v.shapes a b
+  pub branches_below : (v : ShownImage) → ClassLaws v.shapes → (a b : ContextView) (pc : ℕ) (inst : Inst) (len : ℕ) → ContextBelow v.shapes a b
       → ContextBelow v.shapes (Branches v a pc inst len) (Branches v b pc inst len)
   unfolding Branches
-  branches-below v l a b pc inst len h = branches_to-below v l a b (form_of (next_address pc len) inst) h
+  branches_below v l a b pc inst len h = branches_to-below v l a b (form_of (next_address pc len) inst) h

@@ -119,13 +119,13 @@ module _ (types : TypeLaws) where
   slot_there s (t ∷ ts) (u ∷ us) (suc i) h = slot_there s ts us i (and_parts (sub s t u) _ h).1
 
   -- each slot has a lower type
-  pub slot_type-below : (s : ShapesView) (ts us : List Ty) (i : ℕ) → all_sub s ts us ≡ true → sub s (get_or ts i Junk) (get_or us i Junk) ≡ true
+  pub slot_type_below : (s : ShapesView) (ts us : List Ty) (i : ℕ) → all_sub s ts us ≡ true → sub s (get_or ts i Junk) (get_or us i Junk) ≡ true
   unfolding all_sub sub
-  slot_type-below s [] [] i h = refl
-  slot_type-below s (t ∷ ts) [] i h = absurd (grind arith)
-  slot_type-below s [] (u ∷ us) i h = absurd (grind arith)
-  slot_type-below s (t ∷ ts) (u ∷ us) zero h = (and_parts (sub s t u) _ h).0
-  slot_type-below s (t ∷ ts) (u ∷ us) (suc i) h = slot_type-below s ts us i (and_parts (sub s t u) _ h).1
+  slot_type_below s [] [] i h = refl
+  slot_type_below s (t ∷ ts) [] i h = absurd (grind arith)
+  slot_type_below s [] (u ∷ us) i h = absurd (grind arith)
+  slot_type_below s (t ∷ ts) (u ∷ us) zero h = (and_parts (sub s t u) _ h).0
+  slot_type_below s (t ∷ ts) (u ∷ us) (suc i) h = slot_type_below s ts us i (and_parts (sub s t u) _ h).1
 
   -- the same slot, if it is there, in both contexts
   same-slot : (s : ShapesView) (t : Bool) (i : ℕ) → FoundBelow s (if t then Some (Slot i) else None) (if t then Some (Slot i) else None)
@@ -176,7 +176,7 @@ module _ (types : TypeLaws) where
   -- what is read at a place has a lower type
   pub place_type-below : (s : ShapesView) (a b : LiveContext) (p q : Place) → LiveBelow s a b → PlaceBelow s p q → sub s (place_type a p) (place_type b q) ≡ true
   place_type-below s a b (Whole t) (Whole u) h e = rw e (types.types_reflexive s u)
-  place_type-below s a b (Slot i) (Slot j) h e = rw e (slot_type-below s a.slots b.slots j h.slots)
+  place_type-below s a b (Slot i) (Slot j) h e = rw e (slot_type_below s a.slots b.slots j h.slots)
   place_type-below s a b Length Length h e = types.types_reflexive s Num
   place_type-below s a b (Head r c) (Head q d) h e = tab-below s c d e.1
   place_type-below s a b (Method g) (Method k) h e = rw e (types.types_reflexive s _)
@@ -189,31 +189,31 @@ module _ (types : TypeLaws) where
   sub-junk s t = refl
 
   -- what is read at a lower place has a lower type
-  found_type-below : (s : ShapesView) (a b : LiveContext) (p q : Option Place) → LiveBelow s a b → FoundBelow s p q
+  found_type_below : (s : ShapesView) (a b : LiveContext) (p q : Option Place) → LiveBelow s a b → FoundBelow s p q
       → sub s (option_map_or (place_type a) p Junk) (option_map_or (place_type b) q Junk) ≡ true
-  found_type-below s a b p None h e = sub-junk s _
-  found_type-below s a b (Some p) (Some q) h e = place_type-below s a b p q h e
-  found_type-below s a b None (Some q) h e = absurd e
+  found_type_below s a b p None h e = sub-junk s _
+  found_type_below s a b (Some p) (Some q) h e = place_type-below s a b p q h e
+  found_type_below s a b None (Some q) h e = absurd e
 
   -- an operand has a lower type
   pub operand_type-below : (v : ShownImage) → ClassLaws v.shapes → (a b : LiveContext) (pc : ℕ) (x : Operand) → LiveBelow v.shapes a b
       → sub v.shapes (operand_type v a pc x) (operand_type v b pc x) ≡ true
   unfolding operand_type
   operand_type-below v l a b pc (R r) h = h.regs r
-  operand_type-below v l a b pc (M m) h = found_type-below v.shapes a b _ _ h (place-below v.shapes l v.statics a b m h)
+  operand_type-below v l a b pc (M m) h = found_type_below v.shapes a b _ _ h (place-below v.shapes l v.statics a b m h)
   operand_type-below v l a b pc (I n) h = types.types_reflexive v.shapes (immediate_type v pc n)
 
   -- a place that the higher context has, the lower one has
-  is_found-below : (s : ShapesView) (p q : Option Place) → FoundBelow s p q → is_some q ≡ true → is_some p ≡ true
-  is_found-below s p None h e = absurd (grind arith)
-  is_found-below s (Some p) (Some q) h e = refl
-  is_found-below s None (Some q) h e = absurd h
+  is_found_below : (s : ShapesView) (p q : Option Place) → FoundBelow s p q → is_some q ≡ true → is_some p ≡ true
+  is_found_below s p None h e = absurd (grind arith)
+  is_found_below s (Some p) (Some q) h e = refl
+  is_found_below s None (Some q) h e = absurd h
 
   -- a memory operand that is a place in the higher context is one in the lower
   pub found-below : (v : ShownImage) → ClassLaws v.shapes → (a b : LiveContext) (pc : ℕ) (x : Operand) → LiveBelow v.shapes a b → found (resolve v b pc x) ≡ true → found (resolve v a pc x) ≡ true
   unfolding found operand_place
   found-below v l a b pc (R r) h e = e
-  found-below v l a b pc (M m) h e = is_found-below v.shapes _ _ (place-below v.shapes l v.statics a b m h) e
+  found-below v l a b pc (M m) h e = is_found_below v.shapes _ _ (place-below v.shapes l v.statics a b m h) e
   found-below v l a b pc (I n) h e = e
 
   -- a place that may be read may be read below
@@ -284,20 +284,20 @@ module _ (types : TypeLaws) where
   all-below p q (x ∷ xs) h e = let f = and_parts (q x) _ e in rw (h x f.0) (all-below p q xs h f.1)
 
   -- all sources are places
-  pub all_found-below : (v : ShownImage) → ClassLaws v.shapes → (a b : LiveContext) (pc : ℕ) (xs : List Operand) → LiveBelow v.shapes a b
+  pub all_found_below : (v : ShownImage) → ClassLaws v.shapes → (a b : LiveContext) (pc : ℕ) (xs : List Operand) → LiveBelow v.shapes a b
       → list_all (λ x. found (resolve v b pc x)) xs ≡ true → list_all (λ x. found (resolve v a pc x)) xs ≡ true
-  all_found-below v l a b pc xs h e = all-below (λ x. found (resolve v a pc x)) (λ x. found (resolve v b pc x)) xs (λ x. found-below v l a b pc x h) e
+  all_found_below v l a b pc xs h e = all-below (λ x. found (resolve v a pc x)) (λ x. found (resolve v b pc x)) xs (λ x. found-below v l a b pc x h) e
 
   -- all are numbers
-  pub all_num-below : (v : ShownImage) → ClassLaws v.shapes → (a b : LiveContext) (pc : ℕ) (xs : List Operand) → LiveBelow v.shapes a b
+  pub all_num_below : (v : ShownImage) → ClassLaws v.shapes → (a b : LiveContext) (pc : ℕ) (xs : List Operand) → LiveBelow v.shapes a b
       → list_all (λ x. is_num (operand_type v b pc x)) xs ≡ true → list_all (λ x. is_num (operand_type v a pc x)) xs ≡ true
-  all_num-below v l a b pc xs h e =
+  all_num_below v l a b pc xs h e =
       all-below (λ x. is_num (operand_type v a pc x)) (λ x. is_num (operand_type v b pc x)) xs (λ x. is_num-below v.shapes _ _ (operand_type-below v l a b pc x h)) e
 
   -- all may be read
-  pub all_readable-below : (v : ShownImage) → ClassLaws v.shapes → (a b : LiveContext) (pc : ℕ) (xs : List Operand) → LiveBelow v.shapes a b
+  pub all_readable_below : (v : ShownImage) → ClassLaws v.shapes → (a b : LiveContext) (pc : ℕ) (xs : List Operand) → LiveBelow v.shapes a b
       → list_all (λ x. found (resolve v b pc x)) xs ≡ true → list_all (λ x. readable (resolve v b pc x)) xs ≡ true → list_all (λ x. readable (resolve v a pc x)) xs ≡ true
-  all_readable-below v l a b pc [] h d e = e
-  all_readable-below v l a b pc (x ∷ xs) h d e =
+  all_readable_below v l a b pc [] h d e = e
+  all_readable_below v l a b pc (x ∷ xs) h d e =
       let f = and_parts (found (resolve v b pc x)) _ d in let g = and_parts (readable (resolve v b pc x)) _ e in
-      rw (readable-below v l a b pc x h f.0 g.0) (all_readable-below v l a b pc xs h f.1 g.1)
+      rw (readable-below v l a b pc x h f.0 g.0) (all_readable_below v l a b pc xs h f.1 g.1)

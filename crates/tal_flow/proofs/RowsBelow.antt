@@ -107,18 +107,18 @@ module _ (types : TypeLaws) where
   bound-below d x y h = grind (arith, types.same_reflexive)
 
   -- the row of operands that may be read
-  readable_row-below : (s : ShapesView) (a b : LiveContext) (d : Operand) (f f' g g' : Family) (p p' : Option Place) (x x' : Option Reg) (z : Bool) (m : Option ℕ)
+  readable_row_below : (s : ShapesView) (a b : LiveContext) (d : Operand) (f f' g g' : Family) (p p' : Option Place) (x x' : Option Reg) (z : Bool) (m : Option ℕ)
       → (z ≡ true → g ≡ Numbers) → FamilyBelow f f' → FamilyBelow g g' → ArrayBelow x x' → display_row s b p' m ≡ None
       → KindBelow (compare_row s a d f g p x z m) (compare_row s b d f' g' p' x' z m)
   unfolding kind_below
-  readable_row-below s a b d f f' g g' p p' x x' z m w e i y n = let k = bound-below d x x' y in grind (arith, types.same_reflexive)
+  readable_row_below s a b d f f' g g' p p' x x' z m w e i y n = let k = bound-below d x x' y in grind (arith, types.same_reflexive)
 
   -- the row of a display
-  unreadable_row-below : (s : ShapesView) (a b : LiveContext) (d : Operand) (f f' g g' : Family) (p p' : Option Place) (x x' : Option Reg) (z : Bool) (m : Option ℕ)
+  unreadable_row_below : (s : ShapesView) (a b : LiveContext) (d : Operand) (f f' g g' : Family) (p p' : Option Place) (x x' : Option Reg) (z : Bool) (m : Option ℕ)
       → f ≡ Others → FamilyBelow f f' → KindBelow (display_row s a p m) (display_row s b p' m)
       → KindBelow (compare_row s a d f g p x z m) (compare_row s b d f' g' p' x' z m)
   unfolding kind_below
-  unreadable_row-below s a b d f f' g g' p p' x x' z m n e dm = grind arith
+  unreadable_row_below s a b d f f' g g' p p' x x' z m n e dm = grind arith
 
   -- the row of CMP by its parts
   compare_row-below : (s : ShapesView) (a b : LiveContext) (d : Operand) (f f' g g' : Family) (p p' : Option Place) (x x' : Option Reg) (z : Bool) (m : Option ℕ)
@@ -127,8 +127,8 @@ module _ (types : TypeLaws) where
   compare_row-below s a b d f f' g g' p p' x x' z m h one j w e i k y = go (is_display p') refl
     where
       go : (t : Bool) → is_display p' ≡ t → KindBelow (compare_row s a d f g p x z m) (compare_row s b d f' g' p' x' z m)
-      go false q = readable_row-below s a b d f f' g g' p p' x x' z m w e i y (display_row-none s b p' m q)
-      go true q = unreadable_row-below s a b d f f' g g' p p' x x' z m (j (display-above s p p' k q)) e (display_row-below s a b p p' m h one k)
+      go false q = readable_row_below s a b d f f' g g' p p' x x' z m w e i y (display_row-none s b p' m q)
+      go true q = unreadable_row_below s a b d f f' g g' p p' x x' z m (j (display-above s p p' k q)) e (display_row-below s a b p p' m h one k)
 
   -- a display has no family
   display-other : (v : ShownImage) (a : LiveContext) (pc : ℕ) (x : Operand) → is_display (operand_place v a x) ≡ true → family (operand_type v a pc x) ≡ Others

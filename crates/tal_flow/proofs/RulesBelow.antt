@@ -26,7 +26,7 @@ use Rattle.tal_flow.specs.Edges.{allows}
 use Rattle.tal_flow.specs.Functions.{fits_result}
 use Rattle.tal_flow.specs.Rules.{operand_rule, address_is_num, may_drop}
 use Rattle.tal_flow.specs.Strongest.{OneHead}
-use Rattle.tal_flow.proofs.PlacesBelow.{operand_type-below, found-below, readable-below, writable-below, storable-below, all_found-below, all_readable-below, all_num-below, is_num-below}
+use Rattle.tal_flow.proofs.PlacesBelow.{operand_type-below, found-below, readable-below, writable-below, storable-below, all_found_below, all_readable_below, all_num_below, is_num-below}
 use Rattle.tal_flow.proofs.RowsBelow.{KindBelow, compare_kind-below, test_kind-below}
 use Rattle.tal_flow.proofs.CallsBelow.{CalledBelow, call_to-below, call_by-below}
 use Rattle.tal_types.specs.Laws.{TypeLaws}
@@ -57,16 +57,16 @@ module _ (types : TypeLaws) where
   stored-below v l a b pc d x h w e = storable-below types v l a b pc d _ _ h (operand_type-below types v l a b pc x h) w e
 
   -- a register of an address that holds a number above holds one below
-  reg_num-below : (s : ShapesView) (a b : LiveContext) (o : Option Reg) → LiveBelow s a b → option_map_or (λ q. is_num (b.regs q)) o true ≡ true
+  reg_num_below : (s : ShapesView) (a b : LiveContext) (o : Option Reg) → LiveBelow s a b → option_map_or (λ q. is_num (b.regs q)) o true ≡ true
       → option_map_or (λ q. is_num (a.regs q)) o true ≡ true
-  reg_num-below s a b None h e = e
-  reg_num-below s a b (Some q) h e = is_num-below types s _ _ (h.regs q) e
+  reg_num_below s a b None h e = e
+  reg_num_below s a b (Some q) h e = is_num-below types s _ _ (h.regs q) e
 
   -- and so do both registers of an address
   address-below : (s : ShapesView) (a b : LiveContext) (m : Mem) → LiveBelow s a b → address_is_num b m ≡ true → address_is_num a m ≡ true
   address-below s a b m h e =
       let f = and_parts (option_map_or (λ q. is_num (b.regs q)) m.base true) _ e in
-      rw (reg_num-below s a b m.base h f.0, reg_num-below s a b m.index h f.1) refl
+      rw (reg_num_below s a b m.base h f.0, reg_num_below s a b m.index h f.1) refl
 
   -- as many slots may be dropped
   may_drop-below : (s : ShapesView) (a b : LiveContext) (n : ℕ) → LiveBelow s a b → may_drop b n ≡ true → may_drop a n ≡ true
@@ -74,15 +74,15 @@ module _ (types : TypeLaws) where
   may_drop-below s a b n h e = rw (slots-length s a.slots b.slots h.slots) e
 
   -- a lower type fits a signature's result
-  fits_sig-below : (s : ShapesView) → ClassLaws s → (t u : Ty) (o : Option Sig) → sub s t u ≡ true → option_map_or (λ (sig : Sig). sub s u sig.result) o false ≡ true
+  fits_sig_below : (s : ShapesView) → ClassLaws s → (t u : Ty) (o : Option Sig) → sub s t u ≡ true → option_map_or (λ (sig : Sig). sub s u sig.result) o false ≡ true
       → option_map_or (λ (sig : Sig). sub s t sig.result) o false ≡ true
-  fits_sig-below s l t u None h e = e
-  fits_sig-below s l t u (Some sig) h e = types.types_transitive s l t u sig.result h e
+  fits_sig_below s l t u None h e = e
+  fits_sig_below s l t u (Some sig) h e = types.types_transitive s l t u sig.result h e
 
   -- and the result of the function that has an address
   fits_result-below : (v : ShownImage) → ClassLaws v.shapes → (pc : ℕ) (t u : Ty) → sub v.shapes t u ≡ true → fits_result v pc u ≡ true → fits_result v pc t ≡ true
   unfolding fits_result
-  fits_result-below v l pc t u h e = fits_sig-below v.shapes l t u (option_and_then (λ (span : Span). v.sig span.sig) (v.function_of pc)) h e
+  fits_result-below v l pc t u h e = fits_sig_below v.shapes l t u (option_and_then (λ (span : Span). v.sig span.sig) (v.function_of pc)) h e
 
   -- a call that has no fault in the higher context has none in the lower one
   called-below : (s : ShapesView) (p q : Called) → CalledBelow s p q → is_callable q ≡ true → is_fit q ≡ true → (is_callable p && is_fit p) ≡ true
@@ -112,7 +112,7 @@ module _ (types : TypeLaws) where
   unfolding operand_rule
   operand_rule-below v l a b pc Refused h one e = absurd (grind arith)
   operand_rule-below v l a b pc (Compute xs d rs k) h one e =
-      grind (arith, all_found-below types v l a b pc xs h, all_readable-below types v l a b pc xs h, found-below types v l a b pc d h, writable-below types v l a b pc d h, all_num-below types v l a b pc xs h)
+      grind (arith, all_found_below types v l a b pc xs h, all_readable_below types v l a b pc xs h, found-below types v l a b pc d h, writable-below types v l a b pc d h, all_num_below types v l a b pc xs h)
   operand_rule-below v l a b pc (Move d x) h one e =
       grind (arith, found-below types v l a b pc d h, found-below types v l a b pc x h, readable-below types v l a b pc x h, writable-below types v l a b pc d h, stored-below v l a b pc d x h)
   operand_rule-below v l a b pc (Address r m) h one e = grind (arith, address-below v.shapes a b m h)

@@ -5,7 +5,7 @@ use Rattle.tal_types.specs.Contexts.{ContextView, Dead, ContextBelow}
 use Rattle.tal_types.specs.Shown.{ShownImage}
 use Rattle.tal_flow.specs.Rules.{next_address}
 use Rattle.tal_flow.specs.Strongest.{PlacedInst, NoRuleAt, falls_from, known_at, carried, start, contexts, at_in, At, NoneFails, JoinedContexts, placed_at, Chained, HasOneHead, BlocksHaveOneHead}
-use Rattle.tal_flow.proofs.Monotone.{rule-below, falls-below}
+use Rattle.tal_flow.proofs.Monotone.{rule_below, falls-below}
 use Rattle.tal_flow.proofs.Heads.{start-head, falls-head}
 use Rattle.tal_types.specs.Laws.{TypeLaws}
 
@@ -92,7 +92,7 @@ module _ (types : TypeLaws) where
       let s = start v x.pc a in
       let k : ContextBelow v.shapes s c = types.contexts_transitive v.shapes l s (start v x.pc b) c (start-below v x.pc a b h) j.0 in
       let o : HasOneHead s = start-head types v blocks x.pc a one in
-      let r = rule-below types v l s c x.pc x.inst x.len k o n.0 in
+      let r = rule_below types v l s c x.pc x.inst x.len k o n.0 in
       (r, strongest v l blocks xs cs (falls_from v s x) (falls_from v c x) (falls-below types v l s c x.pc x.inst x.len k o n.0) (falls-head types v s x o) n.1 j.1)
 
   -- the strongest contexts join
@@ -101,6 +101,6 @@ module _ (types : TypeLaws) where
   itself-joined v (x ∷ xs) a = (types.contexts_reflexive v.shapes (start v x.pc a), itself-joined v xs (falls_from v (start v x.pc a) x))
 
   -- some contexts serve exactly where the strongest do
-  pub serve-exactly : (v : ShownImage) → ClassLaws v.shapes → BlocksHaveOneHead v → (xs : List PlacedInst)
+  pub serve_exactly : (v : ShownImage) → ClassLaws v.shapes → BlocksHaveOneHead v → (xs : List PlacedInst)
       → ((cs : List ContextView) × NoneFails v xs cs × JoinedContexts v xs cs Dead) ↔ NoneFails v xs (contexts v xs Dead)
-  serve-exactly v l blocks xs = (λ h. strongest v l blocks xs h.0 Dead Dead tt tt h.1 h.2, λ h. (contexts v xs Dead, h, itself-joined v xs Dead))
+  serve_exactly v l blocks xs = (λ h. strongest v l blocks xs h.0 Dead Dead tt tt h.1 h.2, λ h. (contexts v xs Dead, h, itself-joined v xs Dead))

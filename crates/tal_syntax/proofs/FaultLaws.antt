@@ -60,9 +60,9 @@ unfolding long_name
 long_at [] column h = absurd cc
 long_at (i ∷ is) column h = long_step i is column (is_long i.token) refl (long_at is column) h
 
-lexemes-append : (a b : List PlacedLexeme) → lexemes_of (a ++ b) ≡ lexemes_of a ++ lexemes_of b
-lexemes-append [] b = refl
-lexemes-append (i ∷ a) b = ap (λ (l : List Lexeme). i.token ∷ l) (lexemes-append a b)
+lexemes_append : (a b : List PlacedLexeme) → lexemes_of (a ++ b) ≡ lexemes_of a ++ lexemes_of b
+lexemes_append [] b = refl
+lexemes_append (i ∷ a) b = ap (λ (l : List Lexeme). i.token ∷ l) (lexemes_append a b)
 
 -- ---- the reader of a grammar
 
@@ -88,7 +88,7 @@ module _ (p : Read Form) (S : Form → List Lexeme → Type 0) (l : Lawful p S) 
   -- a name that is too long, among tokens that begin a form
   first_long : (items before after : List PlacedLexeme) (column : ℕ) → items ≡ before ++ after → BeginsForm S (lexemes_of before) → LongAt before column → FirstTokenFault S items column 4
   first_long items before after column parts b k =
-      let text : lexemes_of before ≡ lexemes_of k.front ++ k.item.token ∷ lexemes_of k.back = ap lexemes_of k.parts ∙ lexemes-append k.front (k.item ∷ k.back) in
+      let text : lexemes_of before ≡ lexemes_of k.front ++ k.item.token ∷ lexemes_of k.back = ap lexemes_of k.parts ∙ lexemes_append k.front (k.item ∷ k.back) in
       let says = subst (λ (ts : List Lexeme). S b.form (ts ++ b.more)) text b.says in
       let here : BeginsForm S (lexemes_of k.front) = record { form = b.form; more = k.item.token ∷ lexemes_of k.back ++ b.more; says = subst (λ (ts : List Lexeme). S b.form ts) (append_assoc (lexemes_of k.front) (k.item.token ∷ lexemes_of k.back) b.more) says } in
       let next : BeginsForm S (lexemes_of k.front ++ k.item.token ∷ []) = record { form = b.form; more = lexemes_of k.back ++ b.more; says = subst (λ (ts : List Lexeme). S b.form ts) (append_assoc (lexemes_of k.front) (k.item.token ∷ lexemes_of k.back) b.more ∙ sym (append_assoc (lexemes_of k.front) (k.item.token ∷ []) (lexemes_of k.back ++ b.more))) says } in

@@ -8,7 +8,7 @@ use Rattle.tal_types.specs.declared.types.Ty.{Ty}
 use Rattle.tal_types.specs.declared.types.Ty.TheVariants.{Num, Junk}
 use Rattle.tal_types.specs.declared.types.FlagKind.TheVariants.{Lost}
 use Rattle.tal_types.specs.declared.contexts.Context.{Context}
-use Rattle.tal_types.specs.Contexts.{LiveContext, Dead, Live, register_type, plain}
+use Rattle.tal_types.specs.Contexts.{Dead, Live, register_type, plain}
 use Rattle.tal_types.specs.Kept.{kept_type, pair_in, live_of, context_of}
 
 -- What a context that is kept means.

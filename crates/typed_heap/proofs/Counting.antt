@@ -43,9 +43,9 @@ record HasBlock (reached : ℕ → Bool) (i : ℕ) (store : Store) (block : ℕ)
 later-has : (reached : ℕ → Bool) (i : ℕ) (o : Object) (store : Store) (block : ℕ) → HasBlock reached (i + 1) store block → HasBlock reached i (o ∷ store) block
 later-has reached i o store block q = record { number = suc q.number; object = q.object; is = q.is; reaches = ap reached (let e : i + suc q.number ≡ i + 1 + q.number = omega arith in e) ∙ q.reaches; at = q.at }
 
-in-has : (reached : ℕ → Bool) (i : ℕ) (store : Store) (block : ℕ) → In block (blocks_reached reached i store) → HasBlock reached i store block
-in-has reached i [] block h = absurd h
-in-has reached i (o ∷ store) block h = go (reached i) refl h (λ g. later-has reached i o store block (in-has reached (i + 1) store block g))
+in_has : (reached : ℕ → Bool) (i : ℕ) (store : Store) (block : ℕ) → In block (blocks_reached reached i store) → HasBlock reached i store block
+in_has reached i [] block h = absurd h
+in_has reached i (o ∷ store) block h = go (reached i) refl h (λ g. later-has reached i o store block (in_has reached (i + 1) store block g))
   where
     go : (b : Bool) → reached i ≡ b → In block (cond b (block_of o.place ∷ blocks_reached reached (i + 1) store) (blocks_reached reached (i + 1) store))
         → (In block (blocks_reached reached (i + 1) store) → HasBlock reached i (o ∷ store) block) → HasBlock reached i (o ∷ store) block
@@ -77,7 +77,7 @@ has-once reached i (o ∷ store) h = go (reached i) refl (has-once reached (i + 
 
     first : reached i ≡ true → In (block_of o.place) (blocks_reached reached (i + 1) store) → ⊥
     first e g =
-        let q = in-has reached (i + 1) store (block_of o.place) g in
+        let q = in_has reached (i + 1) store (block_of o.place) g in
         h 0 (suc q.number) o q.object (omega arith) refl q.is (ap reached (let e : i + 0 ≡ i = omega arith in e) ∙ e) (next q.number q.reaches) q.at
 
     go : (b : Bool) → reached i ≡ b → Once (blocks_reached reached (i + 1) store) → Once (cond b (block_of o.place ∷ blocks_reached reached (i + 1) store) (blocks_reached reached (i + 1) store))
@@ -124,12 +124,12 @@ module _ (image : ImageParts) (s : State) (roots : List Value) (words list : Lis
       ((stands-there m o e a).placed ∙ (ap address (sym (block-there m o e a) ∙ (h ∙ block-there k p g b)) ∙ sym (stands-there k p g b).placed))
 
   -- the list has the reached blocks
-  lists-reached : ListsReached (shown image).shapes words list (blocks_reached reached (length image.arrays) heap_objects)
-  lists-reached = record { once = has-once reached (length image.arrays) heap_objects blocks-differ; each = λ block. (forth block, back block) }
+  lists_reached : ListsReached (shown image).shapes words list (blocks_reached reached (length image.arrays) heap_objects)
+  lists_reached = record { once = has-once reached (length image.arrays) heap_objects blocks-differ; each = λ block. (forth block, back block) }
     where
       forth : (block : ℕ) → In block (blocks_reached reached (length image.arrays) heap_objects) → Reached (shown image).shapes words list block
       forth block h =
-          let q = in-has reached (length image.arrays) heap_objects block h in
+          let q = in_has reached (length image.arrays) heap_objects block h in
           let z = stands-there q.number q.object q.is q.reaches in
           let at : z.block ≡ block = sym (block-there q.number q.object q.is q.reaches) ∙ sym q.at in
           (agrees.reached block).1 (record { number = length image.arrays + q.number; object = q.object; is = is-there q.number q.object q.is; behind = omega arith; reached = q.reaches; placed = z.placed ∙ ap address at })
@@ -150,7 +150,7 @@ pub free-words_counted : Told → FreeWordsAreCounted
 unfolding free_words
 free-words_counted told image s roots words list n r differ h =
     let agrees = words-agree told image s roots words list r in
-    let a = h (blocks_reached (reached_by image s.store roots) (length image.arrays) (drop (length image.arrays) s.store)) (lists-reached image s roots words list r agrees differ) in
+    let a = h (blocks_reached (reached_by image s.store roots) (length image.arrays) (drop (length image.arrays) s.store)) (lists_reached image s roots words list r agrees differ) in
     let b = sizes-reached image s roots words list r agrees differ in
     let c = r.size in
     omega arith

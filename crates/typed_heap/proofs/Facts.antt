@@ -33,7 +33,7 @@ use Rattle.typed_machine.specs.Reaching.{Reach, names, references_of}
 use Rattle.reached_objects.specs.ReachedFrom.{ReachedFrom}
 use Rattle.typed_heap.specs.Standing.{ObjectStands, refers_within, RootsRefer, RootsStand}
 use Rattle.typed_heap.proofs.Lists.{At, at-index}
-use Rattle.typed_heap.proofs.ShapeWords.{Refers, type-some}
+use Rattle.typed_heap.proofs.ShapeWords.{Refers, type_some}
 
 -- what lower crates tell
 pub record Told : Type 0 where
@@ -79,29 +79,29 @@ some-within : (store : Store) (i : ℕ) → (x : ObjectShape) × (slice_get (sha
 some-within store i (x, e) = let l = slice_get_within (shapes_in store) i x e in let n = shapes-long store in omega arith
 
 -- a reference with the type of a field is an object
-pub reference-within : (v : ShownImage) (store : Store) (i : ℕ) (t : FieldTy) → fits_among v all_objects (shapes_in store) (Ref i) (of_field t) ≡ true → i < length store
+pub reference_within : (v : ShownImage) (store : Store) (i : ℕ) (t : FieldTy) → fits_among v all_objects (shapes_in store) (Ref i) (of_field t) ≡ true → i < length store
 unfolding fits_among of_field
-reference-within v store i field.Num h = absurd (false≢true h)
-reference-within v store i (field.Fun g) h = absurd (false≢true h)
-reference-within v store i (field.Ref c) h = some-within store i (instance-there v.shapes (slice_get (shapes_in store) i) c h)
-reference-within v store i (field.ArrRef k) h = some-within store i (array-there (slice_get (shapes_in store) i) k h)
+reference_within v store i field.Num h = absurd (false≢true h)
+reference_within v store i (field.Fun g) h = absurd (false≢true h)
+reference_within v store i (field.Ref c) h = some-within store i (instance-there v.shapes (slice_get (shapes_in store) i) c h)
+reference_within v store i (field.ArrRef k) h = some-within store i (array-there (slice_get (shapes_in store) i) k h)
 
 below-true : (i n : ℕ) → i < n → nat_lt i n ≡ true
 below-true i n l = grind (arith, nat_tests)
 
 -- so is one with a type of references
-pub reference-there : (v : ShownImage) (store : Store) (i : ℕ) (t : Ty) → may_refer t ≡ true → fits_among v all_objects (shapes_in store) (Ref i) t ≡ true → nat_lt i (length store) ≡ true
+pub reference_there : (v : ShownImage) (store : Store) (i : ℕ) (t : Ty) → may_refer t ≡ true → fits_among v all_objects (shapes_in store) (Ref i) t ≡ true → nat_lt i (length store) ≡ true
 unfolding fits_among may_refer
-reference-there v store i (ty.Ref c) m h = below-true i (length store) (some-within store i (instance-there v.shapes (slice_get (shapes_in store) i) c h))
-reference-there v store i (ty.Obj c) m h = below-true i (length store) (some-within store i (instance-there v.shapes (slice_get (shapes_in store) i) c h))
-reference-there v store i (ty.ArrRef k) m h = below-true i (length store) (some-within store i (array-there (slice_get (shapes_in store) i) k h))
-reference-there v store i (ty.Arr k) m h = below-true i (length store) (some-within store i (array-there (slice_get (shapes_in store) i) k h))
-reference-there v store i t m h = absurd (false≢true m)
+reference_there v store i (ty.Ref c) m h = below-true i (length store) (some-within store i (instance-there v.shapes (slice_get (shapes_in store) i) c h))
+reference_there v store i (ty.Obj c) m h = below-true i (length store) (some-within store i (instance-there v.shapes (slice_get (shapes_in store) i) c h))
+reference_there v store i (ty.ArrRef k) m h = below-true i (length store) (some-within store i (array-there (slice_get (shapes_in store) i) k h))
+reference_there v store i (ty.Arr k) m h = below-true i (length store) (some-within store i (array-there (slice_get (shapes_in store) i) k h))
+reference_there v store i t m h = absurd (false≢true m)
 
 -- a value with the type of a reference field is null or an object
 pub value-refers : (v : ShownImage) (store : Store) (w : Value) (t : FieldTy) → is_reference t ≡ true → fits_among v all_objects (shapes_in store) w (of_field t) ≡ true → refers_within (length store) w ≡ true
 unfolding fits_among of_field is_reference
-value-refers v store (Ref i) t e h = below-true i (length store) (reference-within v store i t h)
+value-refers v store (Ref i) t e h = below-true i (length store) (reference_within v store i t h)
 value-refers v store Null t e h = refl
 value-refers v store w field.Num e h = absurd (false≢true e)
 value-refers v store w (field.Fun g) e h = absurd (false≢true e)
@@ -171,8 +171,8 @@ module _ (told : Told) (image : ImageParts) (s : State) (formed : Formed image) 
       inside i j k o e h =
           let l = slice_get_within o.values j (Ref k) h in
           let n = fits.counts i o e in
-          let t = type-some (shown image).shapes o.shape j (fits.there i o e) (omega arith) in
-          reference-within (shown image) s.store k t.0 (fits.fit i j o t.0 (Ref k) refl e t.1 h)
+          let t = type_some (shown image).shapes o.shape j (fits.there i o e) (omega arith) in
+          reference_within (shown image) s.store k t.0 (fits.fit i j o t.0 (Ref k) refl e t.1 h)
 
 -- and with roots that stand
 pub facts : Told → (image : ImageParts) (s : State) (roots : List Value) (words list : List ℕ) → RootsStand image s roots words list → Facts (shown image).shapes (length image.arrays) s.store roots words list

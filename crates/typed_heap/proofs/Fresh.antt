@@ -52,9 +52,9 @@ kept-stands s places before after o q n u z w = record {
 -- ---- more objects
 
 -- the reference among an object's values is one of its fields or elements
-pub reference-behind : (o : Object) (k j : ℕ) → slice_get (object_values o) k ≡ Some (Ref j) → (m : ℕ) × (slice_get o.values m ≡ Some (Ref j))
+pub reference_behind : (o : Object) (k j : ℕ) → slice_get (object_values o) k ≡ Some (Ref j) → (m : ℕ) × (slice_get o.values m ≡ Some (Ref j))
 unfolding object_values head_values
-reference-behind o k j e = go o.shape k e
+reference_behind o k j e = go o.shape k e
   where
     go : (x : ObjectShape) (k : ℕ) → slice_get (head_values x ++ o.values) k ≡ Some (Ref j) → (m : ℕ) × (slice_get o.values m ≡ Some (Ref j))
     go (InstanceOf c) zero e = cc
@@ -81,7 +81,7 @@ longer-stands s places more words o h q = record {
   placed = q.placed;
   used = q.used;
   exact = q.exact;
-  values = λ k v e. q.values k v e ∙ sym (word-longer places more v (λ j g. let z = reference-behind o k j (e ∙ ap Some g) in h z.0 j z.1));
+  values = λ k v e. q.values k v e ∙ sym (word-longer places more v (λ j g. let z = reference_behind o k j (e ∙ ap Some g) in h z.0 j z.1));
 }
 
 -- ---- a fresh object

@@ -24,7 +24,7 @@ use Rattle.typed_heap.proofs.Lists.{names-first, names-get}
 use Rattle.typed_heap.proofs.ShapeWords.{references-held}
 use Rattle.typed_heap.proofs.Facts.{Told, StoreTold, Facts, facts}
 use Rattle.typed_heap.proofs.Reaching.{words-agree}
-use Rattle.typed_heap.proofs.Taken.{refusal-legal, place-legal}
+use Rattle.typed_heap.proofs.Taken.{refusal_legal, place-legal}
 use Rattle.typed_heap.proofs.Fresh.{need-some, kept-stands, word-longer, longer-stands, fresh-zero, is-zero-refers, fresh-stands}
 
 -- ---- a longer list
@@ -103,8 +103,8 @@ module _ (told : Told) (image : ImageParts) (s : State) (roots : List Value) (be
       let b = block-reached i o reach l e in
       kept-stands (shown image).shapes (places_in s.store) before after o q (f.told.counts i o e) (k.used q.block b) (k.sizes q.block b) (λ j x y. k.words q.block j b x y)
 
-  pub collected-stands : (after : List ℕ) → Collects (shown image).shapes before list after → HeapStands image (reached_by image s.store roots) s.store after
-  collected-stands after k i o reach l e =
+  pub collected_stands : (after : List ℕ) → Collects (shown image).shapes before list after → HeapStands image (reached_by image s.store roots) s.store after
+  collected_stands after k i o reach l e =
       let q = r.stands i o reach l e in
       let u = (k.used q.block).1 (block-reached i o reach l e) in
       kept-stands (shown image).shapes (places_in s.store) before after o q (f.told.counts i o e) u (k.sizes q.block u) (λ j x y. k.words q.block j u x y)
@@ -116,7 +116,7 @@ module _ (told : Told) (image : ImageParts) (s : State) (roots : List Value) (be
 
   pub refused : (shape : ObjectShape) (after : List ℕ) → NoGap (shown image).shapes before list (need (shown image).shapes shape) → KeepsReached (shown image).shapes before list after → AllocationStands image s roots shape None after
   refused shape after g k = record {
-    legal = refusal-legal image s roots before list r agrees (need (shown image).shapes shape) g;
+    legal = refusal_legal image s roots before list r agrees (need (shown image).shapes shape) g;
     stands = λ i o h l e. still-stands after k i o (null-back i h) l e;
     reached = λ i h. inr (null-back i h);
     reply = null-word (places_of s);
@@ -170,12 +170,12 @@ module _ (told : Told) (image : ImageParts) (s : State) (roots : List Value) (be
       reply = new-word;
     }
 
-pub allocations-stand : Told → AllocationsStand
-allocations-stand told image s roots before list after shape None r h m k = refused told image s roots before list r shape after m k
-allocations-stand told image s roots before list after shape (Some a) r h m k = placed told image s roots before list r shape after a m k
+pub told_allocations_stand : Told → AllocationsStand
+told_allocations_stand told image s roots before list after shape None r h m k = refused told image s roots before list r shape after m k
+told_allocations_stand told image s roots before list after shape (Some a) r h m k = placed told image s roots before list r shape after a m k
 
-pub collections-stand : Told → CollectionsStand
-collections-stand told image s roots before list after r k = collected-stands told image s roots before list r after k
+pub told_collections_stand : Told → CollectionsStand
+told_collections_stand told image s roots before list after r k = collected_stands told image s roots before list r after k
 
 pub values-keep_words : ValuesKeepWords
 values-keep_words image s shape None v h = refl

@@ -96,7 +96,7 @@ pub record WordAt (places : List ℕ) (values : List Value) (w : ℕ) : Type 0 w
   pub is : slice_get values number ≡ Some value
   pub is_word : w ≡ Word places value
 
-pub in-get : (places : List ℕ) (values : List Value) (w : ℕ) → In w (map (Word places) values) → WordAt places values w
-in-get places [] w h = absurd h
-in-get places (v ∷ values) w (inl h) = record { number = 0; value = v; is = refl; is_word = h }
-in-get places (v ∷ values) w (inr h) = let q = in-get places values w h in record { number = suc q.number; value = q.value; is = q.is; is_word = q.is_word }
+pub in_get : (places : List ℕ) (values : List Value) (w : ℕ) → In w (map (Word places) values) → WordAt places values w
+in_get places [] w h = absurd h
+in_get places (v ∷ values) w (inl h) = record { number = 0; value = v; is = refl; is_word = h }
+in_get places (v ∷ values) w (inr h) = let q = in_get places values w h in record { number = suc q.number; value = q.value; is = q.is; is_word = q.is_word }

@@ -23,8 +23,8 @@ use Rattle.reached_objects.specs.ReachedFrom.{ReachedFrom}
 use Rattle.reached_objects.specs.ReachedFrom.ReachedFrom.{named, followed}
 use Rattle.typed_heap.specs.Standing.{ObjectStands, refers_within, RootsStand, ReachedObject}
 use Rattle.typed_heap.specs.Laws.{Agrees, WordsAgree}
-use Rattle.typed_heap.proofs.Lists.{below-or-not, At, at-index, map-index, get-names, names-get, get-in, in-get}
-use Rattle.typed_heap.proofs.ShapeWords.{address-block, address-high, value_word, value-there, type-within, Refers, refers-holds, RefersAt, holds-refers, references-held, held-references}
+use Rattle.typed_heap.proofs.Lists.{below-or-not, At, at-index, map-index, get-names, names-get, get-in, in_get}
+use Rattle.typed_heap.proofs.ShapeWords.{address-block, address-high, value_word, value-there, type_within, Refers, refers_holds, RefersAt, holds-refers, references-held, held-references}
 use Rattle.typed_heap.proofs.Facts.{Told, Facts, facts}
 
 -- ---- one object
@@ -79,7 +79,7 @@ module _ (told : Told) (s : ShapesView) (places words : List ℕ) (o : Object) (
 
   -- a value of a type of references is a reference of the block
   pub value-reference : (m : ℕ) → Refers s o.shape m → IsReference s words q.block (value_word o.shape m)
-  value-reference m r = told.lie_within s words q.block (value_word o.shape m) is-object (holds-told (value_word o.shape m) ∙ refers-holds s o.shape m r)
+  value-reference m r = told.lie_within s words q.block (value_word o.shape m) is-object (holds-told (value_word o.shape m) ∙ refers_holds s o.shape m r)
 
   -- and its word that of the value
   pub value-word : (m : ℕ) (v : Value) → slice_get o.values m ≡ Some v → slice_index words (q.block + 2 + value_word o.shape m) ≡ Word places v
@@ -108,8 +108,8 @@ module _ (told : Told) (s : ShapesView) (arrays : ℕ) (store : Store) (roots : 
   -- ---- from values to words
 
   -- a root of the heap is listed and used
-  root-reached : (i : ℕ) (o : Object) (block : ℕ) → names roots i ≡ true → ReachedFrom s store roots i → arrays ≤ i → slice_get store i ≡ Some o → o.place ≡ address block → Reached s words list block
-  root-reached i o block h r l e p =
+  root_reached : (i : ℕ) (o : Object) (block : ℕ) → names roots i ≡ true → ReachedFrom s store roots i → arrays ≤ i → slice_get store i ≡ Some o → o.place ≡ address block → Reached s words list block
+  root_reached i o block h r l e p =
       let q = f.stands i o r l e in
       let same : q.block ≡ block = address-block q.block block (sym q.placed ∙ p) in
       let k = names-get roots i h in
@@ -121,7 +121,7 @@ module _ (told : Told) (s : ShapesView) (arrays : ℕ) (store : Store) (roots : 
   field-reached i j p o block r e h rj l ej at more = go (below-or-not i arrays)
     where
       go : (i < arrays) ⊎ (arrays ≤ i) → Reached s words list block
-      go (inl m) = root-reached j o block (f.arrays_named i j p m e h) rj l ej at
+      go (inl m) = root_reached j o block (f.arrays_named i j p m e h) rj l ej at
       go (inr m) =
           let q = f.stands i p r m e in
           let z = f.stands j o rj l ej in
@@ -132,7 +132,7 @@ module _ (told : Told) (s : ShapesView) (arrays : ℕ) (store : Store) (roots : 
           (value-word told s (places_in store) words p q f.told.few (f.told.there i p e) v.number (Ref j) v.is ∙ (place-word j o ej ∙ at)) (subst (IsUsed words) same z.used)
 
   pub reached-words : (i : ℕ) (o : Object) (block : ℕ) → ReachedFrom s store roots i → arrays ≤ i → slice_get store i ≡ Some o → o.place ≡ address block → Reached s words list block
-  reached-words i o block (named _ l h) m e p = root-reached i o block h (named i l h) m e p
+  reached-words i o block (named _ l h) m e p = root_reached i o block h (named i l h) m e p
   reached-words j o block (followed i _ p r a l h) m e at = field-reached i j p o block r a h (followed i j p r a l h) m e at (λ n b x. reached-words i p b r n a x)
 
   -- ---- from words to values
@@ -172,8 +172,8 @@ module _ (told : Told) (s : ShapesView) (arrays : ℕ) (store : Store) (roots : 
   value-located (Desc n) block r h e = absurd (false≢true r)
 
   -- a root that refers reaches
-  root-value : (k j : ℕ) → slice_get roots k ≡ Some (Ref j) → ReachedFrom s store roots j
-  root-value k j e = named j (below j (length store) (f.rooted k (Ref j) e)) (get-names roots k j e)
+  root_value : (k j : ℕ) → slice_get roots k ≡ Some (Ref j) → ReachedFrom s store roots j
+  root_value k j e = named j (below j (length store) (f.rooted k (Ref j) e)) (get-names roots k j e)
 
   -- the value at a word of a reached object that holds a reference
   record Held (block k : ℕ) : Type 0 where
@@ -206,15 +206,15 @@ module _ (told : Told) (s : ShapesView) (arrays : ℕ) (store : Store) (roots : 
       z = holds-refers s o.object.shape k ref.behind (sym (holds-told told s (places_in store) words o.object q f.told.few there k) ∙ ref.holds_reference)
 
       a : At o.object.values z.number
-      a = at-index o.object.values z.number (let l = type-within s o.object.shape z.number z.refers.type z.refers.typed in let n = f.told.counts o.number o.object o.is in omega arith)
+      a = at-index o.object.values z.number (let l = type_within s o.object.shape z.number z.refers.type z.refers.typed in let n = f.told.counts o.number o.object o.is in omega arith)
 
       inside : (j : ℕ) → a.item ≡ Ref j → j < length store
       inside j g = f.told.inside o.number z.number j o.object o.is (a.is ∙ ap Some g)
 
   pub words-reached : (block : ℕ) → Reached s words list block → Located s arrays store roots block
   words-reached block (listed_word _ m u) =
-      let q = in-get (places_in store) roots (address block) (subst (In (address block)) f.lists m) in
-      value-located q.value block (f.rooted q.number q.value q.is) (λ j g. root-value q.number j (q.is ∙ ap Some g)) (sym q.is_word)
+      let q = in_get (places_in store) roots (address block) (subst (In (address block)) f.lists m) in
+      value-located q.value block (f.rooted q.number q.value q.is) (λ j g. root_value q.number j (q.is ∙ ap Some g)) (sym q.is_word)
   words-reached block (named_word b k _ h r e u) =
       let v = value-held b k (words-reached b h) r in
       value-located v.item block v.refers v.reached (sym v.is_word ∙ e)
@@ -223,8 +223,8 @@ module _ (told : Told) (s : ShapesView) (arrays : ℕ) (store : Store) (roots : 
 
   pub all-good : AllGood s words list
   all-good = record {
-    roots = λ w m. let q = in-get (places_in store) roots w (subst (In w) f.lists m) in
-        subst (IsGood s words) (sym q.is_word) (value-good q.value (f.rooted q.number q.value q.is) (λ j g. root-value q.number j (q.is ∙ ap Some g)));
+    roots = λ w m. let q = in_get (places_in store) roots w (subst (In w) f.lists m) in
+        subst (IsGood s words) (sym q.is_word) (value-good q.value (f.rooted q.number q.value q.is) (λ j g. root_value q.number j (q.is ∙ ap Some g)));
     fields = λ b k h r. let v = value-held b k (words-reached b h) r in subst (IsGood s words) (sym v.is_word) (value-good v.item v.refers v.reached);
   }
 

@@ -28,7 +28,7 @@ use Rattle.typed_machine.specs.Reaching.{names, references_from, references_of, 
 use Rattle.typed_heap.specs.Standing.{refers_within, RootsRefer}
 use Rattle.typed_heap.specs.Laws.{TypedRootsRefer}
 use Rattle.typed_heap.proofs.Lists.{names-left, names-right}
-use Rattle.typed_heap.proofs.Facts.{reference-there}
+use Rattle.typed_heap.proofs.Facts.{reference_there}
 
 -- each value of the list is null, or one of the first n objects
 abbrev AllRefer : ℕ → List Value → Type 0
@@ -72,10 +72,10 @@ each-names f (y ∷ xs) (suc i) j x e h = names-right (f y) (flat_map f xs) j (e
 -- a value of a type of references is null or an object
 fits-refers : (v : ShownImage) (store : Store) (w : Value) (t : Ty) → may_refer t ≡ true → fits_among v all_objects (shapes_in store) w t ≡ true → refers_within (length store) w ≡ true
 unfolding fits_among may_refer
-fits-refers v store (Ref i) (ty.Ref c) m h = reference-there v store i (ty.Ref c) m h
-fits-refers v store (Ref i) (ty.Obj c) m h = reference-there v store i (ty.Obj c) m h
-fits-refers v store (Ref i) (ty.ArrRef k) m h = reference-there v store i (ty.ArrRef k) m h
-fits-refers v store (Ref i) (ty.Arr k) m h = reference-there v store i (ty.Arr k) m h
+fits-refers v store (Ref i) (ty.Ref c) m h = reference_there v store i (ty.Ref c) m h
+fits-refers v store (Ref i) (ty.Obj c) m h = reference_there v store i (ty.Obj c) m h
+fits-refers v store (Ref i) (ty.ArrRef k) m h = reference_there v store i (ty.ArrRef k) m h
+fits-refers v store (Ref i) (ty.Arr k) m h = reference_there v store i (ty.Arr k) m h
 fits-refers v store Null t m h = refl
 fits-refers v store w (ty.Ref c) m h = absurd (false≢true h)
 fits-refers v store w (ty.Obj c) m h = absurd (false≢true h)
@@ -183,8 +183,8 @@ module _ (image : ImageParts) (s : State) where
       go None e more = more
       go (Some t) e more = test t (is_reference t) e refl more
 
-  data-refer : TypedAmong image all_objects s → AllRefer n (data_references image s)
-  data-refer typed =
+  data_refer : TypedAmong image all_objects s → AllRefer n (data_references image s)
+  data_refer typed =
       all-append n (static_references image.statics s.statics) (flat_map (references_of (shown image).shapes) (take (length image.arrays) s.store)) (statics-refer image.statics s.statics typed.statics.fit)
       (all-each n (references_of (shown image).shapes) (take (length image.arrays) s.store) (λ i o e. let g = take-get (length image.arrays) i s.store o e in
       fields-refer o.shape 0 o.values (λ m t w a b d. fits-refers (shown image) s.store w (of_field t) (field-refers t b) (typed.store.fit i m o t w refl g (ap (value_type (shown image).shapes o.shape) (let q : m ≡ 0 + m = omega arith in q) ∙ a) d))))
@@ -201,5 +201,5 @@ roots-refer image s next t typed awaits = record {
   where
     all : AllRefer (length s.store) (data_references image s ++ frame_references image (slots_at image next) s.values ++ waiting_references image s)
     all = all-append (length s.store) (data_references image s ++ frame_references image (slots_at image next) s.values) (waiting_references image s)
-        (all-append (length s.store) (data_references image s) (frame_references image (slots_at image next) s.values) (data-refer image s typed) (awaited image s t next s.values awaits))
+        (all-append (length s.store) (data_references image s) (frame_references image (slots_at image next) s.values) (data_refer image s typed) (awaited image s t next s.values awaits))
         (all-each (length s.store) (stack_references image) s.stacks (λ i k e. stack image s k (typed.others i k e)))

@@ -73,9 +73,9 @@ run-found taken k before (suc n) test l c h = go (taken k) refl h (λ g. run-fou
     go false e g later longer = whole (k + 1 - (before + 1)) (omega arith) (longer e g)
 
 -- words that end before k lie in the run that ends there
-in-before : (k before i m : ℕ) → before ≤ k → 0 < m → k - before ≤ i → i + m ≤ k → list_any (lies_in i m) (run_before k before) ≡ true
-in-before k zero i m l s a b = absurd (omega arith)
-in-before k (suc c) i m l s a b =
+in_before : (k before i m : ℕ) → before ≤ k → 0 < m → k - before ≤ i → i + m ≤ k → list_any (lies_in i m) (run_before k before) ≡ true
+in_before k zero i m l s a b = absurd (omega arith)
+in_before k (suc c) i m l s a b =
     let first : nat_le (k - suc c) i ≡ true = grind (arith, nat_tests) in
     let low : i + m ≤ k - suc c + suc c = omega arith in
     let last : nat_le (i + m) (k - suc c + suc c) ≡ true = grind (arith, nat_tests) in
@@ -90,7 +90,7 @@ right false b e = e
 
 -- words that are not taken lie in a run
 pub words-lie : (taken : ℕ → Bool) (k before n i m : ℕ) → before ≤ k → 0 < m → k - before ≤ i → i + m ≤ k + n → ((j : ℕ) → i ≤ j → j < i + m → taken j ≡ false) → list_any (lies_in i m) (runs_from taken k before n) ≡ true
-words-lie taken k before zero i m l s a b c = in-before k before i m l s a (omega arith)
+words-lie taken k before zero i m l s a b c = in_before k before i m l s a (omega arith)
 words-lie taken k before (suc n) i m l s a b c =
     go (taken k) refl (below-or-not k i) (below-or-not k (i + m)) (λ g. words-lie taken (k + 1) 0 n i m (omega arith) s (omega arith) (omega arith) c) (words-lie taken (k + 1) (before + 1) n i m (omega arith) s (omega arith) (omega arith) c)
   where
@@ -106,4 +106,4 @@ words-lie taken k before (suc n) i m l s a b c =
     go false e x y later longer = longer
     go true e (inl x) y later longer = both (inr (later x))
     go true e (inr x) (inl y) later longer = absurd (met e x y)
-    go true e (inr x) (inr y) later longer = both (inl (in-before k before i m l s a y))
+    go true e (inr x) (inr y) later longer = both (inl (in_before k before i m l s a y))

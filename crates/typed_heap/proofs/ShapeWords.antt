@@ -46,19 +46,19 @@ value-there o m = go o.shape
 -- ---- types of values
 
 -- each value has a type
-pub type-some : (s : ShapesView) (x : ObjectShape) (m : ℕ) → IsShape s (shape_in x) → m < value_count s x → (t : FieldTy) × (value_type s x m ≡ Some t)
+pub type_some : (s : ShapesView) (x : ObjectShape) (m : ℕ) → IsShape s (shape_in x) → m < value_count s x → (t : FieldTy) × (value_type s x m ≡ Some t)
 unfolding value_type value_count Element
-type-some s (InstanceOf c) m h l = let a = at-index (Fields s c) m l in (a.item, a.is)
-type-some s (ArrayOf k n) m h l = let t : nat_lt m n ≡ true = grind (arith, nat_tests) in let e = element k h in (e.0, rw t e.1)
+type_some s (InstanceOf c) m h l = let a = at-index (Fields s c) m l in (a.item, a.is)
+type_some s (ArrayOf k n) m h l = let t : nat_lt m n ≡ true = grind (arith, nat_tests) in let e = element k h in (e.0, rw t e.1)
   where
     element : (k : ℕ) → k < length s.kinds → (t : FieldTy) × (Element s k ≡ Some t)
     element k h = let a = at-index s.kinds k h in (a.item.element, ap (option_map (λ (row : KindRow). row.element)) a.is)
 
 -- and where there is a type, there is a value
-pub type-within : (s : ShapesView) (x : ObjectShape) (m : ℕ) (t : FieldTy) → value_type s x m ≡ Some t → m < value_count s x
+pub type_within : (s : ShapesView) (x : ObjectShape) (m : ℕ) (t : FieldTy) → value_type s x m ≡ Some t → m < value_count s x
 unfolding value_type value_count
-type-within s (InstanceOf c) m t e = slice_get_within (Fields s c) m t e
-type-within s (ArrayOf k n) m t e = go (nat_lt m n) refl e
+type_within s (InstanceOf c) m t e = slice_get_within (Fields s c) m t e
+type_within s (ArrayOf k n) m t e = go (nat_lt m n) refl e
   where
     go : (b : Bool) → nat_lt m n ≡ b → cond b (Element s k) None ≡ Some t → m < n
     go true f e = grind (arith, nat_tests)
@@ -86,10 +86,10 @@ unfolding field_at
 field-at s c m = rw (field-index m) refl
 
 -- a value of such a type is a word that holds a reference
-pub refers-holds : (s : ShapesView) (x : ObjectShape) (m : ℕ) → Refers s x m → holds_reference s (shape_in x) (elements_in x) (value_word x m) ≡ true
+pub refers_holds : (s : ShapesView) (x : ObjectShape) (m : ℕ) → Refers s x m → holds_reference s (shape_in x) (elements_in x) (value_word x m) ≡ true
 unfolding holds_reference value_type
-refers-holds s (InstanceOf c) m r = ap (λ o. option_map_or is_reference o false) (field-at s c m ∙ r.typed) ∙ r.refers
-refers-holds s (ArrayOf k n) m r = go (nat_lt m n) refl r.typed
+refers_holds s (InstanceOf c) m r = ap (λ o. option_map_or is_reference o false) (field-at s c m ∙ r.typed) ∙ r.refers
+refers_holds s (ArrayOf k n) m r = go (nat_lt m n) refl r.typed
   where
     one : nat_lt 1 (suc (suc m)) ≡ true
     one = grind (arith, nat_tests)
@@ -144,12 +144,12 @@ pub record HeldAt (s : ShapesView) (x : ObjectShape) (j : ℕ) (values : List Va
   pub refers : Refers s x (j + number)
 
 -- the type that a test passed
-type-of : (o : Option FieldTy) → option_map_or is_reference o false ≡ true → (t : FieldTy) × (o ≡ Some t) × (is_reference t ≡ true)
-type-of None h = absurd (false≢true h)
-type-of (Some t) h = (t, refl, h)
+type_of : (o : Option FieldTy) → option_map_or is_reference o false ≡ true → (t : FieldTy) × (o ≡ Some t) × (is_reference t ≡ true)
+type_of None h = absurd (false≢true h)
+type_of (Some t) h = (t, refl, h)
 
-refers-at : (s : ShapesView) (x : ObjectShape) (j k : ℕ) → j ≡ k → option_map_or is_reference (value_type s x j) false ≡ true → Refers s x k
-refers-at s x j k e h = subst (Refers s x) e (let t = type-of (value_type s x j) h in record { type = t.0; typed = t.1; refers = t.2 })
+refers_at : (s : ShapesView) (x : ObjectShape) (j k : ℕ) → j ≡ k → option_map_or is_reference (value_type s x j) false ≡ true → Refers s x k
+refers_at s x j k e h = subst (Refers s x) e (let t = type_of (value_type s x j) h in record { type = t.0; typed = t.1; refers = t.2 })
 
 later-held : (s : ShapesView) (x : ObjectShape) (j : ℕ) (v : Value) (values : List Value) (i : ℕ) → HeldAt s x (j + 1) values i → HeldAt s x j (v ∷ values) i
 later-held s x j v values i q = record { number = suc q.number; is = q.is; refers = subst (Refers s x) (let e : j + 1 + q.number ≡ j + suc q.number = omega arith in e) q.refers }
@@ -160,7 +160,7 @@ references-held s x j [] i h = absurd (false≢true h)
 references-held s x j (v ∷ values) i h = go (option_map_or is_reference (value_type s x j) false) refl h (λ g. later-held s x j v values i (references-held s x (j + 1) values i g))
   where
     first : option_map_or is_reference (value_type s x j) false ≡ true → (v ≡ Ref i) ⊎ (names (references_from s x (j + 1) values) i ≡ true) → (names (references_from s x (j + 1) values) i ≡ true → HeldAt s x j (v ∷ values) i) → HeldAt s x j (v ∷ values) i
-    first e (inl g) more = record { number = 0; is = ap Some g; refers = refers-at s x j (j + 0) (omega arith) e }
+    first e (inl g) more = record { number = 0; is = ap Some g; refers = refers_at s x j (j + 0) (omega arith) e }
     first e (inr g) more = more g
 
     go : (b : Bool) → option_map_or is_reference (value_type s x j) false ≡ b → names (cond b (v ∷ references_from s x (j + 1) values) (references_from s x (j + 1) values)) i ≡ true
@@ -168,15 +168,15 @@ references-held s x j (v ∷ values) i h = go (option_map_or is_reference (value
     go true e h more = first e (names-first v (references_from s x (j + 1) values) i h) more
     go false e h more = more h
 
-refers-test : (s : ShapesView) (x : ObjectShape) (j k : ℕ) → j ≡ k → Refers s x k → option_map_or is_reference (value_type s x j) false ≡ true
-refers-test s x j k e r = ap (λ m. option_map_or is_reference (value_type s x m) false) e ∙ (ap (λ o. option_map_or is_reference o false) r.typed ∙ r.refers)
+refers_test : (s : ShapesView) (x : ObjectShape) (j k : ℕ) → j ≡ k → Refers s x k → option_map_or is_reference (value_type s x j) false ≡ true
+refers_test s x j k e r = ap (λ m. option_map_or is_reference (value_type s x m) false) e ∙ (ap (λ o. option_map_or is_reference o false) r.typed ∙ r.refers)
 
 -- and the other way round
 pub held-references : (s : ShapesView) (x : ObjectShape) (j m : ℕ) (values : List Value) (i : ℕ) → slice_get values m ≡ Some (Ref i) → Refers s x (j + m) → names (references_from s x j values) i ≡ true
 held-references s x j m [] i e r = cc
 held-references s x j zero (v ∷ values) i e r =
     let q : v ≡ Ref i = cc in
-    let t = refers-test s x j (j + 0) (omega arith) r in
+    let t = refers_test s x j (j + 0) (omega arith) r in
     rw t (rw q (get-names (Ref i ∷ references_from s x (j + 1) values) 0 i refl))
 held-references s x j (suc m) (v ∷ values) i e r = go (option_map_or is_reference (value_type s x j) false) (held-references s x (j + 1) m values i e (subst (Refers s x) (let q : j + suc m ≡ j + 1 + m = omega arith in q) r))
   where

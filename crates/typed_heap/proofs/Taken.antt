@@ -148,9 +148,9 @@ module _ (image : ImageParts) (s : State) (roots : List Value) (words list : Lis
   -- ---- legal answers
 
   -- where no words are clear, a refusal is legal
-  pub refusal-legal : (need : ℕ) → NoGap (shown image).shapes words list need → Legal (Gaps image roots s) need Refused ≡ true
+  pub refusal_legal : (need : ℕ) → NoGap (shown image).shapes words list need → Legal (Gaps image roots s) need Refused ≡ true
   unfolding Legal Gaps
-  refusal-legal need g = go (list_any (λ (run : WordRun). nat_le need run.count) (runs_from (is_taken image (reached_by image s.store roots) s) 0 0 image.heap_words)) refl
+  refusal_legal need g = go (list_any (λ (run : WordRun). nat_le need run.count) (runs_from (is_taken image (reached_by image s.store roots) s) 0 0 image.heap_words)) refl
     where
       none : (j : ℕ) → 0 - 0 ≤ j → j < 0 → is_taken image (reached_by image s.store roots) s j ≡ false
       none j a b = absurd (omega arith)

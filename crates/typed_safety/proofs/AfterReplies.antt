@@ -23,9 +23,9 @@ use Rattle.typed_machine.specs.Placing.{Placed, fresh_values, fresh_object, allo
 use Rattle.typed_machine.specs.Turns.{comes_back}
 use Rattle.typed_machine.specs.Reaching.{names, references_of, slots_at, frame_references, value_registers, register_references, thread_references, stack_references, static_references, data_references, waiting_references, Held, Roots, Reach, rooted, live_in}
 use Rattle.reached_objects.specs.ReachedFrom.{ReachedFrom, named, followed}
-use Rattle.typed_safety.proofs.Naming.{names-left, names-right, names-either, names-flat, names-flat_some, registers-are, object-refers}
-use Rattle.typed_safety.proofs.Living.{ReachIsLeast, take-front, frames-live, stack-live, object-live, data-live, array-row, shape-within, live-cases}
-use Rattle.typed_safety.proofs.Growing.{stood-or-last}
+use Rattle.typed_safety.proofs.Naming.{names-left, names-right, names-either, names-flat, names-flat_some, registers-are, object_refers}
+use Rattle.typed_safety.proofs.Living.{ReachIsLeast, take-front, frames-live, stack_live, object_live, data_live, array-row, shape-within, live-cases}
+use Rattle.typed_safety.proofs.Growing.{stood_or_last}
 use Rattle.typed_safety.proofs.FirstStates.{copy-read}
 
 -- ---- the roots
@@ -68,11 +68,11 @@ roots-live : (image : ImageParts) (live : ℕ → Bool) (s : State) (t : TypedAm
 unfolding Roots
 roots-live image live s t u next a i e = ⊎_elim
     (λ (f : names (data_references image s ++ frame_references image (slots_at image next) s.values) i ≡ true). ⊎_elim
-    (λ (g : names (data_references image s) i ≡ true). data-live image live s t i g)
+    (λ (g : names (data_references image s) i ≡ true). data_live image live s t i g)
     (λ (g : names (frame_references image (slots_at image next) s.values) i ≡ true). frames-live (scope_of image live s) a.sig.result a.context.slots s.values a.frames i (rw a.here at g))
     (names-either (data_references image s) (frame_references image (slots_at image next) s.values) i f))
     (λ (f : names (waiting_references image s) i ≡ true).
-    let r = names-flat_some (stack_references image) s.stacks i f in stack-live (scope_of image live s) r.1 (t.others r.0 r.1 r.2) i r.3)
+    let r = names-flat_some (stack_references image) s.stacks i f in stack_live (scope_of image live s) r.1 (t.others r.0 r.1 r.2) i r.3)
     (names-either (data_references image s ++ frame_references image (slots_at image next) s.values) (waiting_references image s) i e)
 
 -- so does what is reached from them
@@ -85,7 +85,7 @@ rooted-live image reaches live s t u next a i e = ⊎_elim
   where
     from : (j : ℕ) → ReachedFrom (shown image).shapes s.store (Roots image next s) j → live j ≡ true
     from j (named k few h) = (roots-live image live s t u next a j h).0
-    from j (followed k n o r here few h) = (object-live image live s t k j o (from k r) here h).0
+    from j (followed k n o r here few h) = (object_live image live s t k j o (from k r) here h).0
 
 -- ---- after the reply
 
@@ -159,7 +159,7 @@ fresh-refers-not v (ArrayOf c n) k i e = element (Element v c) (copy-read n k (o
     element (Some t) f = zero-refers-not t i f
 
 fresh-names-not : (v : ShapesView) (shape : ObjectShape) (a i : ℕ) → names (references_of v (fresh_object v shape a)) i ≢ true
-fresh-names-not v shape a i e = let r = object-refers v (fresh_object v shape a) i e in fresh-refers-not v shape r.0 i r.4
+fresh-names-not v shape a i e = let r = object_refers v (fresh_object v shape a) i e in fresh-refers-not v shape r.0 i r.4
 
 -- the roots of a state with an object more
 take-same : {A : Type 0} (n : ℕ) (xs ys : List A) → n ≤ length xs → take n (xs ++ ys) ≡ take n xs
@@ -232,10 +232,10 @@ placed-after image reaches s t next shape a i e = ⊎_elim
     from j (followed k n o r here few h) = ⊎_elim
         (λ (old : slice_get s.store k ≡ Some o).
         let there = slice_get_within s.store k o old in
-        let low = shape-within s.store j (object-live image all_objects s t k j o refl old h).1 in
+        let low = shape-within s.store j (object_live image all_objects s t k j o refl old h).1 in
         ⊎_elim
         (λ (is : rooted image next s k ≡ true). inl (next-rooted k j o is old low h))
         (λ (is : k ≡ length s.store). absurd (omega (arith, is, there)))
         (from k r))
         (λ (new : (k ≡ length s.store) × (o ≡ fresh_object (shown image).shapes shape a)). absurd (fresh-names-not (shown image).shapes shape a j (rw new.1 at h)))
-        (stood-or-last s.store (fresh_object (shown image).shapes shape a) k o here)
+        (stood_or_last s.store (fresh_object (shown image).shapes shape a) k o here)

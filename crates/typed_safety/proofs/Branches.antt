@@ -33,8 +33,8 @@ use Rattle.typed_machine.specs.Typing.{KindTold, ClassTold, IsPair, is_null, Typ
 use Rattle.typed_safety.specs.Laws.{ImageLaws}
 use Rattle.typed_safety.proofs.Scopes.{rows}
 use Rattle.typed_safety.proofs.Values.{fits-not_null}
-use Rattle.typed_safety.proofs.Fitted.{StateFits, typed-fits, place-fits, thread-fits, also-related}
-use Rattle.typed_safety.proofs.Standing.{FormTyped, arrives-typed}
+use Rattle.typed_safety.proofs.Fitted.{StateFits, typed-fits, place-fits, thread_fits, also_related}
+use Rattle.typed_safety.proofs.Standing.{FormTyped, arrives_typed}
 
 -- a context that is live, and that the state fits
 abbrev pub FitsLive : Scope → Ty → State → ContextView → Type 0
@@ -53,14 +53,14 @@ branch-agrees : (a : Cond) (f : FlagBits) → holds a f ≡ true → FlagsAgree 
 branch-agrees a f e = grind arith
 
 -- where it does not, what the fall tells is so
-fall-agrees : (a : Cond) (f : FlagBits) → holds a f ≡ false → FlagsAgree (told_by_fall a) f
-fall-agrees a f e = grind arith
+fall_agrees : (a : Cond) (f : FlagBits) → holds a f ≡ false → FlagsAgree (told_by_fall a) f
+fall_agrees a f e = grind arith
 
 module _ (types : TypeLaws) (l : Scope) (result : Ty) (c : LiveContext) (s : State) (h : StateFits l result c s) where
   -- a register has another type, too
   refine_reg-fits : (r : Reg) (t : Ty) → fits_in l (s.thread.regs r) t ≡ true → StateFits l result (refine_reg r t c) s
   unfolding refine_reg
-  refine_reg-fits r t e = thread-fits l result c _ s h (record {
+  refine_reg-fits r t e = thread_fits l result c _ s h (record {
     regs = λ q. typed q (same q r) refl;
     pairs = h.thread.pairs;
     heads = h.thread.heads;
@@ -77,9 +77,9 @@ module _ (types : TypeLaws) (l : Scope) (result : Ty) (c : LiveContext) (s : Sta
   -- a register is below the length of an array, too
   add_pair-fits : (i a : Reg) → IsPair l.shapes (s.thread.regs i) (s.thread.regs a) → StateFits l result (add_pair i a c) s
   unfolding add_pair
-  add_pair-fits i a is = thread-fits l result c _ s h (record {
+  add_pair-fits i a is = thread_fits l result c _ s h (record {
     regs = h.thread.regs;
-    pairs = also-related types (λ j b. IsPair l.shapes (s.thread.regs j) (s.thread.regs b)) c.pairs i a is h.thread.pairs;
+    pairs = also_related types (λ j b. IsPair l.shapes (s.thread.regs j) (s.thread.regs b)) c.pairs i a is h.thread.pairs;
     heads = h.thread.heads;
     conditions = h.thread.conditions;
     told = h.thread.told;
@@ -88,10 +88,10 @@ module _ (types : TypeLaws) (l : Scope) (result : Ty) (c : LiveContext) (s : Sta
   })
 
   -- an object of a class is one of a class above it
-  object-fits : (r : Reg) (o d e : ℕ) → s.thread.regs r ≡ Ref o → l.live o ≡ true → slice_get l.shapes o ≡ Some (InstanceOf d) → Below (rows l) d e ≡ true
+  object_fits : (r : Reg) (o d e : ℕ) → s.thread.regs r ≡ Ref o → l.live o ≡ true → slice_get l.shapes o ≡ Some (InstanceOf d) → Below (rows l) d e ≡ true
       → fits_in l (s.thread.regs r) (ty.Obj e) ≡ true
   unfolding fits_among
-  object-fits r o d e holds live is below = rw (holds, live, is) below
+  object_fits r o d e holds live is below = rw (holds, live, is) below
 
   -- two classes above one are one below the other
   comparable : ClassLaws (rows l) → (d k e : ℕ) → Below (rows l) d k ≡ true → Below (rows l) d e ≡ true
@@ -106,8 +106,8 @@ module _ (types : TypeLaws) (l : Scope) (result : Ty) (c : LiveContext) (s : Sta
     where
       go : (x : Bool) → within (rows l) k e ≡ x → (y : Bool) → within (rows l) e k ≡ y
           → FitsLive l result s (if x then Live (refine_reg r (ty.Obj k) c) else (if y then Live (refine_reg r (ty.Obj e) c) else Dead))
-      go true a y b = refine_reg-fits r (ty.Obj k) (object-fits r o d k holds live is f)
-      go false a true b = refine_reg-fits r (ty.Obj e) (object-fits r o d e holds live is g)
+      go true a y b = refine_reg-fits r (ty.Obj k) (object_fits r o d k holds live is f)
+      go false a true b = refine_reg-fits r (ty.Obj e) (object_fits r o d e holds live is g)
       go false a false b = absurd (comparable laws d k e f g a b)
 
   -- what the type of an object tells of its class
@@ -116,9 +116,9 @@ module _ (types : TypeLaws) (l : Scope) (result : Ty) (c : LiveContext) (s : Sta
   class-told w o d k f e is = let parts = and_parts (l.live o) (is_instance (rows l) (slice_get l.shapes o) k) (rw e at f) in (parts.0, rw is at parts.1)
 
   -- an object that has a type is of a class, too
-  meet_object-fits : ClassLaws (rows l) → (r : Reg) (k e : ℕ) → fits_in l (s.thread.regs r) (ty.Obj k) ≡ true → ClassTold (rows l) l.shapes (s.thread.regs r) e true
+  meet_object_fits : ClassLaws (rows l) → (r : Reg) (k e : ℕ) → fits_in l (s.thread.regs r) (ty.Obj k) ≡ true → ClassTold (rows l) l.shapes (s.thread.regs r) e true
       → FitsLive l result s (meet_class (rows l) c r k e)
-  meet_object-fits laws r k e f b =
+  meet_object_fits laws r k e f b =
       let known = class-told (s.thread.regs r) b.object b.class k f b.is_object b.is_of in
       meet_class-fits laws r b.object b.class k e b.is_object known.0 b.is_of known.1 (sym b.tells)
 
@@ -126,9 +126,9 @@ module _ (types : TypeLaws) (l : Scope) (result : Ty) (c : LiveContext) (s : Sta
   meet-fits : ClassLaws (rows l) → (r : Reg) (t : Ty) (e : ℕ) → fits_in l (s.thread.regs r) t ≡ true → ClassTold (rows l) l.shapes (s.thread.regs r) e true
       → FitsLive l result s (meet (rows l) c r t e)
   unfolding meet not_null
-  meet-fits laws r (ty.Obj k) e f b = meet_object-fits laws r k e f b
+  meet-fits laws r (ty.Obj k) e f b = meet_object_fits laws r k e f b
   meet-fits laws r (ty.Ref k) e f b =
-      meet_object-fits laws r k e (fits-not_null (shown l.image) l.live l.shapes (s.thread.regs r) (ty.Ref k) f (ap is_null b.is_object)) b
+      meet_object_fits laws r k e (fits-not_null (shown l.image) l.live l.shapes (s.thread.regs r) (ty.Ref k) f (ap is_null b.is_object)) b
   meet-fits laws r t e f b = h
 
   -- the state fits what is known on an edge that tells what is so
@@ -154,7 +154,7 @@ module _ (image : ImageParts) (live : ℕ → Bool) (laws : ImageLaws image) (s 
       → TypedAmong image live (at_place to s)
   way-typed Dead to h f = absurd h
   way-typed (Live d) to h f =
-      arrives-typed image live _ laws s.thread.place d t.thread.sig (at_place to s) (f d refl) t.thread.function (place-fits (scope_of image live s) t.thread.sig.result d s to h)
+      arrives_typed image live _ laws s.thread.place d t.thread.sig (at_place to s) (f d refl) t.thread.function (place-fits (scope_of image live s) t.thread.sig.result d s to h)
 
   -- what an edge tells is known where it goes
   told-typed : (k : Told) (to : ℕ) → FlagsAgree k s.thread.flags
@@ -163,9 +163,9 @@ module _ (image : ImageParts) (live : ℕ → Bool) (laws : ImageLaws image) (s 
       way-typed _ to (refine-fits laws.types (scope_of image live s) t.thread.sig.result t.thread.context s (typed-fits image live s t) laws.classes t.thread.context.kind k t.thread.told agrees) f
 
   -- JMP
-  pub jump-typed : (to : ℕ) → FormTyped image live s t i len next (Jump to)
+  pub jump_typed : (to : ℕ) → FormTyped image live s t i len next (Jump to)
   unfolding form_effect operand_rule branching target_of
-  jump-typed to at =
+  jump_typed to at =
       rw (block-goes to (let r = at.rules in grind arith)) (way-typed (Live t.thread.context) to (typed-fits image live s t) (λ d e. at.branches d to e refl))
 
   -- Jcc
@@ -176,4 +176,4 @@ module _ (image : ImageParts) (live : ℕ → Bool) (laws : ImageLaws image) (s 
     where
       go : (b : Bool) → holds a s.thread.flags ≡ b → TypedAmong image live (at_place (if b then to else next) s)
       go true e = told-typed (told_by_branch a) to (branch-agrees a s.thread.flags e) (λ d f. at.branches d to f refl)
-      go false e = told-typed (told_by_fall a) next (fall-agrees a s.thread.flags e) at.falls
+      go false e = told-typed (told_by_fall a) next (fall_agrees a s.thread.flags e) at.falls

@@ -34,7 +34,7 @@ use Rattle.typed_machine.specs.Values.{Value, Number, Null, Ref, Code, Ret, Tab,
 use Rattle.typed_machine.specs.States.{State, with_values, at_place, most_values}
 use Rattle.typed_machine.specs.Operands.{operand_value}
 use Rattle.typed_machine.specs.Effects as effect
-use Rattle.typed_machine.specs.Effects.{EffectView, Faults, Calls, goes_on, is_full, pushes, has_arguments, calls_entry, calls_function, calls_to, calls_value, returns_from, form_effect}
+use Rattle.typed_machine.specs.Effects.{Faults, goes_on, is_full, pushes, has_arguments, calls_entry, calls_function, calls_to, returns_from, form_effect}
 use Rattle.typed_machine.specs.Frames.{Scope, fits_in, FramesFit, Awaits, Back}
 use Rattle.typed_machine.specs.Typing.{TypedAmong, scope_of}
 use Rattle.typed_safety.specs.Laws.{ImageLaws, EffectTyped}
@@ -43,7 +43,7 @@ use Rattle.typed_safety.proofs.Frames.{ValueFits, frames-sub}
 use Rattle.typed_safety.proofs.Fitted.{StateFits, typed-fits, fits-typed, lost-told}
 use Rattle.typed_safety.proofs.Reading.{operand-read}
 use Rattle.typed_safety.proofs.StackForms.{room-more}
-use Rattle.typed_safety.proofs.Standing.{FormTyped, above-live, arrives-signature}
+use Rattle.typed_safety.proofs.Standing.{FormTyped, above-live, arrives_signature}
 
 -- ---- returns
 
@@ -113,9 +113,9 @@ module _ (image : ImageParts) (live : ℕ → Bool) (laws : ImageLaws image) (s 
   returns-typed e (Desc k ∷ vs) h room = absurd h
 
   -- RET
-  pub return-typed : (i : Inst) (len : ℕ) → FormTyped image live s t i len next Return
+  pub return_typed : (i : Inst) (len : ℕ) → FormTyped image live s t i len next Return
   unfolding form_effect operand_rule
-  return-typed i len at =
+  return_typed i len at =
       let frames = rw (no-slots t.thread.context.slots (let r = at.rules in grind arith)) at t.thread.frames in
       returns-typed (result-fits image s.thread.place (t.thread.context.regs Eax) t.thread.sig t.thread.function (let r = at.rules in grind arith)) s.values frames t.thread.room
 
@@ -207,7 +207,7 @@ module _ (image : ImageParts) (live : ℕ → Bool) (runs : RunsOn image) (laws 
         context = above.0;
         sig = t.thread.sig;
         here = above.1;
-        function = arrives-signature image s.thread.place next (Live (after_call u t.thread.context)) t.thread.sig a t.thread.function;
+        function = arrives_signature image s.thread.place next (Live (after_call u t.thread.context)) t.thread.sig a t.thread.function;
         below = back-below laws.types (shown image).shapes u t.thread.context above.0 above.2;
         frames = frames-sub (scope_of image live s) t.thread.sig.result laws.classes t.thread.context.slots above.0.slots s.values above.2.slots t.thread.frames;
         room = t.thread.room;
@@ -222,16 +222,16 @@ module _ (image : ImageParts) (live : ℕ → Bool) (runs : RunsOn image) (laws 
       go (suc n) some w = (w.context, w.sig, w.here, w.function, w.below, w.frames)
 
   -- the values in the registers fit the parameters
-  parameters-fit : (sig : Sig) → arguments_fit (shown image).shapes t.thread.context sig ≡ true → (r : Reg) → fits_in (scope_of image live s) (s.thread.regs r) (register_type sig.params r) ≡ true
+  parameters_fit : (sig : Sig) → arguments_fit (shown image).shapes t.thread.context sig ≡ true → (r : Reg) → fits_in (scope_of image live s) (s.thread.regs r) (register_type sig.params r) ≡ true
   unfolding arguments_fit
-  parameters-fit sig e r =
+  parameters_fit sig e r =
       fits-sub (shown image) live _ laws.classes (s.thread.regs r) (t.thread.context.regs r) (register_type sig.params r) (t.thread.regs r)
       (laws.types.every_told (λ q. sub (shown image).shapes (t.thread.context.regs q) (register_type sig.params q)) r e)
 
   -- and the machine's own test holds
-  parameters-tested : (sig : Sig) → ((r : Reg) → fits_in (scope_of image live s) (s.thread.regs r) (register_type sig.params r) ≡ true) → effect.values_fit (shown image) s sig ≡ true
+  parameters_tested : (sig : Sig) → ((r : Reg) → fits_in (scope_of image live s) (s.thread.regs r) (register_type sig.params r) ≡ true) → effect.values_fit (shown image) s sig ≡ true
   unfolding effect.values_fit
-  parameters-tested sig h = laws.types.every_tells _ (λ r. fits-all (shown image) live _ (s.thread.regs r) (register_type sig.params r) (h r))
+  parameters_tested sig h = laws.types.every_tells _ (λ r. fits-all (shown image) live _ (s.thread.regs r) (register_type sig.params r) (h r))
 
   -- a function that is entered is typed at its first instruction
   enters-typed : (to : ℕ) (sig : Sig) → BeginsFunction image to sig → ((r : Reg) → fits_in (scope_of image live s) (s.thread.regs r) (register_type sig.params r) ≡ true)
@@ -264,8 +264,8 @@ module _ (image : ImageParts) (live : ℕ → Bool) (runs : RunsOn image) (laws 
   function-typed : (to : ℕ) (u : Ty) → Callee image t.thread.context ((shown image).function_at to) u → Arrives image s.thread.place next (Live (after_call u t.thread.context))
       → EffectTyped image live s next (calls_function (shown image) s next to)
   function-typed to u callee a =
-      let regs = parameters-fit callee.sig callee.arguments in
-      rw (callee.is_function, callee.signature, parameters-tested callee.sig regs)
+      let regs = parameters_fit callee.sig callee.arguments in
+      rw (callee.is_function, callee.signature, parameters_tested callee.sig regs)
       (enters-typed to callee.sig (runs.calls to callee.number callee.sig callee.is_function callee.signature) regs (rw callee.result (frames-called u a)))
 
   -- a call of an entry of the Nucleus

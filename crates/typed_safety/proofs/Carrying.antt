@@ -20,7 +20,7 @@ use Rattle.typed_machine.specs.States.{State, Thread, Stack, EmptyStack, Running
 use Rattle.typed_machine.specs.Frames.{Scope, fits_in, FramesFit, Awaits}
 use Rattle.typed_machine.specs.Typing.{BoundTold, KindTold, ThreadFits, StackFits, StaticsFit, TypedAmong}
 use Rattle.typed_machine.specs.Reaching.{names, references_of, slots_at, frame_references, register_references, thread_references, stack_references, static_references}
-use Rattle.typed_safety.proofs.Naming.{names-first, names-rest, names-left, names-right, object-has, statics-have, registers-have, field-refers}
+use Rattle.typed_safety.proofs.Naming.{names-first, names-rest, names-left, names-right, object_has, statics-have, registers-have, field-refers}
 
 -- the set has what the values name
 abbrev pub HeldBy : (ℕ → Bool) → List Value → Type 0
@@ -50,17 +50,17 @@ module _ (image : ImageParts) (live more : ℕ → Bool) (os ps : List ObjectSha
   m = record { image = image; live = more; shapes = ps }
 
   -- an object that passes a test of its shape passes it there
-  reference-carried : (i : ℕ) (test : Option ObjectShape → Bool) → test None ≡ false → (live i && test (slice_get os i)) ≡ true → held i ≡ true
+  reference_carried : (i : ℕ) (test : Option ObjectShape → Bool) → test None ≡ false → (live i && test (slice_get os i)) ≡ true → held i ≡ true
       → (more i && test (slice_get ps i)) ≡ true
-  reference-carried i test none h g = let parts = and_parts (live i) (test (slice_get os i)) h in go (slice_get os i) refl parts.1 (c.kept i parts.0 g)
+  reference_carried i test none h g = let parts = and_parts (live i) (test (slice_get os i)) h in go (slice_get os i) refl parts.1 (c.kept i parts.0 g)
     where
       go : (o : Option ObjectShape) → slice_get os i ≡ o → test o ≡ true → more i ≡ true → (more i && test (slice_get ps i)) ≡ true
       go None e f g = absurd (cc)
       go (Some shape) e f g = rw (g, c.there i shape e, f) refl
 
   -- an object is there
-  junk-carried : (i : ℕ) → is_some (slice_get os i) ≡ true → is_some (slice_get ps i) ≡ true
-  junk-carried i h = go (slice_get os i) refl h
+  junk_carried : (i : ℕ) → is_some (slice_get os i) ≡ true → is_some (slice_get ps i) ≡ true
+  junk_carried i h = go (slice_get os i) refl h
     where
       go : (o : Option ObjectShape) → slice_get os i ≡ o → is_some o ≡ true → is_some (slice_get ps i) ≡ true
       go None e f = absurd (cc)
@@ -69,11 +69,11 @@ module _ (image : ImageParts) (live more : ℕ → Bool) (os ps : List ObjectSha
   -- a value keeps its type, where what it refers to by that type is held
   pub value-carried : (w : Value) (t : Ty) → fits_in l w t ≡ true → ((i : ℕ) → w ≡ Ref i → may_refer t ≡ true → held i ≡ true) → fits_in m w t ≡ true
   unfolding fits_among may_refer
-  value-carried (Ref i) (ty.Ref d) h g = reference-carried i (λ o. is_instance (shown image).shapes o d) refl h (g i refl refl)
-  value-carried (Ref i) (ty.Obj d) h g = reference-carried i (λ o. is_instance (shown image).shapes o d) refl h (g i refl refl)
-  value-carried (Ref i) (ty.ArrRef k) h g = reference-carried i (λ o. is_array o k) refl h (g i refl refl)
-  value-carried (Ref i) (ty.Arr k) h g = reference-carried i (λ o. is_array o k) refl h (g i refl refl)
-  value-carried (Ref i) ty.Junk h g = junk-carried i h
+  value-carried (Ref i) (ty.Ref d) h g = reference_carried i (λ o. is_instance (shown image).shapes o d) refl h (g i refl refl)
+  value-carried (Ref i) (ty.Obj d) h g = reference_carried i (λ o. is_instance (shown image).shapes o d) refl h (g i refl refl)
+  value-carried (Ref i) (ty.ArrRef k) h g = reference_carried i (λ o. is_array o k) refl h (g i refl refl)
+  value-carried (Ref i) (ty.Arr k) h g = reference_carried i (λ o. is_array o k) refl h (g i refl refl)
+  value-carried (Ref i) ty.Junk h g = junk_carried i h
   value-carried (Ref i) t h g = absurd (cc)
   value-carried (Number n) t h g = grind arith
   value-carried Null t h g = grind arith
@@ -128,8 +128,8 @@ module _ (image : ImageParts) (live more : ℕ → Bool) (os ps : List ObjectSha
   told-carried t k h = h
 
   -- a thread
-  pub thread-carried : EspRefersNot image → (t : Thread) (ws : List Value) → ThreadFits l t ws → HeldBy held (thread_references image t ws) → ThreadFits m t ws
-  thread-carried esp t ws h g = record {
+  pub thread_carried : EspRefersNot image → (t : Thread) (ws : List Value) → ThreadFits l t ws → HeldBy held (thread_references image t ws) → ThreadFits m t ws
+  thread_carried esp t ws h g = record {
     context = h.context;
     sig = h.sig;
     here = h.here;
@@ -160,11 +160,11 @@ module _ (image : ImageParts) (live more : ℕ → Bool) (os ps : List ObjectSha
   }
 
   -- a stack
-  pub stack-carried : EspRefersNot image → (stack : Stack) → StackFits l stack → HeldBy held (stack_references image stack) → StackFits m stack
-  stack-carried esp EmptyStack h g = h
-  stack-carried esp RunningStack h g = h
-  stack-carried esp (YieldedStack place ws) h g = awaits-carried ty.Num place ws h g
-  stack-carried esp (InterruptedStack t ws) h g = thread-carried esp t ws h g
+  pub stack_carried : EspRefersNot image → (stack : Stack) → StackFits l stack → HeldBy held (stack_references image stack) → StackFits m stack
+  stack_carried esp EmptyStack h g = h
+  stack_carried esp RunningStack h g = h
+  stack_carried esp (YieldedStack place ws) h g = awaits-carried ty.Num place ws h g
+  stack_carried esp (InterruptedStack t ws) h g = thread_carried esp t ws h g
 
   -- the statics
   pub statics-carried : (ws : List Value) → StaticsFit l ws → HeldBy held (static_references image.statics ws) → StaticsFit m ws
@@ -178,7 +178,7 @@ module _ (image : ImageParts) (live more : ℕ → Bool) (os ps : List ObjectSha
   pub field-carried : (j : ℕ) (o : Object) (t : FieldTy) (w : Value) → fits_in l w (of_field t) ≡ true → value_type (shown image).shapes o.shape j ≡ Some t
       → slice_get o.values j ≡ Some w → HeldBy held (references_of (shown image).shapes o) → fits_in m w (of_field t) ≡ true
   field-carried j o t w h e f g = value-carried w (of_field t) h (λ i is refers.
-      g i (object-has (shown image).shapes o j i t e (rw (field-refers t) at refers) (rw is at f)))
+      g i (object_has (shown image).shapes o j i t e (rw (field-refers t) at refers) (rw is at f)))
 
 -- a state whose store is as it was, where what it holds is held, and so is what the objects hold that are spoken of there
 pub typed-carried : (image : ImageParts) → EspRefersNot image → (live more held : ℕ → Bool) (s : State) → Carries live more (shapes_in s.store) (shapes_in s.store) held
@@ -189,8 +189,8 @@ pub typed-carried : (image : ImageParts) → EspRefersNot image → (live more h
     → ((i : ℕ) (o : Object) → more i ≡ true → slice_get s.store i ≡ Some o → (live i ≡ true) × HeldBy held (references_of (shown image).shapes o))
     → TypedAmong image more s
 typed-carried image esp live more held s c t thread stacks statics arrays objects = record {
-  thread = thread-carried image live more _ _ held c esp s.thread s.values t.thread thread;
-  others = λ n stack e. stack-carried image live more _ _ held c esp stack (t.others n stack e) (stacks n stack e);
+  thread = thread_carried image live more _ _ held c esp s.thread s.values t.thread thread;
+  others = λ n stack e. stack_carried image live more _ _ held c esp stack (t.others n stack e) (stacks n stack e);
   one = t.one;
   only = t.only;
   kernel = t.kernel;

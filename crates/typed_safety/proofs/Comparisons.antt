@@ -44,7 +44,7 @@ use Rattle.typed_safety.proofs.Spots.{SpotFound, spot-found}
 use Rattle.typed_safety.proofs.InstructionForms.{FormTells}
 use Rattle.typed_safety.proofs.Operations.{FormLeads, Leads}
 use Rattle.typed_safety.proofs.FlagWords.{register-word, memory-word, zero-of_null, carry-of_below}
-use Rattle.typed_safety.proofs.Families.{number-family, object-family, null-family, null-known, objects-known, null-other, object-other, object-which, FlagsTell, compared, known_by_compare, MarksHold, flags-lead, equal-tells, null-tells, IsFound, register-holds, family-value}
+use Rattle.typed_safety.proofs.Families.{number-family, object_family, null-family, null-known, objects_known, null-other, object_other, object_which, FlagsTell, compared, known_by_compare, MarksHold, flags-lead, equal-tells, null-tells, IsFound, register-holds, family-value}
 use Rattle.typed_safety.proofs.Displays.{display-row}
 
 -- where none of the three rules of CMP fails, each holds
@@ -153,13 +153,13 @@ module _ (l : Scope) (result : Ty) (c : LiveContext) (s : State) (h : StateFits 
       ∙ (ap (λ y. (compared (shown l.image) s (R r) y).zero) z.0 ∙ null-zero r w.0 _ (subst (λ y. spares_esp y ≡ true) is is_d.spares) holds w.2 null)))
 
   -- two references
-  objects-row : (d x : Operand) → IsFound l c s d → IsFound l c s x
+  objects_row : (d x : Operand) → IsFound l c s d → IsFound l c s x
       → (f : Family) → (f ≡ Objects) ⊎ (f ≡ Arrays) → family (type_of l c s d) ≡ f → family (type_of l c s x) ≡ f
       → FlagsTell l s (compared (shown l.image) s d x) (known_by_compare l s d x) kind.Eq
-  objects-row d x is_d is_x f which e g =
-      let w = family-value l result c s h laws d is_d (object-other _ _ which e) in
-      let u = family-value l result c s h laws x is_x (object-other _ _ which g) in
-      rw (w.1, u.1, objects-known w.0 u.0 _ (object-family l w.0 _ w.2 (object-which _ _ which e)) (object-family l u.0 _ u.2 (object-which _ _ which g)))
+  objects_row d x is_d is_x f which e g =
+      let w = family-value l result c s h laws d is_d (object_other _ _ which e) in
+      let u = family-value l result c s h laws x is_x (object_other _ _ which g) in
+      rw (w.1, u.1, objects_known w.0 u.0 _ (object_family l w.0 _ w.2 (object_which _ _ which e)) (object_family l u.0 _ u.2 (object_which _ _ which g)))
       (equal-tells l s (compared (shown l.image) s d x))
 
   -- two numbers
@@ -202,8 +202,8 @@ module _ (l : Scope) (result : Ty) (c : LiveContext) (s : State) (h : StateFits 
           → compare_row (rows l) c d f g (operand_place (shown l.image) c d) (length_base x (operand_place (shown l.image) c x)) zero class ≡ Some kk
           → FlagsTell l s (compared (shown l.image) s d x) (known_by_compare l s d x) kk
       go Numbers u Numbers v w = is (bound_kind d (length_base x (operand_place (shown l.image) c x))) w (numbers-row d x is_d is_x u v)
-      go Objects u Objects v w = is kind.Eq w (objects-row d x is_d is_x Objects (inl refl) u v)
-      go Arrays u Arrays v w = is kind.Eq w (objects-row d x is_d is_x Arrays (inr refl) u v)
+      go Objects u Objects v w = is kind.Eq w (objects_row d x is_d is_x Objects (inl refl) u v)
+      go Arrays u Arrays v w = is kind.Eq w (objects_row d x is_d is_x Arrays (inr refl) u v)
       go f u g v w = rest (has_null f && zero) (ap (λ y. has_null y && zero) u) w
 
   -- CMP

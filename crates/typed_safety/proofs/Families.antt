@@ -49,9 +49,9 @@ number-family l (Number n) t h e = (n, refl)
 number-family l w t h e = absurd (grind arith)
 
 -- a reference, or null
-pub object-family : (l : Scope) (w : Value) (t : Ty) → fits_in l w t ≡ true → (family t ≡ Objects) ⊎ (family t ≡ Arrays) → is_object w ≡ true
+pub object_family : (l : Scope) (w : Value) (t : Ty) → fits_in l w t ≡ true → (family t ≡ Objects) ⊎ (family t ≡ Arrays) → is_object w ≡ true
 unfolding fits_among
-object-family l w t h e = grind arith
+object_family l w t h e = grind arith
 
 -- null, or what has a type beside null
 pub null-family : (l : Scope) (w : Value) (t : Ty) → fits_in l w t ≡ true → has_null (family t) ≡ true → may_be_null w ≡ true
@@ -64,9 +64,9 @@ unfolding known_of_values
 null-known w u bare h e = grind arith
 
 -- two objects
-pub objects-known : (w u : Value) (bare : Bool) → is_object w ≡ true → is_object u ≡ true → known_of_values w u bare ≡ Some Equality
+pub objects_known : (w u : Value) (bare : Bool) → is_object w ≡ true → is_object u ≡ true → known_of_values w u bare ≡ Some Equality
 unfolding known_of_values
-objects-known w u bare h e = grind arith
+objects_known w u bare h e = grind arith
 
 -- the register whose object's table is in another
 pub first_head-some : (c : LiveContext) (t r : Reg) → first_head c t ≡ Some r → c.heads t r ≡ true
@@ -77,12 +77,12 @@ pub null-other : (f : Family) → has_null f ≡ true → f ≢ Others
 null-other f h e = grind arith
 
 -- nor is that of objects or arrays
-pub object-other : (f g : Family) → (g ≡ Objects) ⊎ (g ≡ Arrays) → f ≡ g → f ≢ Others
-object-other f g which e n = grind arith
+pub object_other : (f g : Family) → (g ≡ Objects) ⊎ (g ≡ Arrays) → f ≡ g → f ≢ Others
+object_other f g which e n = grind arith
 
 -- it is one of the two
-pub object-which : (f g : Family) → (g ≡ Objects) ⊎ (g ≡ Arrays) → f ≡ g → (f ≡ Objects) ⊎ (f ≡ Arrays)
-object-which f g which e = grind arith
+pub object_which : (f g : Family) → (g ≡ Objects) ⊎ (g ≡ Arrays) → f ≡ g → (f ≡ Objects) ⊎ (f ≡ Arrays)
+object_which f g which e = grind arith
 
 -- ---- what the flags tell
 

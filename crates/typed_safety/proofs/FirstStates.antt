@@ -115,13 +115,13 @@ below-word : (n : ℕ) → n < heap_start → n < 2 ^ 32
 below-word n h = omega (arith, h)
 
 -- an element at first is a number that the image gives, or what elements start as
-element-read : (ns : List ℕ) (m j : ℕ) (z w : Value) → slice_get (map Number ns ++ replicate m z) j ≡ Some w → ((0 < length ns) × ((n : ℕ) × (w ≡ Number n))) ⊎ (z ≡ w)
-element-read [] m j z w e = inr (copy-read m j z w e)
-element-read (n ∷ ns) m zero z w e = inl (omega arith, (n, cc))
-element-read (n ∷ ns) m (suc j) z w e = ⊎_elim
+element_read : (ns : List ℕ) (m j : ℕ) (z w : Value) → slice_get (map Number ns ++ replicate m z) j ≡ Some w → ((0 < length ns) × ((n : ℕ) × (w ≡ Number n))) ⊎ (z ≡ w)
+element_read [] m j z w e = inr (copy-read m j z w e)
+element_read (n ∷ ns) m zero z w e = inl (omega arith, (n, cc))
+element_read (n ∷ ns) m (suc j) z w e = ⊎_elim
     (λ (x : (0 < length ns) × ((k : ℕ) × (w ≡ Number k))). inl (omega arith, x.1))
     (λ (x : z ≡ w). inr x)
-    (element-read ns m j z w e)
+    (element_read ns m j z w e)
 
 -- a test of two numbers
 below-test : (a b : ℕ) → nat_lt a b ≡ true → a < b
@@ -172,7 +172,7 @@ module _ (image : ImageParts) (formed : Formed image) where
       (λ (x : option_map_or zero_of (Element (shapes_of image) a.kind) Null ≡ w).
       let value : option_map_or zero_of (Element (shapes_of image) a.kind) Null ≡ zero_of t = rw element refl in
       subst (λ v. fits_in l v (of_field t) ≡ true) (sym value ∙ x) (zero-fits l t))
-      (element-read a.numbers (a.size - length a.numbers) j (option_map_or zero_of (Element (shapes_of image) a.kind) Null) w read)
+      (element_read a.numbers (a.size - length a.numbers) j (option_map_or zero_of (Element (shapes_of image) a.kind) Null) w read)
     where
       element : Element (shapes_of image) a.kind ≡ Some t
       element = grind arith

@@ -120,9 +120,9 @@ unfolding kind_below
 lost-told l t k e = grind arith
 
 -- a state that fits a context fits each one above it
-pub context-above : TypeLaws → (l : Scope) (result : Ty) → ClassLaws (rows l) → (c d : LiveContext) (s : State) → LiveBelow (rows l) c d
+pub context_above : TypeLaws → (l : Scope) (result : Ty) → ClassLaws (rows l) → (c d : LiveContext) (s : State) → LiveBelow (rows l) c d
     → StateFits l result c s → StateFits l result d s
-context-above types l result laws c d s e h = record {
+context_above types l result laws c d s e h = record {
   thread = record {
     regs = λ r. fits-sub (shown l.image) l.live l.shapes laws _ _ _ (h.thread.regs r) (e.regs r);
     pairs = λ i a known. h.thread.pairs i a (e.pairs i a known);
@@ -159,13 +159,13 @@ place-fits l result c s to h = record {
 }
 
 -- a state fits another context where its thread does
-pub thread-fits : (l : Scope) (result : Ty) (c d : LiveContext) (s : State) → StateFits l result c s → ThreadKnown l result d s.thread s.values → StateFits l result d s
-thread-fits l result c d s h known = record { thread = known; table = h.table; statics = h.statics; store = h.store }
+pub thread_fits : (l : Scope) (result : Ty) (c d : LiveContext) (s : State) → StateFits l result c s → ThreadKnown l result d s.thread s.values → StateFits l result d s
+thread_fits l result c d s h known = record { thread = known; table = h.table; statics = h.statics; store = h.store }
 
 -- what holds of two registers and of those that are related holds where the two are related, too
-pub also-related : TypeLaws → (P : Reg → Reg → Type 0) (related : Reg → Reg → Bool) (r q : Reg) → P r q → ((i a : Reg) → related i a ≡ true → P i a)
+pub also_related : TypeLaws → (P : Reg → Reg → Type 0) (related : Reg → Reg → Bool) (r q : Reg) → P r q → ((i a : Reg) → related i a ≡ true → P i a)
     → (i a : Reg) → (same i r && same a q) || related i a ≡ true → P i a
-also-related types P related r q is known i a = go (same i r) refl (same a q) refl
+also_related types P related r q is known i a = go (same i r) refl (same a q) refl
   where
     go : (x : Bool) → same i r ≡ x → (y : Bool) → same a q ≡ y → (x && y) || related i a ≡ true → P i a
     go true e true f h = rw (types.same_told i r e, types.same_told a q f) is

@@ -80,10 +80,10 @@ unfolding Word
 address-word s a h = h
 
 -- an object that a typed store has stands at a word that is not 0
-object-word : (l : Scope) (s : State) → StoreFits l s.store → (i : ℕ) (shape : ObjectShape) → slice_get l.shapes i ≡ Some shape
+object_word : (l : Scope) (s : State) → StoreFits l s.store → (i : ℕ) (shape : ObjectShape) → slice_get l.shapes i ≡ Some shape
     → (0 < Word (places_of s) (Ref i)) × (Word (places_of s) (Ref i) < 2 ^ 32)
 unfolding Word
-object-word l s h i shape e = go (slice_get s.store i) refl (sym (slice_get-map (λ (o : Object). o.shape) s.store i) ∙ (ap (λ os. slice_get os i) (sym h.shapes) ∙ e))
+object_word l s h i shape e = go (slice_get s.store i) refl (sym (slice_get-map (λ (o : Object). o.shape) s.store i) ∙ (ap (λ os. slice_get os i) (sym h.shapes) ∙ e))
   where
     go : (o : Option Object) → slice_get s.store i ≡ o → option_map (λ (x : Object). x.shape) o ≡ Some shape → (0 < slice_index (places_of s) i) × (slice_index (places_of s) i < 2 ^ 32)
     go None a b = absurd (cc)
@@ -107,9 +107,9 @@ code-word image runs a g e = go ((shown image).sig g) refl (runs.signatures a g 
         (omega arith, omega arith)
 
 -- a reference that has a type names an object that there is
-reference-there : (l : Scope) (i : ℕ) (t : Ty) → fits_in l (Ref i) t ≡ true → is_some (slice_get l.shapes i) ≡ true
+reference_there : (l : Scope) (i : ℕ) (t : Ty) → fits_in l (Ref i) t ≡ true → is_some (slice_get l.shapes i) ≡ true
 unfolding fits_among
-reference-there l i t f = grind arith
+reference_there l i t f = grind arith
 
 -- an address that has a type of routines is a function's
 routine-there : (l : Scope) (a : ℕ) (t : Ty) → fits_in l (Code a) t ≡ true → has_null (family t) ≡ true → is_some ((shown l.image).function_at a) ≡ true
@@ -124,11 +124,11 @@ other-fits l w t f e = grind arith
 -- the word of a value that is no null, of a type that has null
 pub pointer-word : (l : Scope) (s : State) → RunsOn l.image → StoreFits l s.store → (w : Value) (t : Ty) → fits_in l w t ≡ true → has_null (family t) ≡ true → is_null w ≡ false
     → (0 < Word (places_of s) w) × (Word (places_of s) w < 2 ^ 32)
-pointer-word l s runs h (Ref i) t f e n = go (slice_get l.shapes i) refl (reference-there l i t f)
+pointer-word l s runs h (Ref i) t f e n = go (slice_get l.shapes i) refl (reference_there l i t f)
   where
     go : (o : Option ObjectShape) → slice_get l.shapes i ≡ o → is_some o ≡ true → (0 < Word (places_of s) (Ref i)) × (Word (places_of s) (Ref i) < 2 ^ 32)
     go None a b = absurd (grind arith)
-    go (Some shape) a b = object-word l s h i shape a
+    go (Some shape) a b = object_word l s h i shape a
 pointer-word l s runs h (Code a) t f e n = go ((shown l.image).function_at a) refl (routine-there l a t f e)
   where
     go : (o : Option ℕ) → (shown l.image).function_at a ≡ o → is_some o ≡ true → (0 < Word (places_of s) (Code a)) × (Word (places_of s) (Code a) < 2 ^ 32)

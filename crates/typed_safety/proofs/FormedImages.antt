@@ -3,7 +3,6 @@ use Rattle.std.proofs.Common.{◌≡◌, ◌∙◌, sym, ap, subst, ◌≤◌, �
 use Rattle.std.specs.Option.{option_map, option_map_or}
 use Rattle.std.proofs.lemmas.Bool.Decides.{nat_tests}
 use Rattle.std.proofs.lemmas.Option.{slice_get-map, slice_get-get_or, get_or_from_slice_get}
-use Rattle.ia32_code.specs.Decoding.{FrontLaw}
 use Rattle.ia32_code.specs.declared.instruction.Inst.{Inst}
 use Rattle.object_layout.specs.declared.rows.ClassRow.{ClassRow}
 use Rattle.object_layout.specs.declared.rows.FieldTy.TheVariants as field
@@ -16,17 +15,16 @@ use Rattle.tal_types.specs.declared.views.Span.{Span}
 use Rattle.tal_types.specs.declared.views.Mark.{Mark}
 use Rattle.tal_types.specs.Laws.{TypeLaws}
 use Rattle.tal_flow.specs.Places.{mark_type}
-use Rattle.tal_flow.specs.Strongest.{PlacedInst, placed_at}
+use Rattle.tal_flow.specs.Strongest.{PlacedInst}
 use Rattle.tal_image.specs.declared.parts.FunctionPart.{FunctionPart}
 use Rattle.tal_image.specs.declared.parts.MarkPart.{MarkPart}
 use Rattle.tal_image.specs.declared.parts.ArrayPart.{ArrayPart}
 use Rattle.tal_image.specs.Image.{ImageParts}
 use Rattle.tal_image.specs.Conditions.{fun_rows, method_fits, Spelled, begins_at, marked_number_at, marked_number, array_room, array_places, mark_word, same_number, word_fits}
 use Rattle.tal_image.specs.Fields.{all_instructions, after_mark, with_class}
-use Rattle.tal_image.specs.Formed.{EachAfter, IsBody, AreBodies, IsClass, IsMethod, IsMark, Formed, tables}
+use Rattle.tal_image.specs.Formed.{EachAfter, IsClass, IsMethod, IsMark, Formed, tables}
 use Rattle.tal_image.specs.Laws.{FormedShapes}
 use Rattle.tal_image.specs.Shown.{shown, shapes_of, spans, begun_by, mark_in, data_row_in}
-use Rattle.tal_checker.specs.Instructions.{instructions}
 use Rattle.tal_checker.specs.Running.{instruction_in}
 use Rattle.tal_checker.specs.Laws.{CodeLaws}
 use Rattle.typed_machine.specs.Values.{Number, Null, Ref, Code, Tab, Desc, ArrayOf, Word, fits_among}
@@ -130,10 +128,10 @@ array-placed address (a ∷ arrays) zero place e = (a, refl)
 array-placed address (a ∷ arrays) (suc d) place e = array-placed (address + 4 * array_room a) arrays d place e
 
 -- a data array by its row
-data-row : (image : ImageParts) (d place : ℕ) → slice_get (array_places (statics_start + 4 * length image.statics) image.arrays) d ≡ Some place
+data_array_place : (image : ImageParts) (d place : ℕ) → slice_get (array_places (statics_start + 4 * length image.statics) image.arrays) d ≡ Some place
     → (a : ArrayPart) × (slice_get image.arrays d ≡ Some a) × (data_row_in image d ≡ Some (record { place = place; kind = a.kind; length = a.size }))
 unfolding data_row_in
-data-row image d place e = let a = array-placed _ image.arrays d place e in (a.0, a.1, rw (a.1, e) refl)
+data_array_place image d place e = let a = array-placed _ image.arrays d place e in (a.0, a.1, rw (a.1, e) refl)
 
 module _ (image : ImageParts) (laws : ClassLaws (shown image).shapes) (live : ℕ → Bool) (store : Store) (has : HasArrays image live store) where
   -- a function's address
@@ -168,7 +166,7 @@ module _ (image : ImageParts) (laws : ClassLaws (shown image).shapes) (live : �
       → (fits_among (shown image) live (shapes_in store) (Ref d) (option_map_or ty.Arr ((shown image).data_kind d) ty.Junk) ≡ true) × (get_or (places_in store) d 0 ≡ w)
   unfolding fits_among shown
   array-marked d w e =
-      let a = data-row image d w e in
+      let a = data_array_place image d w e in
       let at = has.stand d _ a.2 in
       let shape : slice_get (shapes_in store) d ≡ Some (ArrayOf a.0.kind a.0.size) = slice_get-map (λ (o : Object). o.shape) store d ∙ (ap (option_map (λ (o : Object). o.shape)) at.here ∙ ap (λ x. Some x) at.shape) in
       let place : slice_get (places_in store) d ≡ Some w = slice_get-map (λ (o : Object). o.place) store d ∙ (ap (option_map (λ (o : Object). o.place)) at.here ∙ ap (λ x. Some x) at.place) in

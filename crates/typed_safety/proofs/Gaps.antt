@@ -77,9 +77,9 @@ pub record PlacedFree (image : ImageParts) (values : List Value) (s : State) (wo
   pub aligned : first % 4 ≡ 0
   pub lies : LiesFree (is_taken image (Reach (shown image).shapes s.store values) s) image.heap_words first words
 
-pub legal-place : (image : ImageParts) (values : List Value) (s : State) (words a : ℕ) → Legal (Gaps image values s) words (Placed a) ≡ true → PlacedFree image values s words a
+pub legal_place : (image : ImageParts) (values : List Value) (s : State) (words a : ℕ) → Legal (Gaps image values s) words (Placed a) ≡ true → PlacedFree image values s words a
 unfolding Legal Gaps
-legal-place image values s words a h =
+legal_place image values s words a h =
     let parts = and_parts (nat_le (heap_start + 8) a) _ h in
     let rest = and_parts ((a - heap_start) % 16 == 8) _ parts.1 in
     let above : heap_start + 8 ≤ a = grind (arith, nat_tests) in
@@ -94,9 +94,9 @@ legal-place image values s words a h =
     }
 
 -- it is a word and not 0
-pub legal-word : (image : ImageParts) (values : List Value) (s : State) (words a : ℕ) → heap_fits image.heap_words ≡ true → Legal (Gaps image values s) words (Placed a) ≡ true → (0 < a) × (a < 2 ^ 32)
-legal-word image values s words a fits h =
-    let p = legal-place image values s words a h in
+pub legal_word : (image : ImageParts) (values : List Value) (s : State) (words a : ℕ) → heap_fits image.heap_words ≡ true → Legal (Gaps image values s) words (Placed a) ≡ true → (0 < a) × (a < 2 ^ 32)
+legal_word image values s words a fits h =
+    let p = legal_place image values s words a h in
     let few : image.heap_words ≤ 4194304 = grind (arith, nat_tests) in
     let place = p.place in
     let ends = p.lies.ends in

@@ -14,23 +14,23 @@ use Rattle.typed_machine.specs.States.{State}
 use Rattle.typed_machine.specs.Frames.{Awaits}
 use Rattle.typed_machine.specs.Typing.{StoreFits, TypedAmong, scope_of}
 use Rattle.typed_machine.specs.Placing.{fresh_values, fresh_object}
-use Rattle.typed_safety.proofs.Carrying.{EspRefersNot, Carries, thread-carried, stack-carried, statics-carried, awaits-carried, field-carried}
+use Rattle.typed_safety.proofs.Carrying.{EspRefersNot, Carries, thread_carried, stack_carried, statics-carried, awaits-carried, field-carried}
 use Rattle.typed_safety.proofs.FirstStates.{zero-fits, copy-read}
 
 -- ---- one thing more at the end of a list
 
 -- what stood stands
-pub stood-stands : {A : Type 0} (xs ys : List A) (i : ℕ) (x : A) → slice_get xs i ≡ Some x → slice_get (xs ++ ys) i ≡ Some x
-stood-stands [] ys i x e = absurd (cc)
-stood-stands (z ∷ xs) ys zero x e = e
-stood-stands (z ∷ xs) ys (suc i) x e = stood-stands xs ys i x e
+pub stood_stands : {A : Type 0} (xs ys : List A) (i : ℕ) (x : A) → slice_get xs i ≡ Some x → slice_get (xs ++ ys) i ≡ Some x
+stood_stands [] ys i x e = absurd (cc)
+stood_stands (z ∷ xs) ys zero x e = e
+stood_stands (z ∷ xs) ys (suc i) x e = stood_stands xs ys i x e
 
 -- what stands stood, or is the last
-pub stood-or-last : {A : Type 0} (xs : List A) (y : A) (i : ℕ) (x : A) → slice_get (xs ++ y ∷ []) i ≡ Some x → (slice_get xs i ≡ Some x) ⊎ ((i ≡ length xs) × (x ≡ y))
-stood-or-last [] y zero x e = inr (refl, cc)
-stood-or-last [] y (suc i) x e = absurd (cc)
-stood-or-last (z ∷ xs) y zero x e = inl e
-stood-or-last (z ∷ xs) y (suc i) x e = ⊎_elim (λ (h : slice_get xs i ≡ Some x). inl h) (λ (h : (i ≡ length xs) × (x ≡ y)). inr (ap suc h.0, h.1)) (stood-or-last xs y i x e)
+pub stood_or_last : {A : Type 0} (xs : List A) (y : A) (i : ℕ) (x : A) → slice_get (xs ++ y ∷ []) i ≡ Some x → (slice_get xs i ≡ Some x) ⊎ ((i ≡ length xs) × (x ≡ y))
+stood_or_last [] y zero x e = inr (refl, cc)
+stood_or_last [] y (suc i) x e = absurd (cc)
+stood_or_last (z ∷ xs) y zero x e = inl e
+stood_or_last (z ∷ xs) y (suc i) x e = ⊎_elim (λ (h : slice_get xs i ≡ Some x). inl h) (λ (h : (i ≡ length xs) × (x ≡ y)). inr (ap suc h.0, h.1)) (stood_or_last xs y i x e)
 
 -- the last one
 pub last-stands : {A : Type 0} (xs : List A) (y : A) → slice_get (xs ++ y ∷ []) (length xs) ≡ Some y
@@ -80,35 +80,35 @@ module _ (image : ImageParts) (live : ℕ → Bool) (s : State) (shape : ObjectS
       → StoreFits (record { image = image; live = live; shapes = shapes_in grown }) grown
   store-grown h is some few = record {
     shapes = refl;
-    arrays = λ d row e. let x = h.arrays d row e in record { object = x.object; here = stood-stands s.store _ d x.object x.here; shape = x.shape; place = x.place };
+    arrays = λ d row e. let x = h.arrays d row e in record { object = x.object; here = stood_stands s.store _ d x.object x.here; shape = x.shape; place = x.place };
     arrays_live = h.arrays_live;
     there = λ i o e. ⊎_elim
         (λ (old : slice_get s.store i ≡ Some o). h.there i o old)
         (λ (new : (i ≡ length s.store) × (o ≡ fresh_object (shown image).shapes shape a)). subst (λ (x : Object). IsShape (shown image).shapes (shape_in x.shape)) (sym new.1) is)
-        (stood-or-last s.store _ i o e);
+        (stood_or_last s.store _ i o e);
     counts = λ i o e. ⊎_elim
         (λ (old : slice_get s.store i ≡ Some o). h.counts i o old)
         (λ (new : (i ≡ length s.store) × (o ≡ fresh_object (shown image).shapes shape a)). rw new.1 (fresh-count (shown image).shapes shape))
-        (stood-or-last s.store _ i o e);
+        (stood_or_last s.store _ i o e);
     placed = λ i o e. ⊎_elim
         (λ (old : slice_get s.store i ≡ Some o). h.placed i o old)
         (λ (new : (i ≡ length s.store) × (o ≡ fresh_object (shown image).shapes shape a)). rw new.1 (some, few))
-        (stood-or-last s.store _ i o e);
+        (stood_or_last s.store _ i o e);
     fit = λ i j o t w lives e f g. ⊎_elim
         (λ (old : slice_get s.store i ≡ Some o).
         field-carried image live live (shapes_in s.store) (shapes_in grown) (λ i. true) carries j o t w (h.fit i j o t w lives old f g) f g (λ k named. refl))
         (λ (new : (i ≡ length s.store) × (o ≡ fresh_object (shown image).shapes shape a)).
         let same = fresh-value (shown image).shapes shape j t w (rw new.1 at f) (rw new.1 at g) in
         rw (← same) (zero-fits (record { image = image; live = live; shapes = shapes_in grown }) t))
-        (stood-or-last s.store _ i o e);
+        (stood_or_last s.store _ i o e);
   }
 
   -- so is the whole state
   pub typed-grown : EspRefersNot image → TypedAmong image live s → IsShape (shown image).shapes (shape_in shape) → 0 < a → a < 2 ^ 32
       → TypedAmong image live (record s { store = grown })
   typed-grown esp t is some few = record {
-    thread = thread-carried image live live (shapes_in s.store) (shapes_in grown) (λ i. true) carries esp s.thread s.values t.thread (λ i e. refl);
-    others = λ n stack e. stack-carried image live live (shapes_in s.store) (shapes_in grown) (λ i. true) carries esp stack (t.others n stack e) (λ i f. refl);
+    thread = thread_carried image live live (shapes_in s.store) (shapes_in grown) (λ i. true) carries esp s.thread s.values t.thread (λ i e. refl);
+    others = λ n stack e. stack_carried image live live (shapes_in s.store) (shapes_in grown) (λ i. true) carries esp stack (t.others n stack e) (λ i f. refl);
     one = t.one;
     only = t.only;
     kernel = t.kernel;

@@ -101,10 +101,10 @@ add-tells next (R Esp) (I n) = tt
 add-tells next d x = gives _ _ d kind.Num refl (writes-first d (x ∷ []))
 
 -- LEA is of memory into a register, or refused
-lea-tells : (next : ℕ) (d x : Operand) → FormTells (inst.Lea d x) (form_of next (inst.Lea d x))
+lea_tells : (next : ℕ) (d x : Operand) → FormTells (inst.Lea d x) (form_of next (inst.Lea d x))
 unfolding form_of
-lea-tells next (R r) (M m) = tt
-lea-tells next d x = tt
+lea_tells next (R r) (M m) = tt
+lea_tells next d x = tt
 
 -- NOT leaves the flags
 not-leaves : (d : Operand) (m : WordState) → (executed (inst.Not d) m).flags ≡ m.flags
@@ -128,24 +128,24 @@ imul-tells (M m) x n h = absurd h
 imul-tells (I k) x n h = absurd h
 
 -- the form of an instruction that is spelled
-pub form-tells : (next : ℕ) (i : Inst) → MultipliesIntoRegister i → FormTells i (form_of next i)
+pub form_tells : (next : ℕ) (i : Inst) → MultipliesIntoRegister i → FormTells i (form_of next i)
 unfolding form_of
-form-tells next (inst.Alu alu.Cmp d x) h = refl
-form-tells next (inst.Alu alu.Add d x) h = add-tells next d x
-form-tells next (inst.Alu op d x) h = gives _ _ d kind.Num refl (writes-first d (x ∷ []))
-form-tells next (inst.Lea d x) h = lea-tells next d x
-form-tells next (inst.Test d x) h = refl
-form-tells next (inst.Inc d) h = gives _ _ d kind.Eq refl (writes-first d [])
-form-tells next (inst.Dec d) h = gives _ _ d kind.Eq refl (writes-first d [])
-form-tells next (inst.Not d) h = keeps _ _ d (not-leaves d) (writes-first d [])
-form-tells next (inst.Neg d) h = gives _ _ d kind.Num refl (writes-first d [])
-form-tells next (inst.Mul x) h = gives _ _ (R Eax) kind.Lost refl tt
-form-tells next (inst.Imul1 x) h = gives _ _ (R Eax) kind.Lost refl tt
-form-tells next (inst.Div x) h = gives _ _ (R Eax) kind.Lost refl tt
-form-tells next (inst.Idiv x) h = gives _ _ (R Eax) kind.Lost refl tt
-form-tells next (inst.Imul2 d x) h = gives _ _ d kind.Lost refl (writes-first d (x ∷ []))
-form-tells next (inst.Imul3 d x n) h = imul-tells d x n h
-form-tells next (inst.Shift op d (By n)) h = shift-tells op d n _ refl
-form-tells next (inst.Shift op d Cl) h = gives _ _ d kind.Lost refl (writes-first d (R Ecx ∷ []))
-form-tells next inst.Cdq h = keeps _ _ (R Edx) (λ m. refl) tt
-form-tells next i h = tt
+form_tells next (inst.Alu alu.Cmp d x) h = refl
+form_tells next (inst.Alu alu.Add d x) h = add-tells next d x
+form_tells next (inst.Alu op d x) h = gives _ _ d kind.Num refl (writes-first d (x ∷ []))
+form_tells next (inst.Lea d x) h = lea_tells next d x
+form_tells next (inst.Test d x) h = refl
+form_tells next (inst.Inc d) h = gives _ _ d kind.Eq refl (writes-first d [])
+form_tells next (inst.Dec d) h = gives _ _ d kind.Eq refl (writes-first d [])
+form_tells next (inst.Not d) h = keeps _ _ d (not-leaves d) (writes-first d [])
+form_tells next (inst.Neg d) h = gives _ _ d kind.Num refl (writes-first d [])
+form_tells next (inst.Mul x) h = gives _ _ (R Eax) kind.Lost refl tt
+form_tells next (inst.Imul1 x) h = gives _ _ (R Eax) kind.Lost refl tt
+form_tells next (inst.Div x) h = gives _ _ (R Eax) kind.Lost refl tt
+form_tells next (inst.Idiv x) h = gives _ _ (R Eax) kind.Lost refl tt
+form_tells next (inst.Imul2 d x) h = gives _ _ d kind.Lost refl (writes-first d (x ∷ []))
+form_tells next (inst.Imul3 d x n) h = imul-tells d x n h
+form_tells next (inst.Shift op d (By n)) h = shift-tells op d n _ refl
+form_tells next (inst.Shift op d Cl) h = gives _ _ d kind.Lost refl (writes-first d (R Ecx ∷ []))
+form_tells next inst.Cdq h = keeps _ _ (R Edx) (λ m. refl) tt
+form_tells next i h = tt

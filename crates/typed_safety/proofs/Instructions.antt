@@ -36,8 +36,8 @@ use Rattle.typed_safety.proofs.StackForms.{push-leads, pop-leads, drop-leads, no
 use Rattle.typed_safety.proofs.Comparisons.{compare-leads}
 use Rattle.typed_safety.proofs.Tests.{test-leads}
 use Rattle.typed_safety.proofs.Standing.{StandsAt, FormTyped, stands-at, leads-typed}
-use Rattle.typed_safety.proofs.Branches.{jump-typed, branch-typed}
-use Rattle.typed_safety.proofs.CallForms.{return-typed, call-typed, call_by-typed}
+use Rattle.typed_safety.proofs.Branches.{jump_typed, branch-typed}
+use Rattle.typed_safety.proofs.CallForms.{return_typed, call-typed, call_by-typed}
 
 module _ (image : ImageParts) (live : ℕ → Bool) (runs : RunsOn image) (laws : ImageLaws image) (s : State) (t : TypedAmong image live s) (i : Inst) (len next : ℕ) where
   fits : StateFits (scope_of image live s) t.thread.sig.result t.thread.context s
@@ -55,31 +55,31 @@ module _ (image : ImageParts) (live : ℕ → Bool) (runs : RunsOn image) (laws 
   compared-marks d x at n mark e f = at.marks n mark (rw (at.tells, e) refl) f
 
   -- an instruction of any form
-  form-typed : (form : Form) → FormTyped image live s t i len next form
+  form_typed : (form : Form) → FormTyped image live s t i len next form
   unfolding operand_rule falling
-  form-typed Refused at = absurd (let r = at.rules in grind arith)
-  form-typed (CallBy x) at = call_by-typed image live runs laws s t next i len x at
-  form-typed (CallTo to) at = call-typed image live runs laws s t next i len to at
-  form-typed Return at = return-typed image live laws s t next i len at
-  form-typed (Jump to) at = jump-typed image live laws s t i len next to at
-  form-typed (Branch a to) at = branch-typed image live laws s t i len next a to at
-  form-typed (Compute sources d wide k) at = passing _ refl (compute-leads (scope_of image live s) t.thread.sig.result t.thread.context s fits laws i len next sources d wide k at.tells at.rules) at
-  form-typed (Move d x) at = passing _ refl (move-leads (scope_of image live s) t.thread.sig.result t.thread.context s fits laws i len next d x at.rules) at
-  form-typed (Address r m) at = passing _ refl (address-leads (scope_of image live s) t.thread.sig.result t.thread.context s fits laws i len next r m at.rules) at
-  form-typed (Compare d x) at =
+  form_typed Refused at = absurd (let r = at.rules in grind arith)
+  form_typed (CallBy x) at = call_by-typed image live runs laws s t next i len x at
+  form_typed (CallTo to) at = call-typed image live runs laws s t next i len to at
+  form_typed Return at = return_typed image live laws s t next i len at
+  form_typed (Jump to) at = jump_typed image live laws s t i len next to at
+  form_typed (Branch a to) at = branch-typed image live laws s t i len next a to at
+  form_typed (Compute sources d wide k) at = passing _ refl (compute-leads (scope_of image live s) t.thread.sig.result t.thread.context s fits laws i len next sources d wide k at.tells at.rules) at
+  form_typed (Move d x) at = passing _ refl (move-leads (scope_of image live s) t.thread.sig.result t.thread.context s fits laws i len next d x at.rules) at
+  form_typed (Address r m) at = passing _ refl (address-leads (scope_of image live s) t.thread.sig.result t.thread.context s fits laws i len next r m at.rules) at
+  form_typed (Compare d x) at =
       passing _ refl (compare-leads (scope_of image live s) t.thread.sig.result t.thread.context s fits laws runs i len next d x at.tells (compared-marks d x at) at.rules) at
-  form-typed (TestBits d x) at = passing _ refl (test-leads (scope_of image live s) t.thread.sig.result t.thread.context s fits laws runs i len next d x at.tells at.rules) at
-  form-typed (PushOf x) at = passing _ refl (push-leads (scope_of image live s) t.thread.sig.result t.thread.context s fits laws i len next x at.rules) at
-  form-typed (PopTo r) at = passing _ refl (pop-leads (scope_of image live s) t.thread.sig.result t.thread.context s fits i len next r at.rules) at
-  form-typed (DropSlots bytes) at = passing _ refl (drop-leads (scope_of image live s) t.thread.sig.result t.thread.context s fits i len next bytes at.rules) at
-  form-typed Nothing at = passing _ refl (nothing-leads (scope_of image live s) t.thread.sig.result t.thread.context s fits i len next) at
+  form_typed (TestBits d x) at = passing _ refl (test-leads (scope_of image live s) t.thread.sig.result t.thread.context s fits laws runs i len next d x at.tells at.rules) at
+  form_typed (PushOf x) at = passing _ refl (push-leads (scope_of image live s) t.thread.sig.result t.thread.context s fits laws i len next x at.rules) at
+  form_typed (PopTo r) at = passing _ refl (pop-leads (scope_of image live s) t.thread.sig.result t.thread.context s fits i len next r at.rules) at
+  form_typed (DropSlots bytes) at = passing _ refl (drop-leads (scope_of image live s) t.thread.sig.result t.thread.context s fits i len next bytes at.rules) at
+  form_typed Nothing at = passing _ refl (nothing-leads (scope_of image live s) t.thread.sig.result t.thread.context s fits i len next) at
 
 -- the instruction at the place of a typed state
 pub instruction-typed : (image : ImageParts) → RunsOn image → ImageLaws image → (live : ℕ → Bool) (s : State) → TypedAmong image live s → (x : PlacedInst)
     → instruction_in image s.thread.place ≡ Some x → EffectTyped image live s (next_address s.thread.place x.len) (Effect image s x.inst x.len)
 unfolding Effect
 instruction-typed image runs laws live s t x here =
-    form-typed image live runs laws s t x.inst x.len (next_address s.thread.place x.len) (form_of (next_address s.thread.place x.len) x.inst)
+    form_typed image live runs laws s t x.inst x.len (next_address s.thread.place x.len) (form_of (next_address s.thread.place x.len) x.inst)
     (stands-at image runs laws live s t x here)
 
 -- where something is known, an instruction stands

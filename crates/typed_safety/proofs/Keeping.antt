@@ -21,12 +21,12 @@ use Rattle.typed_safety.specs.Laws.{ImageLaws, CallTyped, EffectTyped, CallComes
 use Rattle.typed_safety.proofs.Instructions.{state-keeps}
 use Rattle.typed_safety.proofs.Carrying.{EspRefersNot}
 use Rattle.typed_safety.proofs.Living.{ReachIsLeast, live-least, typed-among}
-use Rattle.typed_safety.proofs.Replying.{aside-typed, ReplyTyped, call-replies}
+use Rattle.typed_safety.proofs.Replying.{aside_typed, ReplyTyped, call-replies}
 use Rattle.typed_safety.proofs.Turning.{TurnAmong, longer, turn-typed}
 use Rattle.typed_safety.proofs.Staying.{Quiet, Allocation, turn-cases}
 use Rattle.typed_safety.proofs.AfterReplies.{rooted-live, reached-after, placed-after}
-use Rattle.typed_safety.proofs.Growing.{stood-stands}
-use Rattle.typed_safety.proofs.Lying.{object-stays, blocks-fewer, blocks-grown}
+use Rattle.typed_safety.proofs.Growing.{stood_stands}
+use Rattle.typed_safety.proofs.Lying.{object_stays, blocks-fewer, blocks-grown}
 
 -- two things that are there and are the same
 same-thing : {A : Type 0} (x y : A) → Some x ≡ Some y → x ≡ y
@@ -34,9 +34,9 @@ same-thing x y e = cc
 
 module _ (image : ImageParts) (rests : RunsOn image) (laws : ImageLaws image) where
   -- the instruction at the place of a typed state
-  effect-at : (live : ℕ → Bool) (s : State) → TypedAmong image live s → (inst : Inst) (len : ℕ) → inst_at image s.thread.place ≡ Some (inst, len)
+  effect_at : (live : ℕ → Bool) (s : State) → TypedAmong image live s → (inst : Inst) (len : ℕ) → inst_at image s.thread.place ≡ Some (inst, len)
       → EffectTyped image live s (next_address s.thread.place len) (Effect image s inst len)
-  effect-at live s t inst len here =
+  effect_at live s t inst len here =
       let k = state-keeps image rests laws live s t in
       let both = same-thing (k.placed.inst, k.placed.len) (inst, len) (sym k.spelled ∙ here) in
       let same : k.placed.inst ≡ inst = ap (λ (x : Inst × ℕ). x.0) both in
@@ -44,10 +44,10 @@ module _ (image : ImageParts) (rests : RunsOn image) (laws : ImageLaws image) wh
       rw (same, long) at k.typed
 
   -- a call of the heap
-  pub heap-call-typed : (live : ℕ → Bool) (s : State) → TypedAmong image live s → (next k : ℕ) (reply : ReplyView) → CallComesTo image s next k reply
+  pub heap_call_typed : (live : ℕ → Bool) (s : State) → TypedAmong image live s → (next k : ℕ) (reply : ReplyView) → CallComesTo image s next k reply
       → HeapCallTyped image live s next reply
-  heap-call-typed live s t next k reply c =
-      let effect = effect-at live s t c.inst c.len c.here in
+  heap_call_typed live s t next k reply c =
+      let effect = effect_at live s t c.inst c.len c.here in
       let call : CallTyped (scope_of image live s) s (next_address s.thread.place c.len) k = rw c.calls at effect in
       let replies = call-replies image rests laws live s t next k (rw c.follows call) in
       finds reply (rw c.gives at replies)
@@ -59,10 +59,10 @@ module _ (image : ImageParts) (rests : RunsOn image) (laws : ImageLaws image) wh
       finds Collects h = h
 
 -- what an allocation comes to
-allocation-comes : (image : ImageParts) (answers : List Answer) (s : State) (r : Turned) (a : Allocation image answers s r)
+allocation_comes : (image : ImageParts) (answers : List Answer) (s : State) (r : Turned) (a : Allocation image answers s r)
     → (r.state ≡ comes_back (reply_to a.answer s) (next_address s.thread.place a.len) (allocated (shown image).shapes a.shape a.answer s))
     × (r.legal ≡ Legal (Gaps image (Roots image (next_address s.thread.place a.len) s) s) (need (shown image).shapes a.shape) a.answer)
-allocation-comes image answers s r a =
+allocation_comes image answers s r a =
     let is : answered image (next_address s.thread.place a.len) a.entry s a.shape (a.answer ∷ r.left) ≡ Some r = rw a.given at a.is in
     let same = sym (same-thing _ r is) in
     (ap (λ (x : Turned). x.state) same, ap (λ (x : Turned). x.legal) same)
@@ -72,16 +72,16 @@ allocation-comes image answers s r a =
 -- an answer leaves each object as it is
 allocated-stays : (v : ShapesView) (shape : ObjectShape) (answer : Answer) (s : State) (i : ℕ) (o : Object) → slice_get s.store i ≡ Some o
     → slice_get (allocated v shape answer s).store i ≡ Some o
-allocated-stays v shape (Placed p) s i o e = stood-stands s.store (fresh_object v shape p ∷ []) i o e
+allocated-stays v shape (Placed p) s i o e = stood_stands s.store (fresh_object v shape p ∷ []) i o e
 allocated-stays v shape Refused s i o e = e
 
 -- so does a turn, but for its values
 pub turn-object-stays : (image : ImageParts) (events : List Event) (answers : List Answer) (s : State) (r : Turned) → TurnOf image events answers s ≡ Some r
     → (i : ℕ) (o : Object) → slice_get s.store i ≡ Some o → (p : Object) × (slice_get r.state.store i ≡ Some p) × (p.shape ≡ o.shape) × (p.place ≡ o.place)
 turn-object-stays image events answers s r turn i o e = ⊎_elim
-    (λ (q : Quiet answers (begun events s) r). object-stays s.store r.state.store q.stays i o e)
+    (λ (q : Quiet answers (begun events s) r). object_stays s.store r.state.store q.stays i o e)
     (λ (a : Allocation image answers (begun events s) r).
-    let comes = (allocation-comes image answers (begun events s) r a).0 in
+    let comes = (allocation_comes image answers (begun events s) r a).0 in
     (o, ap (λ (x : State). slice_get x.store i) comes ∙ allocated-stays (shown image).shapes a.shape a.answer (begun events s) i o e, refl, refl))
     (rw turn at (turn-cases image events answers s))
 
@@ -101,10 +101,10 @@ module _ (image : ImageParts) (rests : RunsOn image) (laws : ImageLaws image) (e
   among = typed-among image reaches s esp all_objects t.among
 
   begun-among : TypedAmong image live u
-  begun-among = aside-typed image live s _ _ s.ending among
+  begun-among = aside_typed image live s _ _ s.ending among
 
   begun-typed : TypedAmong image all_objects u
-  begun-typed = aside-typed image all_objects s _ _ s.ending t.among
+  begun-typed = aside_typed image all_objects s _ _ s.ending t.among
 
   -- ---- an allocation
 
@@ -121,7 +121,7 @@ module _ (image : ImageParts) (rests : RunsOn image) (laws : ImageLaws image) (e
     legal_for answer = Legal (Gaps image (Roots image next u) u) (need (shown image).shapes a.shape) answer
 
     allocation : AllocationTyped image live u next a.shape
-    allocation = heap-call-typed image rests laws live u begun-among next a.entry (Allocates a.shape)
+    allocation = heap_call_typed image rests laws live u begun-among next a.entry (Allocates a.shape)
         (record { inst = a.inst; len = a.len; here = a.here; calls = a.calls; follows = refl; gives = a.asks })
 
     rooted-lives : (i : ℕ) → rooted image next u i ≡ true → live i ≡ true
@@ -129,7 +129,7 @@ module _ (image : ImageParts) (rests : RunsOn image) (laws : ImageLaws image) (e
 
     -- what the turn comes to
     comes : (r.state ≡ after a.answer) × (r.legal ≡ legal_for a.answer)
-    comes = allocation-comes image answers u r a
+    comes = allocation_comes image answers u r a
 
     -- what a run can come to then
     after-lives : (answer : Answer) (i : ℕ) → live_in image (after answer) i ≡ true → (rooted image next u i ≡ true) ⊎ (i ≡ length s.store)
@@ -143,14 +143,14 @@ module _ (image : ImageParts) (rests : RunsOn image) (laws : ImageLaws image) (e
         (λ i e. rooted-lives i (reached-after image reaches u next Null (λ k f. cc) i e)) t.heap
 
     -- so it is in the turn's state
-    allocation-lives : (i : ℕ) → live_in image r.state i ≡ true → (live i ≡ true) ⊎ ((r.left ≢ answers) × (i ≡ length s.store))
-    allocation-lives i e = ⊎_elim
+    allocation_lives : (i : ℕ) → live_in image r.state i ≡ true → (live i ≡ true) ⊎ ((r.left ≢ answers) × (i ≡ length s.store))
+    allocation_lives i e = ⊎_elim
         (λ (is : rooted image next u i ≡ true). inl (rooted-lives i is))
         (λ (new : i ≡ length s.store). inr (λ same. longer a.answer r.left (same ∙ a.given), new))
         (after-lives a.answer i (rw comes.0 at e))
 
-    allocation-lies : r.legal ≡ true → BlocksLie image (live_in image r.state) r.state.store
-    allocation-lies legal = subst (λ (x : State). BlocksLie image (live_in image x) x.store) (sym comes.0) (after-lies a.answer (sym comes.1 ∙ legal))
+    allocation_lies : r.legal ≡ true → BlocksLie image (live_in image r.state) r.state.store
+    allocation_lies legal = subst (λ (x : State). BlocksLie image (live_in image x) x.store) (sym comes.0) (after-lies a.answer (sym comes.1 ∙ legal))
 
   -- ---- each turn
 
@@ -168,14 +168,14 @@ module _ (image : ImageParts) (rests : RunsOn image) (laws : ImageLaws image) (e
     pub turn-shrinks : (i : ℕ) → live_in image r.state i ≡ true → (live_in image s i ≡ true) ⊎ ((r.left ≢ answers) × (i ≡ length s.store))
     turn-shrinks i h = ⊎_elim
         (λ (q : Quiet answers u r). inl (quiet-lives q i h))
-        (λ (a : Allocation image answers u r). allocation-lives r a i h)
+        (λ (a : Allocation image answers u r). allocation_lives r a i h)
         cases
 
     -- where the blocks lie
     turn-lies : BlocksLie image (live_in image r.state) r.state.store
     turn-lies = ⊎_elim
         (λ (q : Quiet answers u r). blocks-fewer image live (live_in image r.state) s.store r.state.store q.stays (quiet-lives q) t.heap)
-        (λ (a : Allocation image answers u r). allocation-lies r a legal)
+        (λ (a : Allocation image answers u r). allocation_lies r a legal)
         cases
 
   -- a turn of a typed state

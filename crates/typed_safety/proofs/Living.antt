@@ -26,7 +26,7 @@ use Rattle.typed_machine.specs.Frames.{Scope, fits_in, FramesFit}
 use Rattle.typed_machine.specs.Typing.{ThreadFits, StackFits, TypedAmong, scope_of}
 use Rattle.typed_machine.specs.Reaching.{names, references_of, slots_at, frame_references, value_registers, register_references, thread_references, stack_references, static_references, data_references, waiting_references, Held, Reach, live_in}
 use Rattle.reached_objects.specs.ReachedFrom.{ReachedFrom, named, followed}
-use Rattle.typed_safety.proofs.Naming.{names-cons, names-left, names-right, names-either, names-flat, names-flat_some, object-refers, statics-are, registers-are, field-refers}
+use Rattle.typed_safety.proofs.Naming.{names-cons, names-left, names-right, names-either, names-flat, names-flat_some, object_refers, statics-are, registers-are, field-refers}
 use Rattle.typed_safety.proofs.Carrying.{EspRefersNot, slot-references, typed-carried}
 
 -- the rounds of marks give the least set
@@ -34,9 +34,9 @@ abbrev pub ReachIsLeast : Type 0
 ReachIsLeast = (s : ShapesView) (store : Store) (values : List Value) (i : ℕ) → (Reach s store values i ≡ true) ↔ ReachedFrom s store values i
 
 -- ESP's type is junk, which refers to nothing
-pub esp-refers-not : (image : ImageParts) → ((pc : ℕ) (c : LiveContext) → strongest_at image pc ≡ Live c → c.regs Esp ≡ ty.Junk) → EspRefersNot image
+pub esp_refers_not : (image : ImageParts) → ((pc : ℕ) (c : LiveContext) → strongest_at image pc ≡ Live c → c.regs Esp ≡ ty.Junk) → EspRefersNot image
 unfolding may_refer
-esp-refers-not image junk pc c e = rw (junk pc c e) refl
+esp_refers_not image junk pc c e = rw (junk pc c e) refl
 
 -- ---- what a typed value refers to
 
@@ -81,21 +81,21 @@ frames-live l t [] (Ret (suc a) ∷ ws) (d, sig, here, function, below, frames) 
 frames-live l t [] (w ∷ ws) h i e = absurd h
 
 -- what a thread's do
-thread-live : (l : Scope) (t : Thread) (ws : List Value) → ThreadFits l t ws
+thread_live : (l : Scope) (t : Thread) (ws : List Value) → ThreadFits l t ws
     → (i : ℕ) → names (thread_references l.image t ws) i ≡ true → (l.live i ≡ true) × (is_some (slice_get l.shapes i) ≡ true)
-thread-live l t ws h i e = ⊎_elim
+thread_live l t ws h i e = ⊎_elim
     (λ (f : names (register_references (strongest_at l.image t.place) t) i ≡ true).
     let r = registers-are value_registers h.context.regs t.regs i (rw h.here at f) in fits-live l (t.regs r.0) (h.context.regs r.0) i (h.regs r.0) r.2 r.1)
     (λ (f : names (frame_references l.image (slots_at l.image t.place) ws) i ≡ true). frames-live l h.sig.result h.context.slots ws h.frames i (rw h.here at f))
     (names-either (register_references (strongest_at l.image t.place) t) (frame_references l.image (slots_at l.image t.place) ws) i e)
 
 -- and a stack's
-pub stack-live : (l : Scope) (stack : Stack) → StackFits l stack
+pub stack_live : (l : Scope) (stack : Stack) → StackFits l stack
     → (i : ℕ) → names (stack_references l.image stack) i ≡ true → (l.live i ≡ true) × (is_some (slice_get l.shapes i) ≡ true)
-stack-live l EmptyStack h i e = absurd (cc)
-stack-live l RunningStack h i e = absurd (cc)
-stack-live l (YieldedStack place ws) h i e = frames-live l h.sig.result h.context.slots ws h.frames i (rw h.here at e)
-stack-live l (InterruptedStack t ws) h i e = thread-live l t ws h i e
+stack_live l EmptyStack h i e = absurd (cc)
+stack_live l RunningStack h i e = absurd (cc)
+stack_live l (YieldedStack place ws) h i e = frames-live l h.sig.result h.context.slots ws h.frames i (rw h.here at e)
+stack_live l (InterruptedStack t ws) h i e = thread_live l t ws h i e
 
 -- what stands below a list's length
 some-at : {A : Type 0} (xs : List A) (k : ℕ) → k < length xs → (x : A) × (slice_get xs k ≡ Some x)
@@ -151,15 +151,15 @@ shape-within (o ∷ store) (suc i) h = let l = shape-within store i h in omega (
 
 module _ (image : ImageParts) (live : ℕ → Bool) (s : State) (t : TypedAmong image live s) where
   -- what an object's references name, which lives
-  pub object-live : (j i : ℕ) (o : Object) → live j ≡ true → slice_get s.store j ≡ Some o → names (references_of (shown image).shapes o) i ≡ true
+  pub object_live : (j i : ℕ) (o : Object) → live j ≡ true → slice_get s.store j ≡ Some o → names (references_of (shown image).shapes o) i ≡ true
       → (live i ≡ true) × (is_some (slice_get (shapes_in s.store) i) ≡ true)
-  object-live j i o lives here e =
-      let r = object-refers (shown image).shapes o i e in
+  object_live j i o lives here e =
+      let r = object_refers (shown image).shapes o i e in
       fits-live (scope_of image live s) (Ref i) (of_field r.1) i (t.store.fit j r.0 o r.1 (Ref i) lives here r.2 r.4) refl (rw (field-refers r.1) r.3)
 
   -- what the data names
-  pub data-live : (i : ℕ) → names (data_references image s) i ≡ true → (live i ≡ true) × (is_some (slice_get (shapes_in s.store) i) ≡ true)
-  data-live i e = ⊎_elim
+  pub data_live : (i : ℕ) → names (data_references image s) i ≡ true → (live i ≡ true) × (is_some (slice_get (shapes_in s.store) i) ≡ true)
+  data_live i e = ⊎_elim
       (λ (f : names (static_references image.statics s.statics) i ≡ true).
       let r = statics-are image.statics s.statics i f in
       fits-live (scope_of image live s) (Ref i) (of_field r.1) i (t.statics.fit r.0 r.1 (Ref i) r.2 r.4) refl (rw (field-refers r.1) r.3))
@@ -167,7 +167,7 @@ module _ (image : ImageParts) (live : ℕ → Bool) (s : State) (t : TypedAmong 
       let r = names-flat_some (references_of (shown image).shapes) (take (length image.arrays) s.store) i f in
       let front = take-read (length image.arrays) s.store r.0 r.1 r.2 in
       let row = array-row image r.0 front.0 in
-      object-live r.0 i r.1 (t.store.arrays_live r.0 row.0 row.1) front.1 r.3)
+      object_live r.0 i r.1 (t.store.arrays_live r.0 row.0 row.1) front.1 r.3)
       (names-either (static_references image.statics s.statics) (flat_map (references_of (shown image).shapes) (take (length image.arrays) s.store)) i e)
 
   -- all that the state holds
@@ -175,11 +175,11 @@ module _ (image : ImageParts) (live : ℕ → Bool) (s : State) (t : TypedAmong 
   unfolding Held
   held-live i e = ⊎_elim
       (λ (f : names (data_references image s ++ thread_references image s.thread s.values) i ≡ true). ⊎_elim
-      (λ (g : names (data_references image s) i ≡ true). data-live i g)
-      (λ (g : names (thread_references image s.thread s.values) i ≡ true). thread-live (scope_of image live s) s.thread s.values t.thread i g)
+      (λ (g : names (data_references image s) i ≡ true). data_live i g)
+      (λ (g : names (thread_references image s.thread s.values) i ≡ true). thread_live (scope_of image live s) s.thread s.values t.thread i g)
       (names-either (data_references image s) (thread_references image s.thread s.values) i f))
       (λ (f : names (waiting_references image s) i ≡ true).
-      let r = names-flat_some (stack_references image) s.stacks i f in stack-live (scope_of image live s) r.1 (t.others r.0 r.1 r.2) i r.3)
+      let r = names-flat_some (stack_references image) s.stacks i f in stack_live (scope_of image live s) r.1 (t.others r.0 r.1 r.2) i r.3)
       (names-either (data_references image s ++ thread_references image s.thread s.values) (waiting_references image s) i e)
 
 -- ---- the objects that a run can come to
@@ -215,7 +215,7 @@ live-least image reaches live s t i e = ⊎_elim
   where
     from : (j : ℕ) → ReachedFrom (shown image).shapes s.store (Held image s) j → live j ≡ true
     from j (named k few h) = (held-live image live s t j h).0
-    from j (followed k n o r here few h) = (object-live image live s t k j o (from k r) here h).0
+    from j (followed k n o r here few h) = (object_live image live s t k j o (from k r) here h).0
 
 module _ (image : ImageParts) (reaches : ReachIsLeast) (s : State) where
   -- what the state holds lives
@@ -231,15 +231,15 @@ module _ (image : ImageParts) (reaches : ReachIsLeast) (s : State) where
       (names-right (static_references image.statics s.statics) (flat_map (references_of (shown image).shapes) (take (length image.arrays) s.store)) i
       (names-flat (references_of (shown image).shapes) (take (length image.arrays) s.store) j i o (take-front (length image.arrays) s.store j o front here) e)))
 
-  thread-held : (i : ℕ) → names (thread_references image s.thread s.values) i ≡ true → names (Held image s) i ≡ true
+  thread_held : (i : ℕ) → names (thread_references image s.thread s.values) i ≡ true → names (Held image s) i ≡ true
   unfolding Held
-  thread-held i e =
+  thread_held i e =
       names-left (data_references image s ++ thread_references image s.thread s.values) (waiting_references image s) i
       (names-right (data_references image s) (thread_references image s.thread s.values) i e)
 
-  stack-held : (n i : ℕ) (stack : Stack) → slice_get s.stacks n ≡ Some stack → names (stack_references image stack) i ≡ true → names (Held image s) i ≡ true
+  stack_held : (n i : ℕ) (stack : Stack) → slice_get s.stacks n ≡ Some stack → names (stack_references image stack) i ≡ true → names (Held image s) i ≡ true
   unfolding Held
-  stack-held n i stack here e =
+  stack_held n i stack here e =
       names-right (data_references image s ++ thread_references image s.thread s.values) (waiting_references image s) i (names-flat (stack_references image) s.stacks n i stack here e)
 
   statics-held : (i : ℕ) → names (static_references image.statics s.statics) i ≡ true → names (Held image s) i ≡ true
@@ -250,9 +250,9 @@ module _ (image : ImageParts) (reaches : ReachIsLeast) (s : State) where
       (names-left (static_references image.statics s.statics) (flat_map (references_of (shown image).shapes) (take (length image.arrays) s.store)) i e))
 
   -- what is held by an object that lives, too: of a data array it is held by the state
-  object-lives : (j i : ℕ) (o : Object) → live_in image s j ≡ true → slice_get s.store j ≡ Some o → i < length s.store → names (references_of (shown image).shapes o) i ≡ true
+  object_lives : (j i : ℕ) (o : Object) → live_in image s j ≡ true → slice_get s.store j ≡ Some o → i < length s.store → names (references_of (shown image).shapes o) i ≡ true
       → live_in image s i ≡ true
-  object-lives j i o lives here few e = ⊎_elim
+  object_lives j i o lives here few e = ⊎_elim
       (λ (front : j < length image.arrays). held-lives i few (array-held j i o front here e))
       (λ (reached : Reach (shown image).shapes s.store (Held image s) j ≡ true).
       let from = (reaches (shown image).shapes s.store (Held image s) j).0 reached in
@@ -265,12 +265,12 @@ module _ (image : ImageParts) (reaches : ReachIsLeast) (s : State) where
       typed-carried image esp live (live_in image s) (live_in image s) s
       (record { there = λ i shape e. e; kept = λ i lives h. h })
       t
-      (λ i e. lives i (thread-held i e))
-      (λ n stack here i e. lives i (stack-held n i stack here e))
+      (λ i e. lives i (thread_held i e))
+      (λ n stack here i e. lives i (stack_held n i stack here e))
       (λ i e. lives i (statics-held i e))
       (λ d row e. array-lives image s d (row-low image d row e))
       (λ i o here at. let was = live-least image reaches live s t i here in
-      (was, λ k e. object-lives i k o here at (shape-within s.store k (object-live image live s t i k o was at e).1) e))
+      (was, λ k e. object_lives i k o here at (shape-within s.store k (object_live image live s t i k o was at e).1) e))
     where
       lives : (i : ℕ) → names (Held image s) i ≡ true → live_in image s i ≡ true
       lives i e = held-lives i (shape-within s.store i (held-live image live s t i e).1) e

@@ -124,40 +124,40 @@ module _ (image : ImageParts) (live : ℕ → Bool) (runs : RunsOn image) (laws 
   add-live next (M a) x e = computed-two (M a) x (M a) _ _ e
 
   -- each instruction, by its form
-  form-lives : (next : ℕ) (i : Inst) → NoneFails (form_of next i) → OperandsLive image live s i
+  form_lives : (next : ℕ) (i : Inst) → NoneFails (form_of next i) → OperandsLive image live s i
   unfolding form_of
-  form-lives next (inst.Alu alu.Cmp d x) e = compared-live d x e
-  form-lives next (inst.Alu alu.Add d x) e = add-live next d x e
-  form-lives next (inst.Alu alu.Or d x) e = computed-two d x d _ _ e
-  form-lives next (inst.Alu alu.And d x) e = computed-two d x d _ _ e
-  form-lives next (inst.Alu alu.Sub d x) e = computed-two d x d _ _ e
-  form-lives next (inst.Alu alu.Xor d x) e = computed-two d x d _ _ e
-  form-lives next (inst.Mov d x) e = moved-live d x e
-  form-lives next (inst.Lea d x) e = tt
-  form-lives next (inst.Test d x) e = tested-live d x e
-  form-lives next (inst.Inc d) e = computed-one d d _ _ e
-  form-lives next (inst.Dec d) e = computed-one d d _ _ e
-  form-lives next (inst.Not d) e = computed-one d d _ _ e
-  form-lives next (inst.Neg d) e = computed-one d d _ _ e
-  form-lives next (inst.Mul x) e = (computed-two (R Eax) x (R Eax) _ _ e).1
-  form-lives next (inst.Imul1 x) e = (computed-two (R Eax) x (R Eax) _ _ e).1
-  form-lives next (inst.Div x) e = computed-third (R Eax) (R Edx) x (R Eax) _ _ e
-  form-lives next (inst.Idiv x) e = computed-third (R Eax) (R Edx) x (R Eax) _ _ e
-  form-lives next (inst.Imul2 d x) e = computed-two d x d _ _ e
-  form-lives next (inst.Imul3 d x n) e = computed-into x (I n) d _ _ e
-  form-lives next (inst.Shift op d (By n)) e = computed-one d d _ _ e
-  form-lives next (inst.Shift op d Cl) e = (computed-two d (R Ecx) d _ _ e).0
-  form-lives next inst.Cdq e = tt
-  form-lives next inst.Nop e = tt
-  form-lives next (inst.Push x) e = pushed-lives x e
-  form-lives next (inst.Pop r) e = tt
-  form-lives next (inst.CallRel z) e = tt
-  form-lives next (inst.CallAt x) e = called-lives x e
-  form-lives next inst.Ret e = tt
-  form-lives next (inst.Jmp z) e = tt
-  form-lives next (inst.Jcc c z) e = tt
-  form-lives next (inst.Priv op arg) e = tt
+  form_lives next (inst.Alu alu.Cmp d x) e = compared-live d x e
+  form_lives next (inst.Alu alu.Add d x) e = add-live next d x e
+  form_lives next (inst.Alu alu.Or d x) e = computed-two d x d _ _ e
+  form_lives next (inst.Alu alu.And d x) e = computed-two d x d _ _ e
+  form_lives next (inst.Alu alu.Sub d x) e = computed-two d x d _ _ e
+  form_lives next (inst.Alu alu.Xor d x) e = computed-two d x d _ _ e
+  form_lives next (inst.Mov d x) e = moved-live d x e
+  form_lives next (inst.Lea d x) e = tt
+  form_lives next (inst.Test d x) e = tested-live d x e
+  form_lives next (inst.Inc d) e = computed-one d d _ _ e
+  form_lives next (inst.Dec d) e = computed-one d d _ _ e
+  form_lives next (inst.Not d) e = computed-one d d _ _ e
+  form_lives next (inst.Neg d) e = computed-one d d _ _ e
+  form_lives next (inst.Mul x) e = (computed-two (R Eax) x (R Eax) _ _ e).1
+  form_lives next (inst.Imul1 x) e = (computed-two (R Eax) x (R Eax) _ _ e).1
+  form_lives next (inst.Div x) e = computed-third (R Eax) (R Edx) x (R Eax) _ _ e
+  form_lives next (inst.Idiv x) e = computed-third (R Eax) (R Edx) x (R Eax) _ _ e
+  form_lives next (inst.Imul2 d x) e = computed-two d x d _ _ e
+  form_lives next (inst.Imul3 d x n) e = computed-into x (I n) d _ _ e
+  form_lives next (inst.Shift op d (By n)) e = computed-one d d _ _ e
+  form_lives next (inst.Shift op d Cl) e = (computed-two d (R Ecx) d _ _ e).0
+  form_lives next inst.Cdq e = tt
+  form_lives next inst.Nop e = tt
+  form_lives next (inst.Push x) e = pushed-lives x e
+  form_lives next (inst.Pop r) e = tt
+  form_lives next (inst.CallRel z) e = tt
+  form_lives next (inst.CallAt x) e = called-lives x e
+  form_lives next inst.Ret e = tt
+  form_lives next (inst.Jmp z) e = tt
+  form_lives next (inst.Jcc c z) e = tt
+  form_lives next (inst.Priv op arg) e = tt
 
   -- the instruction at the place
-  pub operands-live : (x : PlacedInst) → instruction_in image s.thread.place ≡ Some x → OperandsLive image live s x.inst
-  operands-live x here = form-lives (next_address s.thread.place x.len) x.inst (stands-at image runs laws live s t x here).rules
+  pub operands_live : (x : PlacedInst) → instruction_in image s.thread.place ≡ Some x → OperandsLive image live s x.inst
+  operands_live x here = form_lives (next_address s.thread.place x.len) x.inst (stands-at image runs laws live s t x here).rules

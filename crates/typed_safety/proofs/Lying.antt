@@ -19,8 +19,8 @@ use Rattle.typed_machine.specs.Placing.{Placed, block_of, lies_in_block, is_take
 use Rattle.typed_machine.specs.Reaching.{Reach, Roots, rooted, live_in}
 use Rattle.typed_safety.proofs.Staying.{BlocksStay}
 use Rattle.typed_safety.proofs.Living.{array-row}
-use Rattle.typed_safety.proofs.Gaps.{PlacedFree, legal-place}
-use Rattle.typed_safety.proofs.Growing.{stood-or-last}
+use Rattle.typed_safety.proofs.Gaps.{PlacedFree, legal_place}
+use Rattle.typed_safety.proofs.Growing.{stood_or_last}
 use Rattle.typed_safety.proofs.AfterReplies.{rooted-cases}
 use Rattle.typed_safety.proofs.FirstStates.{places-low}
 
@@ -41,9 +41,9 @@ same-object (o ∷ store) (q ∷ after) same (suc i) p e =
     same-object store after (cc, cc) i p e
 
 -- an object keeps them
-pub object-stays : (store after : Store) → BlocksStay store after → (i : ℕ) (o : Object) → slice_get store i ≡ Some o
+pub object_stays : (store after : Store) → BlocksStay store after → (i : ℕ) (o : Object) → slice_get store i ≡ Some o
     → (p : Object) × (slice_get after i ≡ Some p) × (p.shape ≡ o.shape) × (p.place ≡ o.place)
-object-stays store after same i o e = same-object after store (sym same.0, sym same.1) i o e
+object_stays store after same i o e = same-object after store (sym same.0, sym same.1) i o e
 
 -- where they lie
 lies-same : (image : ImageParts) (o p : Object) → o.shape ≡ p.shape → o.place ≡ p.place → LiesInHeap image o → LiesInHeap image p
@@ -124,14 +124,14 @@ module _ (image : ImageParts) (s : State) (next : ℕ) (shape : ObjectShape) (a 
 
   -- where it lies
   free : PlacedFree image (Roots image next s) s (need (shown image).shapes shape) a
-  free = legal-place image (Roots image next s) s (need (shown image).shapes shape) a legal
+  free = legal_place image (Roots image next s) s (need (shown image).shapes shape) a legal
 
   fresh-lies : LiesInHeap image fresh
   fresh-lies = record { first = free.first; place = free.place; aligned = free.aligned; ends = free.lies.ends }
 
   -- a block of the heap that is reached from the roots lies apart from it
-  old-apart : (i : ℕ) (o : Object) → length image.arrays ≤ i → rooted image next s i ≡ true → slice_get s.store i ≡ Some o → BlocksApart image o fresh
-  old-apart i o behind is here = way (apart-or-common (block_of o.place) (need (shown image).shapes o.shape) (block_of a) (need (shown image).shapes shape)
+  old_apart : (i : ℕ) (o : Object) → length image.arrays ≤ i → rooted image next s i ≡ true → slice_get s.store i ≡ Some o → BlocksApart image o fresh
+  old_apart i o behind is here = way (apart-or-common (block_of o.place) (need (shown image).shapes o.shape) (block_of a) (need (shown image).shapes shape)
       (need-some (shown image).shapes o.shape) (need-some (shown image).shapes shape))
     where
       reached : Reach (shown image).shapes s.store (Roots image next s) i ≡ true
@@ -166,7 +166,7 @@ module _ (image : ImageParts) (s : State) (next : ℕ) (shape : ObjectShape) (a 
       (λ (is : i ≡ length s.store). absurd (let low = slice_get_within s.store i o old in omega (arith, is, low)))
       (cases i h.lives))
       (λ (new : (i ≡ length s.store) × (o ≡ fresh)). inr new)
-      (stood-or-last s.store fresh i o h.here)
+      (stood_or_last s.store fresh i o h.here)
 
   apart-swapped : (o p : Object) → BlocksApart image o p → BlocksApart image p o
   apart-swapped o p (inl h) = inr h
@@ -187,8 +187,8 @@ module _ (image : ImageParts) (s : State) (next : ℕ) (shape : ObjectShape) (a 
           → ((rooted image next s j ≡ true) × (slice_get s.store j ≡ Some p)) ⊎ ((j ≡ length s.store) × (p ≡ fresh)) → BlocksApart image o p
       both i j o p other u v (inl x) (inl y) =
           lie.apart i j o p other (record { behind = u; lives = rooted-lives i x.0; here = x.1 }) (record { behind = v; lives = rooted-lives j y.0; here = y.1 })
-      both i j o p other u v (inl x) (inr y) = subst (λ q. BlocksApart image o q) (sym y.1) (old-apart i o u x.0 x.1)
-      both i j o p other u v (inr x) (inl y) = subst (λ q. BlocksApart image q p) (sym x.1) (apart-swapped p fresh (old-apart j p v y.0 y.1))
+      both i j o p other u v (inl x) (inr y) = subst (λ q. BlocksApart image o q) (sym y.1) (old_apart i o u x.0 x.1)
+      both i j o p other u v (inr x) (inl y) = subst (λ q. BlocksApart image q p) (sym x.1) (apart-swapped p fresh (old_apart j p v y.0 y.1))
       both i j o p other u v (inr x) (inr y) = absurd (other (x.0 ∙ sym y.0))
 
 -- ---- places differ
@@ -238,8 +238,8 @@ module _ (image : ImageParts) (formed : Formed image) (s : State) (t : Typed ima
   array-low i o front here = (places-low (tables image) image.kinds (length image.statics) image.arrays i o.place formed.arrays (array-place i o front here)).1
 
   -- an object of the heap is in it
-  heap-high : (i : ℕ) (o : Object) → length image.arrays ≤ i → live_in image s i ≡ true → slice_get s.store i ≡ Some o → heap_start < o.place
-  heap-high i o behind lives here = let h = t.heap.lie i o (record { behind = behind; lives = lives; here = here }) in let place = h.place in omega (arith, place)
+  heap_high : (i : ℕ) (o : Object) → length image.arrays ≤ i → live_in image s i ≡ true → slice_get s.store i ≡ Some o → heap_start < o.place
+  heap_high i o behind lives here = let h = t.heap.lie i o (record { behind = behind; lives = lives; here = here }) in let place = h.place in omega (arith, place)
 
   pub places-differ : (i j : ℕ) (o p : Object) → i ≢ j → live_in image s i ≡ true → live_in image s j ≡ true → slice_get s.store i ≡ Some o → slice_get s.store j ≡ Some p
       → o.place ≢ p.place
@@ -258,11 +258,11 @@ module _ (image : ImageParts) (formed : Formed image) (s : State) (t : Typed ima
               let rise = places-rise (statics_start + 4 * length image.statics) image.arrays j i p.place o.place less y x in omega (arith, rise, same)
       go true g false h =
           let low = array-low i o (grind (arith, nat_tests)) e in
-          let high = heap-high j p (grind (arith, nat_tests)) v f in
+          let high = heap_high j p (grind (arith, nat_tests)) v f in
           omega (arith, low, high, same)
       go false g true h =
           let low = array-low j p (grind (arith, nat_tests)) f in
-          let high = heap-high i o (grind (arith, nat_tests)) u e in
+          let high = heap_high i o (grind (arith, nat_tests)) u e in
           omega (arith, low, high, same)
       go false g false h =
           let away = t.heap.apart i j o p other (record { behind = grind (arith, nat_tests); lives = u; here = e }) (record { behind = grind (arith, nat_tests); lives = v; here = f }) in

@@ -25,7 +25,7 @@ use Rattle.typed_machine.specs.Typing.{IsHead}
 use Rattle.typed_safety.specs.Laws.{ImageLaws}
 use Rattle.typed_safety.proofs.Scopes.{rows, resolved, type_of, value_of, place_of, spot_in}
 use Rattle.typed_safety.proofs.Frames.{ValueFits}
-use Rattle.typed_safety.proofs.Fitted.{StateFits, thread-fits, also-related}
+use Rattle.typed_safety.proofs.Fitted.{StateFits, thread_fits, also_related}
 use Rattle.typed_safety.proofs.Spots.{SpotFits, SpotFound, spot-found}
 use Rattle.typed_safety.proofs.Reading.{operand-read}
 use Rattle.typed_safety.proofs.Writing.{SomeFits, operand-written}
@@ -35,10 +35,10 @@ module _ (types : TypeLaws) (l : Scope) (result : Ty) where
   -- a register holds the table of another's object
   add_head-fits : (c : LiveContext) (s : State) (t r : Reg) → StateFits l result c s → IsHead l.shapes (s.thread.regs t) (s.thread.regs r) → StateFits l result (add_head t r c) s
   unfolding add_head
-  add_head-fits c s t r h is = thread-fits l result c _ s h (record {
+  add_head-fits c s t r h is = thread_fits l result c _ s h (record {
     regs = h.thread.regs;
     pairs = h.thread.pairs;
-    heads = also-related types (λ i a. IsHead l.shapes (s.thread.regs i) (s.thread.regs a)) c.heads t r is h.thread.heads;
+    heads = also_related types (λ i a. IsHead l.shapes (s.thread.regs i) (s.thread.regs a)) c.heads t r is h.thread.heads;
     conditions = h.thread.conditions;
     told = h.thread.told;
     frames = h.thread.frames;

@@ -117,13 +117,13 @@ references-are s shape j i (w ∷ ws) h = go (references-are s shape (j + 1) i w
     go rest (Some t) e g = here rest t e (is_reference t) refl g
 
 -- all references of an object
-pub object-has : (s : ShapesView) (o : Object) (k i : ℕ) (t : FieldTy) → value_type s o.shape k ≡ Some t → is_reference t ≡ true → slice_get o.values k ≡ Some (Ref i)
+pub object_has : (s : ShapesView) (o : Object) (k i : ℕ) (t : FieldTy) → value_type s o.shape k ≡ Some t → is_reference t ≡ true → slice_get o.values k ≡ Some (Ref i)
     → names (references_of s o) i ≡ true
-object-has s o k i t e f h = let same : 0 + k ≡ k = omega arith in references-have s o.shape 0 k i o.values t (rw same e) f h
+object_has s o k i t e f h = let same : 0 + k ≡ k = omega arith in references-have s o.shape 0 k i o.values t (rw same e) f h
 
-pub object-refers : (s : ShapesView) (o : Object) (i : ℕ) → names (references_of s o) i ≡ true
+pub object_refers : (s : ShapesView) (o : Object) (i : ℕ) → names (references_of s o) i ≡ true
     → (k : ℕ) × (t : FieldTy) × (value_type s o.shape k ≡ Some t) × (is_reference t ≡ true) × (slice_get o.values k ≡ Some (Ref i))
-object-refers s o i h = let r = references-are s o.shape 0 i o.values h in let same : 0 + r.0 ≡ r.0 = omega arith in (r.0, r.1, rw same at r.2, r.3, r.4)
+object_refers s o i h = let r = references-are s o.shape 0 i o.values h in let same : 0 + r.0 ≡ r.0 = omega arith in (r.0, r.1, rw same at r.2, r.3, r.4)
 
 -- ---- values by their types
 

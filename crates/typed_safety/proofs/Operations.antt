@@ -117,18 +117,18 @@ module _ (l : Scope) (result : Ty) where
 
 module _ (l : Scope) (result : Ty) (c : LiveContext) (s : State) (h : StateFits l result c s) (laws : ImageLaws l.image) where
   -- sources that the rules let pass are numbers
-  sources-numbers : (xs : List Operand) → list_all (λ x. (resolved l c s x).spares_esp) xs ≡ true
+  sources_numbers : (xs : List Operand) → list_all (λ x. (resolved l c s x).spares_esp) xs ≡ true
       → list_all (λ x. found (resolved l c s x)) xs ≡ true → list_all (λ x. readable (resolved l c s x)) xs ≡ true
       → list_all (λ x. is_num (resolved l c s x).ty) xs ≡ true → list_all (is_number (shown l.image) s) xs ≡ true
   unfolding is_number
-  sources-numbers [] a b d e = refl
-  sources-numbers (x ∷ xs) a b d e =
+  sources_numbers [] a b d e = refl
+  sources_numbers (x ∷ xs) a b d e =
       let spares = and_parts (spares_esp x) _ a in
       let finds = and_parts (found (resolved l c s x)) _ b in
       let reads = and_parts (readable (resolved l c s x)) _ d in
       let numbers = and_parts (is_num (type_of l c s x)) _ e in
       rw (number-seen l (value_of l s x) _ (operand-read l result c s h laws x spares.0 finds.0 reads.0) numbers.0)
-      (sources-numbers xs spares.1 finds.1 reads.1 numbers.1)
+      (sources_numbers xs spares.1 finds.1 reads.1 numbers.1)
 
   -- an operation that is no fault has written its result
   stored-leads : (next : ℕ) (d : Operand) (w : Value) (wide : Bool) (k : Option FlagKind) (m : WordState) → option_map_or is_plain k true ≡ true → (k ≡ None → m.flags ≡ s.thread.flags)
@@ -165,7 +165,7 @@ module _ (l : Scope) (result : Ty) (c : LiveContext) (s : State) (h : StateFits 
       → FormLeads l result c s i len next (Compute sources d wide k)
   unfolding form_effect computes after_form operand_rule words_of
   compute-leads i len next sources d wide k tells e =
-      rw (sources-numbers sources (grind arith) (grind arith) (grind arith) (grind arith)) (run (words_of s (word_among (shown l.image) s (d ∷ sources))) refl)
+      rw (sources_numbers sources (grind arith) (grind arith) (grind arith) (grind arith)) (run (words_of s (word_among (shown l.image) s (d ∷ sources))) refl)
     where
       after : LiveContext
       after = give_kind k (write_high wide (store (resolved l c s d) ty.Num c))

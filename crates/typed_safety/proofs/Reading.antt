@@ -37,9 +37,9 @@ value-counted s (InstanceOf c) j f h = slice_get_within (Fields s c) j f h
 value-counted s (ArrayOf k n) j f h = grind (arith, nat_tests)
 
 -- the object that has a value of a type
-pub object-there : (l : Scope) (store : Store) → StoreFits l store → (i j : ℕ) (f : FieldTy) → value_type_at l i j ≡ Some f
+pub object_there : (l : Scope) (store : Store) → StoreFits l store → (i j : ℕ) (f : FieldTy) → value_type_at l i j ≡ Some f
     → (o : Object) × (slice_get store i ≡ Some o) × (value_type (rows l) o.shape j ≡ Some f)
-object-there l store h i j f e =
+object_there l store h i j f e =
     go (slice_get store i) refl (sym (slice_get-map (λ (o : Object). o.shape) store i) ∙ ap (λ os. slice_get os i) (sym h.shapes))
   where
     go : (o : Option Object) → slice_get store i ≡ o → option_map (λ (x : Object). x.shape) o ≡ slice_get l.shapes i
@@ -52,14 +52,14 @@ module _ (l : Scope) (result : Ty) (c : LiveContext) (s : State) (h : StateFits 
   value-there : (i j : ℕ) (f : FieldTy) → l.live i ≡ true → value_type_at l i j ≡ Some f → ValueFits l (value_at s.store i j) (of_field f)
   unfolding value_at
   value-there i j f live e =
-      let o = object-there l s.store h.store i j f e in
+      let o = object_there l s.store h.store i j f e in
       let few : j < length o.0.values = rw (h.store.counts i o.0 o.1) (value-counted (rows l) o.0.shape j f o.2) in
       let there = slice_get-get_or o.0.values j Null few in
       rw (o.1, there) (h.store.fit i j o.0 f _ live o.1 o.2 there)
 
   -- a static
-  static-there : (j : ℕ) (f : FieldTy) → slice_get l.image.statics j ≡ Some f → ValueFits l (slice_get s.statics j) (of_field f)
-  static-there j f e =
+  static_there : (j : ℕ) (f : FieldTy) → slice_get l.image.statics j ≡ Some f → ValueFits l (slice_get s.statics j) (of_field f)
+  static_there j f e =
       let few = slice_get_within l.image.statics j f e in
       let there = slice_get-get_or s.statics j Null (omega (arith, h.statics.count)) in
       rw there (h.statics.fit j f _ e there)
@@ -92,7 +92,7 @@ module _ (l : Scope) (result : Ty) (c : LiveContext) (s : State) (h : StateFits 
   -- a readable place has a value of its type
   pub place-read : ImageLaws l.image → (base : Option Reg) (p : Place) (q : Spot) → SpotFits l c s base p q → is_readable p ≡ true → ValueFits l (read_spot (rows l) s q) (place_type c p)
   unfolding read_spot
-  place-read laws base (Whole t) (AtStatic j) e r = rw e.2 (static-there j e.0 e.1)
+  place-read laws base (Whole t) (AtStatic j) e r = rw e.2 (static_there j e.0 e.1)
   place-read laws base (Whole t) (AtValue i j) e r = rw e.3 (value-there i j e.0 e.1 e.2)
   place-read laws base (Slot i) (AtSlot j) e r = rw (← e.1) (slot-there i e.0 e.2)
   place-read laws base Length (AtLength i) e r = length-there base i e

@@ -86,9 +86,9 @@ unfolding Below
 below-there v d c h = grind (arith, nat_tests)
 
 -- a kind of elements is there
-element-there : (v : ShapesView) (k : ℕ) → is_some (Element v k) ≡ true → k < length v.kinds
+element_there : (v : ShapesView) (k : ℕ) → is_some (Element v k) ≡ true → k < length v.kinds
 unfolding Element
-element-there v k h = go (slice_get v.kinds k) refl h
+element_there v k h = go (slice_get v.kinds k) refl h
   where
     go : (o : Option KindRow) → slice_get v.kinds k ≡ o → is_some (option_map (λ (row : KindRow). row.element) o) ≡ true → k < length v.kinds
     go None e f = absurd (cc)
@@ -97,9 +97,9 @@ element-there v k h = go (slice_get v.kinds k) refl h
 -- ---- what a call comes to
 
 -- typing looks at no devices, no turns and no end
-pub aside-typed : (image : ImageParts) (live : ℕ → Bool) (s : State) (d : History) (n : ℕ) (e : Option Ending) → TypedAmong image live s
+pub aside_typed : (image : ImageParts) (live : ℕ → Bool) (s : State) (d : History) (n : ℕ) (e : Option Ending) → TypedAmong image live s
     → TypedAmong image live (record s { devices = d; turns = n; ending = e })
-aside-typed image live s d n e t =
+aside_typed image live s d n e t =
     record { thread = t.thread; others = t.others; one = t.one; only = t.only; kernel = t.kernel; count = t.count; statics = t.statics; store = t.store }
 
 -- null has the type of a reference
@@ -129,8 +129,8 @@ some-reply image live s next None h = absurd h
 some-reply image live s next (Some reply) h = (reply, refl)
 
 -- a number at which a stack stands is below their count
-stack-within : (ks : List Stack) (n : ℕ) → is_some (slice_get ks n) ≡ true → n < length ks
-stack-within ks n h = go (slice_get ks n) refl h
+stack_within : (ks : List Stack) (n : ℕ) → is_some (slice_get ks n) ≡ true → n < length ks
+stack_within ks n h = go (slice_get ks n) refl h
   where
     go : (o : Option Stack) → slice_get ks n ≡ o → is_some o ≡ true → n < length ks
     go None e f = absurd (cc)
@@ -176,17 +176,17 @@ module _ (image : ImageParts) (rests : RunsOn image) (laws : ImageLaws image) (l
 
     -- something happens to the devices
     happened-typed : (n : ℕ) (items : List Item) → ReplyTyped image live s next (Replies n (happened items s))
-    happened-typed n items = number-typed n (happened items s) (aside-typed image live s (items ++ s.devices) s.turns s.ending t) a
+    happened-typed n items = number-typed n (happened items s) (aside_typed image live s (items ++ s.devices) s.turns s.ending t) a
 
     -- a yield, which is refused or is a switch
-    yield-typed : (n : ℕ) → ReplyTyped image live s next (yield_to n s)
-    yield-typed n = there (not (is_stack n s) || n == s.current) refl
+    yield_typed : (n : ℕ) → ReplyTyped image live s next (yield_to n s)
+    yield_typed n = there (not (is_stack n s) || n == s.current) refl
       where
         apart : (b : Bool) → (is_application s.current && is_application n) ≡ b → (not (is_stack n s) || n == s.current) ≡ false
             → ReplyTyped image live s next (if b then Replies 2 s else YieldsTo n)
         apart true e f = same-typed 2
         apart false e f =
-            let few = stack-within s.stacks n (grind arith) in
+            let few = stack_within s.stacks n (grind arith) in
             let count = t.count in
             let kept : (n ≡ 0) ⊎ (s.current ≡ 0) = grind (arith, nat_tests) in
             switch-typed image rests laws live s t (YieldedStack next s.values) n (65536 + s.current) a (λ g. cc) (λ g. absurd (grind (arith, nat_tests)))
@@ -198,9 +198,9 @@ module _ (image : ImageParts) (rests : RunsOn image) (laws : ImageLaws image) (l
         there false e = apart (is_application s.current && is_application n) refl e
 
     -- a stack that does not run becomes empty
-    empties-typed : (n : ℕ) (stack : Stack) → s.current ≡ 0 → slice_get s.stacks n ≡ Some stack → stack ≢ RunningStack
+    empties_typed : (n : ℕ) (stack : Stack) → s.current ≡ 0 → slice_get s.stacks n ≡ Some stack → stack ≢ RunningStack
         → ReplyTyped image live s next (Replies 0 (record s { stacks = slice_set s.stacks n EmptyStack }))
-    empties-typed n stack kernel here other =
+    empties_typed n stack kernel here other =
         let away : n ≢ s.current = λ e. other (let x : Some stack ≡ Some RunningStack = sym here ∙ (ap (slice_get s.stacks) e ∙ t.one) in cc) in
         number-typed 0 (record s { stacks = slice_set s.stacks n EmptyStack })
         (record {
@@ -228,18 +228,18 @@ module _ (image : ImageParts) (rests : RunsOn image) (laws : ImageLaws image) (l
         named : (o : Option Stack) → slice_get s.stacks n ≡ o → s.current ≡ 0 → ReplyTyped image live s next (emptied n s o)
         named None e kernel = same-typed 1
         named (Some RunningStack) e kernel = same-typed 1
-        named (Some EmptyStack) e kernel = empties-typed n EmptyStack kernel e (λ f. cc)
-        named (Some (YieldedStack place values)) e kernel = empties-typed n (YieldedStack place values) kernel e (λ f. cc)
-        named (Some (InterruptedStack thread values)) e kernel = empties-typed n (InterruptedStack thread values) kernel e (λ f. cc)
+        named (Some EmptyStack) e kernel = empties_typed n EmptyStack kernel e (λ f. cc)
+        named (Some (YieldedStack place values)) e kernel = empties_typed n (YieldedStack place values) kernel e (λ f. cc)
+        named (Some (InterruptedStack thread values)) e kernel = empties_typed n (InterruptedStack thread values) kernel e (λ f. cc)
 
         caller : (b : Bool) → is_application s.current ≡ b → ReplyTyped image live s next (if b then Replies 2 s else emptied n s (slice_get s.stacks n))
         caller true e = same-typed 2
         caller false e = named (slice_get s.stacks n) refl (grind (arith, nat_tests))
 
     -- what a call asks of the devices is done, or is refused and changes nothing
-    done-typed : (b : Bool) (items : List Item) → ReplyTyped image live s next (if b then Replies 0 (happened items s) else Replies 1 s)
-    done-typed true items = happened-typed 0 items
-    done-typed false items = same-typed 1
+    done_typed : (b : Bool) (items : List Item) → ReplyTyped image live s next (if b then Replies 0 (happened items s) else Replies 1 s)
+    done_typed true items = happened-typed 0 items
+    done_typed false items = same-typed 1
 
     -- a code is taken, if there is one
     code-typed : (o : Option ℕ) → ReplyTyped image live s next (code_taken o s)
@@ -274,9 +274,9 @@ module _ (image : ImageParts) (rests : RunsOn image) (laws : ImageLaws image) (l
       rw (eax.1, ecx.1) (typed (awaits-number c gives.2) eax.0 ecx.0)
 
   -- an object of the class whose table is in EAX
-  object-typed : CallTyped (scope_of image live s) s next 0 → SomeReplyTyped image live s next (alloc_object s)
+  object_typed : CallTyped (scope_of image live s) s next 0 → SomeReplyTyped image live s next (alloc_object s)
   unfolding nucleus_arguments
-  object-typed c =
+  object_typed c =
       let gives = gives-object c.eax c.ecx c.reply (gives-by c Table refl) in
       let eax = holds-table (scope_of image live s) (s.thread.regs Eax) gives.0 (rw gives.1 at c.eax_fits) in
       rw eax.1 (record {
@@ -296,7 +296,7 @@ module _ (image : ImageParts) (rests : RunsOn image) (laws : ImageLaws image) (l
       let ecx = holds-number (scope_of image live s) (s.thread.regs Ecx) c.ecx c.ecx_fits gives.2 in
       let length = number-value (s.thread.regs Ecx) ecx.0 ecx.1 in
       rw (eax.0, length) (record {
-        is_shape = element-there (shown image).shapes gives.0 eax.1;
+        is_shape = element_there (shown image).shapes gives.0 eax.1;
         type = ty.ArrRef gives.0;
         awaited = rw gives.3 at c.awaited;
         null = λ l. null-array l gives.0;
@@ -306,20 +306,20 @@ module _ (image : ImageParts) (rests : RunsOn image) (laws : ImageLaws image) (l
   -- each entry behind those of the heap
   behind-heap : (k : ℕ) → CallTyped (scope_of image live s) s next (suc (suc (suc k))) → SomeReplyTyped image live s next (Reply (suc (suc (suc k))) s)
   unfolding Reply nucleus_arguments
-  behind-heap zero c = one-typed 3 yield_to c refl yield-typed
+  behind-heap zero c = one-typed 3 yield_to c refl yield_typed
   behind-heap (suc zero) c = one-typed 4 get_stack_state c refl (λ a n. same-typed a _)
   behind-heap (suc (suc zero)) c = one-typed 5 reset_stack c refl reset-typed
-  behind-heap (suc (suc (suc zero))) c = two-typed 6 vga_text_write c refl (λ a n m. done-typed a _ (Drew n (m % 2 ^ 16) ∷ []))
+  behind-heap (suc (suc (suc zero))) c = two-typed 6 vga_text_write c refl (λ a n m. done_typed a _ (Drew n (m % 2 ^ 16) ∷ []))
   behind-heap (suc (suc (suc (suc zero)))) c = nothing-typed 7 try_read_keyboard c refl (λ a. code-typed a _)
-  behind-heap (suc (suc (suc (suc (suc zero))))) c = one-typed 8 start_timer c refl (λ a n. done-typed a _ (count_items n))
-  behind-heap (suc (suc (suc (suc (suc (suc zero)))))) c = nothing-typed 9 send_eoi c refl (λ a. done-typed a _ (Wrote 0x20 0x20 ∷ []))
+  behind-heap (suc (suc (suc (suc (suc zero))))) c = one-typed 8 start_timer c refl (λ a n. done_typed a _ (count_items n))
+  behind-heap (suc (suc (suc (suc (suc (suc zero)))))) c = nothing-typed 9 send_eoi c refl (λ a. done_typed a _ (Wrote 0x20 0x20 ∷ []))
   behind-heap (suc (suc (suc (suc (suc (suc (suc zero))))))) c = nothing-typed 10 current_stack c refl (λ a. same-typed a _)
   behind-heap (suc (suc (suc (suc (suc (suc (suc (suc k)))))))) c = absurd (let x = c.entry in cc)
 
   -- each entry
   pub call-replies : (k : ℕ) → CallTyped (scope_of image live s) s next k → SomeReplyTyped image live s next (Reply k s)
   unfolding Reply nucleus_arguments
-  call-replies zero c = object-typed c
+  call-replies zero c = object_typed c
   call-replies (suc zero) c = array-typed c
   call-replies (suc (suc zero)) c = nothing-typed 2 garbage_collect c refl (λ a. a)
   call-replies (suc (suc (suc k))) c = behind-heap k c

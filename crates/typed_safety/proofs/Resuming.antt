@@ -29,23 +29,23 @@ use Rattle.typed_safety.proofs.CallForms.{lost-allows}
 -- ---- where a stack begins
 
 -- each of several types of junk is junk
-junk-at : (ts : List Ty) (i : ℕ) → list_all (λ t. type_tag t == 9) ts ≡ true → slice_index_or ts i ty.Junk ≡ ty.Junk
+junk_at : (ts : List Ty) (i : ℕ) → list_all (λ t. type_tag t == 9) ts ≡ true → slice_index_or ts i ty.Junk ≡ ty.Junk
 unfolding type_tag
-junk-at [] i h = refl
-junk-at (t ∷ ts) zero h = grind (arith, nat_tests)
-junk-at (t ∷ ts) (suc i) h = junk-at ts i (and_parts (type_tag t == 9) _ h).1
+junk_at [] i h = refl
+junk_at (t ∷ ts) zero h = grind (arith, nat_tests)
+junk_at (t ∷ ts) (suc i) h = junk_at ts i (and_parts (type_tag t == 9) _ h).1
 
 -- each register is junk where a stack begins
-junk-register : (sig : Sig) → starts_stack sig ≡ true → (r : Reg) → register_type sig.params r ≡ ty.Junk
+junk_register : (sig : Sig) → starts_stack sig ≡ true → (r : Reg) → register_type sig.params r ≡ ty.Junk
 unfolding starts_stack register_type
-junk-register sig h Eax = junk-at sig.params 0 (and_parts (list_all (λ t. type_tag t == 9) sig.params) _ h).0
-junk-register sig h Ecx = junk-at sig.params 1 (and_parts (list_all (λ t. type_tag t == 9) sig.params) _ h).0
-junk-register sig h Edx = junk-at sig.params 2 (and_parts (list_all (λ t. type_tag t == 9) sig.params) _ h).0
-junk-register sig h Ebx = junk-at sig.params 3 (and_parts (list_all (λ t. type_tag t == 9) sig.params) _ h).0
-junk-register sig h Esp = refl
-junk-register sig h Ebp = junk-at sig.params 4 (and_parts (list_all (λ t. type_tag t == 9) sig.params) _ h).0
-junk-register sig h Esi = junk-at sig.params 5 (and_parts (list_all (λ t. type_tag t == 9) sig.params) _ h).0
-junk-register sig h Edi = junk-at sig.params 6 (and_parts (list_all (λ t. type_tag t == 9) sig.params) _ h).0
+junk_register sig h Eax = junk_at sig.params 0 (and_parts (list_all (λ t. type_tag t == 9) sig.params) _ h).0
+junk_register sig h Ecx = junk_at sig.params 1 (and_parts (list_all (λ t. type_tag t == 9) sig.params) _ h).0
+junk_register sig h Edx = junk_at sig.params 2 (and_parts (list_all (λ t. type_tag t == 9) sig.params) _ h).0
+junk_register sig h Ebx = junk_at sig.params 3 (and_parts (list_all (λ t. type_tag t == 9) sig.params) _ h).0
+junk_register sig h Esp = refl
+junk_register sig h Ebp = junk_at sig.params 4 (and_parts (list_all (λ t. type_tag t == 9) sig.params) _ h).0
+junk_register sig h Esi = junk_at sig.params 5 (and_parts (list_all (λ t. type_tag t == 9) sig.params) _ h).0
+junk_register sig h Edi = junk_at sig.params 6 (and_parts (list_all (λ t. type_tag t == 9) sig.params) _ h).0
 
 -- the function where a stack begins gives a number
 number-result : (sig : Sig) → starts_stack sig ≡ true → sig.result ≡ ty.Num
@@ -65,7 +65,7 @@ begins-fits l place sig b e = record {
   sig = sig;
   here = b.known;
   function = b.signature;
-  regs = λ r. rw (junk-register sig e r) (fresh-number l 0 place r);
+  regs = λ r. rw (junk_register sig e r) (fresh-number l 0 place r);
   pairs = λ i a known. absurd (cc);
   heads = λ i a known. absurd (cc);
   conditions = λ a allowed. absurd (cc);

@@ -62,9 +62,9 @@ SpotFound l c s base (Some place) (Some spot) = SpotFits l c s base place spot
 
 module _ (l : Scope) (c : LiveContext) (s : State) (base : Option Reg) where
   -- a static
-  static-found : StaticsFit l s.statics → (disp : ℕ) → SpotFound l c s base (static_place (shown l.image).statics disp) (static_spot s disp)
+  static_found : StaticsFit l s.statics → (disp : ℕ) → SpotFound l c s base (static_place (shown l.image).statics disp) (static_spot s disp)
   unfolding static_spot shown
-  static-found h disp = go (word_index statics_start disp)
+  static_found h disp = go (word_index statics_start disp)
     where
       at : (j : ℕ) (f : Option FieldTy) → slice_get l.image.statics j ≡ f → SpotFound l c s base (field_place f) (if nat_lt j (length s.statics) then Some (AtStatic j) else None)
       at j None e = tt
@@ -113,13 +113,13 @@ module _ (l : Scope) (c : LiveContext) (s : State) (base : Option Reg) where
       go (Some f) h = let there = laws.field_kept d e disp f below h in rw there (typed (word_index 4 disp) f there)
 
   -- the base is an object of a class below e
-  object-found : ClassLaws (rows l) → (r : Reg) (i e disp : ℕ) → s.thread.regs r ≡ Ref i → l.live i ≡ true
+  object_found : ClassLaws (rows l) → (r : Reg) (i e disp : ℕ) → s.thread.regs r ≡ Ref i → l.live i ≡ true
       → (shape : Option ObjectShape) → slice_get l.shapes i ≡ shape → is_instance (rows l) shape e ≡ true
       → SpotFound l c s base (object_place (rows l) r e disp) (option_and_then (λ x. object_spot (rows l) i x disp) shape)
   unfolding object_spot
-  object-found laws r i e disp holds live None shape h = absurd (grind arith)
-  object-found laws r i e disp holds live (Some (ArrayOf k n)) shape h = absurd (grind arith)
-  object-found laws r i e disp holds live (Some (InstanceOf d)) shape h = go (disp == 0)
+  object_found laws r i e disp holds live None shape h = absurd (grind arith)
+  object_found laws r i e disp holds live (Some (ArrayOf k n)) shape h = absurd (grind arith)
+  object_found laws r i e disp holds live (Some (InstanceOf d)) shape h = go (disp == 0)
     where
       go : (b : Bool) → SpotFound l c s base
           (if b then Some (Head r e) else field_place (field_at (rows l) e disp))
@@ -141,21 +141,21 @@ module _ (l : Scope) (c : LiveContext) (s : State) (base : Option Reg) where
       go false = tt
 
   -- element j of an array
-  element-there : (i j k n : ℕ) (t : Option FieldTy) → l.live i ≡ true → slice_get l.shapes i ≡ Some (ArrayOf k n) → nat_lt j n ≡ true → Element (rows l) k ≡ t
+  element_there : (i j k n : ℕ) (t : Option FieldTy) → l.live i ≡ true → slice_get l.shapes i ≡ Some (ArrayOf k n) → nat_lt j n ≡ true → Element (rows l) k ≡ t
       → SpotFound l c s base (field_place t) (Some (AtValue i j))
   unfolding value_type
-  element-there i j k n None live shape few e = tt
-  element-there i j k n (Some f) live shape few e = (f, live, rw (shape, few) e, refl)
+  element_there i j k n None live shape few e = tt
+  element_there i j k n (Some f) live shape few e = (f, live, rw (shape, few) e, refl)
 
   -- the base is an array, and the index is below its length
-  element-found : (r x : Reg) (i k scale disp : ℕ) → s.thread.regs r ≡ Ref i → l.live i ≡ true
+  element_found : (r x : Reg) (i k scale disp : ℕ) → s.thread.regs r ≡ Ref i → l.live i ≡ true
       → (shape : Option ObjectShape) → slice_get l.shapes i ≡ shape → is_array shape k ≡ true
       → (c.pairs x r ≡ true → IsPair l.shapes (s.thread.regs x) (s.thread.regs r))
       → SpotFound l c s base (element_place (rows l) c r k x scale disp) (option_and_then (λ y. element_spot i y (s.thread.regs x) scale disp) shape)
   unfolding element_spot
-  element-found r x i k scale disp holds live None shape h pair = absurd (grind arith)
-  element-found r x i k scale disp holds live (Some (InstanceOf d)) shape h pair = absurd (grind arith)
-  element-found r x i k scale disp holds live (Some (ArrayOf m n)) shape h pair = go (c.pairs x r) refl ((scale == 2) && (disp == 8)) refl
+  element_found r x i k scale disp holds live None shape h pair = absurd (grind arith)
+  element_found r x i k scale disp holds live (Some (InstanceOf d)) shape h pair = absurd (grind arith)
+  element_found r x i k scale disp holds live (Some (ArrayOf m n)) shape h pair = go (c.pairs x r) refl ((scale == 2) && (disp == 8)) refl
     where
       below : (b : BoundTold l.shapes (s.thread.regs x) (s.thread.regs r) true) → nat_lt b.number n ≡ true
       below b =
@@ -172,7 +172,7 @@ module _ (l : Scope) (c : LiveContext) (s : State) (base : Option Reg) where
       go true e true f =
           let b = (pair e).told in
           let kind : m ≡ k = grind (arith, nat_tests) in
-          rw (b.is_number, below b, f) (element-there i b.number m n _ live shape (below b) (ap (λ y. Element (rows l) y) kind))
+          rw (b.is_number, below b, f) (element_there i b.number m n _ live shape (below b) (ap (λ y. Element (rows l) y) kind))
 
   -- the base is a class's table
   table-found : ClassLaws (rows l) → (r : Reg) (d e disp : ℕ) → s.thread.regs r ≡ Tab d → Below (rows l) d e ≡ true
@@ -214,13 +214,13 @@ module _ (l : Scope) (c : LiveContext) (s : State) (base : Option Reg) where
 
   module _ (result : Ty) (laws : ClassLaws (rows l)) (h : StateFits l result c s) (r : Reg) (is : base ≡ Some r) where
     -- the base is an object
-    object-based : (e scale disp : ℕ) (w : Value) → s.thread.regs r ≡ w → fits_in l w (ty.Obj e) ≡ true
+    object_based : (e scale disp : ℕ) (w : Value) → s.thread.regs r ≡ w → fits_in l w (ty.Obj e) ≡ true
         → SpotFound l c s base (object_place (rows l) r e disp) (based_spot (rows l) s w None scale disp)
     unfolding fits_among
-    object-based e scale disp (Ref i) holds f =
+    object_based e scale disp (Ref i) holds f =
         let parts = and_parts (l.live i) (is_instance (rows l) (slice_get l.shapes i) e) f in
-        rw (← h.store.shapes) (object-found laws r i e disp holds parts.0 (slice_get l.shapes i) refl parts.1)
-    object-based e scale disp w holds f = absurd (grind arith)
+        rw (← h.store.shapes) (object_found laws r i e disp holds parts.0 (slice_get l.shapes i) refl parts.1)
+    object_based e scale disp w holds f = absurd (grind arith)
 
     -- the base is an array
     array-based : (k scale disp : ℕ) (w : Value) → s.thread.regs r ≡ w → fits_in l w (ty.Arr k) ≡ true
@@ -232,13 +232,13 @@ module _ (l : Scope) (c : LiveContext) (s : State) (base : Option Reg) where
     array-based k scale disp w holds f = absurd (grind arith)
 
     -- the base is an array, and there is an index
-    element-based : (k : ℕ) (x : Reg) (scale disp : ℕ) (w : Value) → s.thread.regs r ≡ w → fits_in l w (ty.Arr k) ≡ true
+    element_based : (k : ℕ) (x : Reg) (scale disp : ℕ) (w : Value) → s.thread.regs r ≡ w → fits_in l w (ty.Arr k) ≡ true
         → SpotFound l c s base (element_place (rows l) c r k x scale disp) (based_spot (rows l) s w (Some x) scale disp)
     unfolding fits_among
-    element-based k x scale disp (Ref i) holds f =
+    element_based k x scale disp (Ref i) holds f =
         let parts = and_parts (l.live i) (is_array (slice_get l.shapes i) k) f in
-        rw (← h.store.shapes) (element-found r x i k scale disp holds parts.0 (slice_get l.shapes i) refl parts.1 (h.thread.pairs x r))
-    element-based k x scale disp w holds f = absurd (grind arith)
+        rw (← h.store.shapes) (element_found r x i k scale disp holds parts.0 (slice_get l.shapes i) refl parts.1 (h.thread.pairs x r))
+    element_based k x scale disp w holds f = absurd (grind arith)
 
     -- the base is a table
     table-based : (e scale disp : ℕ) (w : Value) → s.thread.regs r ≡ w → fits_in l w (ty.Tab e) ≡ true
@@ -250,9 +250,9 @@ module _ (l : Scope) (c : LiveContext) (s : State) (base : Option Reg) where
     -- the base has a type
     based-found : (t : Ty) (x : Option Reg) (scale disp : ℕ) → fits_in l (s.thread.regs r) t ≡ true
         → SpotFound l c s base (based (rows l) c r t x scale disp) (based_spot (rows l) s (s.thread.regs r) x scale disp)
-    based-found (ty.Obj e) None scale disp f = object-based e scale disp _ refl f
+    based-found (ty.Obj e) None scale disp f = object_based e scale disp _ refl f
     based-found (ty.Arr k) None scale disp f = array-based k scale disp _ refl f
-    based-found (ty.Arr k) (Some x) scale disp f = element-based k x scale disp _ refl f
+    based-found (ty.Arr k) (Some x) scale disp f = element_based k x scale disp _ refl f
     based-found (ty.Tab e) None scale disp f = table-based e scale disp _ refl f
     based-found t x scale disp f = tt
 
@@ -272,6 +272,6 @@ spot-found l result c s laws h m = go m.base m.index
 
     go : (base x : Option Reg) → SpotFound l c s base
         (located (rows l) (shown l.image).statics c base x m.scale m.disp) (located_spot (rows l) s base x m.scale m.disp)
-    go None None = static-found l c s None h.statics m.disp
+    go None None = static_found l c s None h.statics m.disp
     go None (Some x) = tt
     go (Some r) x = either r x (same r Esp) refl

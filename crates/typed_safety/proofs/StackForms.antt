@@ -65,19 +65,19 @@ module _ (l : Scope) (result : Ty) (c : LiveContext) (s : State) (h : StateFits 
       go (Some w) f = pushed-leads next w u f
 
   -- the value of the slot on top is popped
-  popped-leads : (next : ℕ) (r : Reg) (ts : List Ty) (vs : List Value) → same r Esp ≡ false → nat_le 1 (length ts) ≡ true → FramesFit l result ts vs → length vs ≤ most_values
+  popped_leads : (next : ℕ) (r : Reg) (ts : List Ty) (vs : List Value) → same r Esp ≡ false → nat_le 1 (length ts) ≡ true → FramesFit l result ts vs → length vs ≤ most_values
       → Leads l result (with_slots (drop 1 ts) (write r (unwrap_or (slice_get ts 0) ty.Junk) c)) next (pops next r vs s)
   unfolding write
-  popped-leads next r [] vs e n f room = absurd (grind (arith, nat_tests))
-  popped-leads next r (t ∷ ts) [] e n f room = absurd f
-  popped-leads next r (t ∷ ts) (w ∷ vs) e n f room =
+  popped_leads next r [] vs e n f room = absurd (grind (arith, nat_tests))
+  popped_leads next r (t ∷ ts) [] e n f room = absurd f
+  popped_leads next r (t ∷ ts) (w ∷ vs) e n f room =
       rw (pops-typed l next r w t vs s f.0 e)
       (refl, place-fits l result _ _ next (register-fits l result (with_slots ts c) (with_values vs s) r w t (values-fit l result c s ts vs h f.1 (omega arith)) f.0))
 
   -- POP
   pub pop-leads : (i : Inst) (len next : ℕ) (r : Reg) → FormLeads l result c s i len next (PopTo r)
   unfolding form_effect after_form operand_rule pop_to
-  pop-leads i len next r e = popped-leads next r c.slots s.values (grind arith) (grind arith) h.thread.frames h.thread.room
+  pop-leads i len next r e = popped_leads next r c.slots s.values (grind arith) (grind arith) h.thread.frames h.thread.room
 
   -- the slots on top are dropped, where there are so many
   dropped-leads : (i : Inst) (next : ℕ) (count : Option ℕ) → option_map_or (λ n. nat_le n (length c.slots)) count false ≡ true

@@ -3,7 +3,6 @@ use Rattle.std.proofs.Common.{◌≡◌, ℕ, Bool, Option, Some, None, refl, Li
 use Rattle.std.specs.Option.{option_map, option_or}
 use Rattle.ia32_code.specs.declared.instruction.Inst.{Inst}
 use Rattle.object_layout.specs.Classes.{ShapesView}
-use Rattle.object_layout.specs.Laws.{ClassLaws}
 use Rattle.tal_types.specs.declared.views.Mark.{Mark}
 use Rattle.tal_types.specs.declared.signatures.Sig.{Sig}
 use Rattle.tal_types.specs.Contexts.{LiveContext, ContextView, Dead, Live, LiveBelow, ContextBelow}
@@ -26,9 +25,9 @@ use Rattle.typed_machine.specs.Operands.{marked_value}
 use Rattle.typed_machine.specs.Effects.{EffectView, Moves, Faults, Calls, Ends, form_effect}
 use Rattle.typed_machine.specs.Typing.{TypedAmong, scope_of}
 use Rattle.typed_safety.specs.Laws.{ImageLaws, EffectTyped}
-use Rattle.typed_safety.proofs.Fitted.{StateFits, typed-fits, fits-typed, context-above}
+use Rattle.typed_safety.proofs.Fitted.{StateFits, typed-fits, fits-typed, context_above}
 use Rattle.typed_safety.proofs.Reading.{has-arrays}
-use Rattle.typed_safety.proofs.InstructionForms.{FormTells, front-multiplies, form-tells}
+use Rattle.typed_safety.proofs.InstructionForms.{FormTells, front-multiplies, form_tells}
 use Rattle.typed_safety.proofs.Operations.{Leads}
 
 -- an instruction of the form stands at an address, the next one follows at another, and this is known before it
@@ -71,7 +70,7 @@ stands-at image runs laws live s t x here =
     let fits = typed-fits image live s t in
     record {
       rules = operand-none (shown image) c pc _ _ (no_number _ (rw (known, at) at (runs.none_fails pc x here)));
-      tells = form-tells (next_address pc x.len) x.inst (front-multiplies _ x.inst x.len spelled.front);
+      tells = form_tells (next_address pc x.len) x.inst (front-multiplies _ x.inst x.len spelled.front);
       marks = λ n mark is marked. laws.words pc n x mark live s.store here marked is (has-arrays (scope_of image live s) t.thread.sig.result c s fits);
       falls = λ d e. rw at at (runs.falls pc x c d here known (rw at e));
       branches = λ d to e f. runs.branches pc x c d to here known (rw at e) (rw at f);
@@ -83,23 +82,23 @@ above-live s c Dead h = absurd h
 above-live s c (Live d) h = (d, refl, h)
 
 -- the function stays where a run arrives
-pub arrives-signature : (image : ImageParts) (pc to : ℕ) (d : ContextView) (sig : Sig) → Arrives image pc to d → signature_at image pc ≡ Some sig → signature_at image to ≡ Some sig
+pub arrives_signature : (image : ImageParts) (pc to : ℕ) (d : ContextView) (sig : Sig) → Arrives image pc to d → signature_at image pc ≡ Some sig → signature_at image to ≡ Some sig
 unfolding signature_at
-arrives-signature image pc to d sig a h = rw a.stays h
+arrives_signature image pc to d sig a h = rw a.stays h
 
 -- a state that arrives with what it fits is typed
-pub arrives-typed : (image : ImageParts) (live : ℕ → Bool) (os : List ObjectShape) → ImageLaws image → (pc : ℕ) (d : LiveContext) (sig : Sig) (s : State)
+pub arrives_typed : (image : ImageParts) (live : ℕ → Bool) (os : List ObjectShape) → ImageLaws image → (pc : ℕ) (d : LiveContext) (sig : Sig) (s : State)
     → Arrives image pc s.thread.place (Live d) → signature_at image pc ≡ Some sig → StateFits (record { image = image; live = live; shapes = os }) sig.result d s → TypedAmong image live s
-arrives-typed image live os laws pc d sig s a function h =
+arrives_typed image live os laws pc d sig s a function h =
     let above = above-live (shown image).shapes d (strongest_at image s.thread.place) a.known in
-    fits-typed image live s os above.0 sig above.1 (arrives-signature image pc s.thread.place (Live d) sig a function)
-    (context-above laws.types (record { image = image; live = live; shapes = os }) sig.result laws.classes d above.0 s above.2 h)
+    fits-typed image live s os above.0 sig above.1 (arrives_signature image pc s.thread.place (Live d) sig a function)
+    (context_above laws.types (record { image = image; live = live; shapes = os }) sig.result laws.classes d above.0 s above.2 h)
 
 -- what moves on to a state that fits what is known next keeps typing
 pub leads-typed : (image : ImageParts) (live : ℕ → Bool) → ImageLaws image → (s : State) (t : TypedAmong image live s) (next : ℕ) (d : LiveContext) (o : Option EffectView)
     → Arrives image s.thread.place next (Live d) → Leads (scope_of image live s) t.thread.sig.result d next o → EffectTyped image live s next o
 leads-typed image live laws s t next d None a h = absurd h
-leads-typed image live laws s t next d (Some (Moves m)) a h = arrives-typed image live _ laws s.thread.place d t.thread.sig m (rw h.0 a) t.thread.function h.1
+leads-typed image live laws s t next d (Some (Moves m)) a h = arrives_typed image live _ laws s.thread.place d t.thread.sig m (rw h.0 a) t.thread.function h.1
 leads-typed image live laws s t next d (Some (Faults vector)) a h = tt
 leads-typed image live laws s t next d (Some (Calls k)) a h = absurd h
 leads-typed image live laws s t next d (Some Ends) a h = absurd h

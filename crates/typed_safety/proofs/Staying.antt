@@ -147,14 +147,14 @@ value-stays v s next (Some (Code a)) = function-stays v s next a
 value-stays v s next o = tt
 
 -- a pop
-popped-stays : (s : State) (b : Bool) (o : Option EffectView) → EffectStays s o → EffectStays s (if b then None else o)
-popped-stays s true o h = tt
-popped-stays s false o h = h
+popped_stays : (s : State) (b : Bool) (o : Option EffectView) → EffectStays s o → EffectStays s (if b then None else o)
+popped_stays s true o h = tt
+popped_stays s false o h = h
 
 pops-stay : (s : State) (next : ℕ) (r : Reg) (ws : List Value) → EffectStays s (pops next r ws s)
 pops-stay s next r [] = tt
 pops-stay s next r (Ret a ∷ ws) = tt
-pops-stay s next r (w ∷ ws) = popped-stays s (same r Esp) (Some (goes_on next (with_register r w (with_values ws s)))) (refl, refl)
+pops-stay s next r (w ∷ ws) = popped_stays s (same r Esp) (Some (goes_on next (with_register r w (with_values ws s)))) (refl, refl)
 
 drops-stay : (s : State) (i : Inst) (next : ℕ) (o : Option ℕ) → EffectStays s (drops s i next o)
 drops-stay s i next None = tt
@@ -181,11 +181,11 @@ flags-keep s None f h = record { keeps = tt }
 flags-keep s (Some k) f h = h k
 
 -- an instruction of each form
-form-stays : (image : ImageParts) (s : State) (i : Inst) (len next : ℕ) (form : Form) → EffectKeeps s (form_effect image s i len next form)
+form_stays : (image : ImageParts) (s : State) (i : Inst) (len next : ℕ) (form : Form) → EffectKeeps s (form_effect image s i len next form)
 unfolding form_effect computes compares tests moves addresses calls_to
-form-stays image s i len next Refused = record { keeps = tt }
-form-stays image s i len next (Compute sources d wide k) = tested-keeps s _ _ (record { keeps = computed-stays (shown image) s i len next d wide k _ })
-form-stays image s i len next (Move d x) = record { keeps = go (operand_value (shown image) s x) }
+form_stays image s i len next Refused = record { keeps = tt }
+form_stays image s i len next (Compute sources d wide k) = tested-keeps s _ _ (record { keeps = computed-stays (shown image) s i len next d wide k _ })
+form_stays image s i len next (Move d x) = record { keeps = go (operand_value (shown image) s x) }
   where
     moved : (o : Option State) → StateStays s o → EffectStays s (option_map (goes_on next) o)
     moved None h = tt
@@ -194,29 +194,29 @@ form-stays image s i len next (Move d x) = record { keeps = go (operand_value (s
     go : (o : Option Value) → EffectStays s (option_map (goes_on next) (option_and_then (write_operand (shown image) s d) o))
     go None = tt
     go (Some w) = moved (write_operand (shown image) s d w) (write-stays (shown image) s d w)
-form-stays image s i len next (Address r m) =
+form_stays image s i len next (Address r m) =
     tested-keeps s (not (same r Esp) && (is_number_in s m.base && is_number_in s m.index))
     (Some (goes_on next (with_register r (Number (read_word (R r) (executed i (words_of s 0)))) s))) (record { keeps = same-blocks s.store })
-form-stays image s i len next (Compare d x) = flags-keep s _ _ (λ k. record { keeps = same-blocks s.store })
-form-stays image s i len next (TestBits d x) = flags-keep s _ _ (λ k. record { keeps = same-blocks s.store })
-form-stays image s i len next (PushOf x) = record { keeps = go (operand_value (shown image) s x) }
+form_stays image s i len next (Compare d x) = flags-keep s _ _ (λ k. record { keeps = same-blocks s.store })
+form_stays image s i len next (TestBits d x) = flags-keep s _ _ (λ k. record { keeps = same-blocks s.store })
+form_stays image s i len next (PushOf x) = record { keeps = go (operand_value (shown image) s x) }
   where
     go : (o : Option Value) → EffectStays s (option_map (λ w. pushes next w s) o)
     go None = tt
     go (Some w) = pushes-stay s s next w (refl, refl)
-form-stays image s i len next (PopTo r) = record { keeps = pops-stay s next r s.values }
-form-stays image s i len next (DropSlots bytes) = record { keeps = drops-stay s i next (slots_in bytes) }
-form-stays image s i len next (CallTo a) = record { keeps = called-stays s (entry_number a) (calls_function (shown image) s next a) (function-stays (shown image) s next a) }
-form-stays image s i len next (CallBy x) = record { keeps = value-stays (shown image) s next (operand_value (shown image) s x) }
-form-stays image s i len next Return = record { keeps = returns-stay s s.values }
-form-stays image s i len next (Jump to) = tested-keeps s (may_go image s.thread.place to) (Some (goes_on to s)) (record { keeps = same-blocks s.store })
-form-stays image s i len next (Branch c to) =
+form_stays image s i len next (PopTo r) = record { keeps = pops-stay s next r s.values }
+form_stays image s i len next (DropSlots bytes) = record { keeps = drops-stay s i next (slots_in bytes) }
+form_stays image s i len next (CallTo a) = record { keeps = called-stays s (entry_number a) (calls_function (shown image) s next a) (function-stays (shown image) s next a) }
+form_stays image s i len next (CallBy x) = record { keeps = value-stays (shown image) s next (operand_value (shown image) s x) }
+form_stays image s i len next Return = record { keeps = returns-stay s s.values }
+form_stays image s i len next (Jump to) = tested-keeps s (may_go image s.thread.place to) (Some (goes_on to s)) (record { keeps = same-blocks s.store })
+form_stays image s i len next (Branch c to) =
     tested-keeps s (is_known s.thread.known c && may_go image s.thread.place to) (Some (goes_on (if holds c s.thread.flags then to else next) s)) (record { keeps = same-blocks s.store })
-form-stays image s i len next Nothing = record { keeps = (refl, refl) }
+form_stays image s i len next Nothing = record { keeps = (refl, refl) }
 
-effect-stays : (image : ImageParts) (s : State) (i : Inst) (len : ℕ) → EffectStays s (Effect image s i len)
+effect_stays : (image : ImageParts) (s : State) (i : Inst) (len : ℕ) → EffectStays s (Effect image s i len)
 unfolding Effect
-effect-stays image s i len = (form-stays image s i len (next_address s.thread.place len) (form_of (next_address s.thread.place len) i)).keeps
+effect_stays image s i len = (form_stays image s i len (next_address s.thread.place len) (form_of (next_address s.thread.place len) i)).keeps
 
 -- ---- calls
 
@@ -274,9 +274,9 @@ asked-stays s None = tt
 asked-stays s (Some shape) = tt
 
 -- what a call asks of the devices is done or refused
-done-keeps : (s : State) (b : Bool) (items : List Item) → ReplyKeeps s (if b then Replies 0 (happened items s) else Replies 1 s)
-done-keeps s true items = record { keeps = same-blocks s.store }
-done-keeps s false items = record { keeps = same-blocks s.store }
+done_keeps : (s : State) (b : Bool) (items : List Item) → ReplyKeeps s (if b then Replies 0 (happened items s) else Replies 1 s)
+done_keeps s true items = record { keeps = same-blocks s.store }
+done_keeps s false items = record { keeps = same-blocks s.store }
 
 emptied-keeps : (s : State) (n : ℕ) (o : Option Stack) → ReplyKeeps s (emptied n s o)
 emptied-keeps s n None = record { keeps = (refl, refl) }
@@ -300,10 +300,10 @@ reply-stays (suc (suc (suc zero))) s = one-stays s yield_to (λ n.
 reply-stays (suc (suc (suc (suc zero)))) s = one-stays s get_stack_state (λ n. record { keeps = same-blocks s.store })
 reply-stays (suc (suc (suc (suc (suc zero))))) s = one-stays s reset_stack (λ n.
     chosen-keeps s (is_application s.current) (Replies 2 s) (emptied n s (slice_get s.stacks n)) (record { keeps = same-blocks s.store }) (emptied-keeps s n (slice_get s.stacks n)))
-reply-stays (suc (suc (suc (suc (suc (suc zero)))))) s = two-stay s vga_text_write (λ n m. done-keeps s (nat_lt n CELLS) (Drew n (m % 2 ^ 16) ∷ []))
+reply-stays (suc (suc (suc (suc (suc (suc zero)))))) s = two-stay s vga_text_write (λ n m. done_keeps s (nat_lt n CELLS) (Drew n (m % 2 ^ 16) ∷ []))
 reply-stays (suc (suc (suc (suc (suc (suc (suc zero))))))) s = code-stays s (slice_get (waiting s.devices) 0)
-reply-stays (suc (suc (suc (suc (suc (suc (suc (suc zero)))))))) s = one-stays s start_timer (λ n. done-keeps s (nat_le 2 n && nat_le n 65536) (count_items n))
-reply-stays (suc (suc (suc (suc (suc (suc (suc (suc (suc zero))))))))) s = (done-keeps s (any_below (is_served s.devices) 8) (Wrote 0x20 0x20 ∷ [])).keeps
+reply-stays (suc (suc (suc (suc (suc (suc (suc (suc zero)))))))) s = one-stays s start_timer (λ n. done_keeps s (nat_le 2 n && nat_le n 65536) (count_items n))
+reply-stays (suc (suc (suc (suc (suc (suc (suc (suc (suc zero))))))))) s = (done_keeps s (any_below (is_served s.devices) 8) (Wrote 0x20 0x20 ∷ [])).keeps
 reply-stays (suc (suc (suc (suc (suc (suc (suc (suc (suc (suc zero)))))))))) s = same-blocks s.store
 reply-stays (suc (suc (suc (suc (suc (suc (suc (suc (suc (suc (suc k))))))))))) s = tt
 
@@ -358,13 +358,13 @@ module _ (image : ImageParts) (answers : List Answer) (s : State) where
       go (answer ∷ left) e = inr (record { inst = inst; len = len; entry = k; shape = shape; answer = answer; here = here; calls = calls; asks = is; given = e; is = rw e refl })
 
   -- an effect
-  effect-cases : (inst : Inst) (len : ℕ) → inst_at image s.thread.place ≡ Some (inst, len) → (o : Option EffectView) → Effect image s inst len ≡ o → EffectStays s o
+  effect_cases : (inst : Inst) (len : ℕ) → inst_at image s.thread.place ≡ Some (inst, len) → (o : Option EffectView) → Effect image s inst len ≡ o → EffectStays s o
       → TurnCases image answers s (option_and_then (after_effect image answers (next_address s.thread.place len) s) o)
-  effect-cases inst len here None is h = tt
-  effect-cases inst len here (Some (Moves t)) is h = inl (record { left = refl; stays = h })
-  effect-cases inst len here (Some (Faults vector)) is h = leaving-quiet _ _ _ _ (s.current == 0)
-  effect-cases inst len here (Some (Calls k)) is h = call-cases inst len k here is (Reply k s) refl (reply-stays k s)
-  effect-cases inst len here (Some Ends) is h = leaving-quiet _ _ _ _ (s.current == 0)
+  effect_cases inst len here None is h = tt
+  effect_cases inst len here (Some (Moves t)) is h = inl (record { left = refl; stays = h })
+  effect_cases inst len here (Some (Faults vector)) is h = leaving-quiet _ _ _ _ (s.current == 0)
+  effect_cases inst len here (Some (Calls k)) is h = call-cases inst len k here is (Reply k s) refl (reply-stays k s)
+  effect_cases inst len here (Some Ends) is h = leaving-quiet _ _ _ _ (s.current == 0)
 
   -- an instruction
   instruction-cases : TurnCases image answers s (instruction image answers s)
@@ -374,7 +374,7 @@ module _ (image : ImageParts) (answers : List Answer) (s : State) where
           → TurnCases image answers s
           (option_and_then (λ (i : Inst × ℕ). option_and_then (after_effect image answers (next_address s.thread.place i.1) s) (Effect image s i.0 i.1)) o)
       go None e = tt
-      go (Some i) e = effect-cases i.0 i.1 e (Effect image s i.0 i.1) refl (effect-stays image s i.0 i.1)
+      go (Some i) e = effect_cases i.0 i.1 e (Effect image s i.0 i.1) refl (effect_stays image s i.0 i.1)
 
 -- a turn
 pub turn-cases : (image : ImageParts) (events : List Event) (answers : List Answer) (s : State) → TurnCases image answers (begun events s) (TurnOf image events answers s)

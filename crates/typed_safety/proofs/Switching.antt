@@ -74,14 +74,14 @@ abbrev after : List Stack → ℕ → Stack → ℕ → List Stack
 after ks from left to = slice_set (slice_set ks from left) to RunningStack
 
 -- stack 0 waits where another runs
-kernel-waits : (ks : List Stack) (from to : ℕ) (left : Stack) → 0 < length ks → KernelKept to from left → KernelWaits to (slice_get (after ks from left to) 0)
-kernel-waits ks from zero left some h = tt
-kernel-waits ks from (suc to) (YieldedStack place values) some (inl e) = absurd (omega arith)
-kernel-waits ks from (suc to) (YieldedStack place values) some (inr e) =
+kernel_waits : (ks : List Stack) (from to : ℕ) (left : Stack) → 0 < length ks → KernelKept to from left → KernelWaits to (slice_get (after ks from left to) 0)
+kernel_waits ks from zero left some h = tt
+kernel_waits ks from (suc to) (YieldedStack place values) some (inl e) = absurd (omega arith)
+kernel_waits ks from (suc to) (YieldedStack place values) some (inr e) =
     rw (set-there (slice_set ks from (YieldedStack place values)) (suc to) 0 RunningStack (λ n. omega arith), e, set-here ks 0 (YieldedStack place values) some) tt
-kernel-waits ks from (suc to) EmptyStack some h = absurd (omega arith)
-kernel-waits ks from (suc to) RunningStack some h = absurd (omega arith)
-kernel-waits ks from (suc to) (InterruptedStack thread values) some h = absurd (omega arith)
+kernel_waits ks from (suc to) EmptyStack some h = absurd (omega arith)
+kernel_waits ks from (suc to) RunningStack some h = absurd (omega arith)
+kernel_waits ks from (suc to) (InterruptedStack thread values) some h = absurd (omega arith)
 
 -- a switch from a typed state gives a typed state
 abbrev pub SomeTyped : ImageParts → (ℕ → Bool) → Option State → Type 0
@@ -128,7 +128,7 @@ module _ (image : ImageParts) (rests : RunsOn image) (laws : ImageLaws image) (l
             others = others-after fits;
             one = set-here (slice_set s.stacks s.current left) to RunningStack (rw (length-set s.stacks s.current left, t.count) few);
             only = only-after other;
-            kernel = kernel-waits s.stacks s.current to left (let count = t.count in omega arith) kept;
+            kernel = kernel_waits s.stacks s.current to left (let count = t.count in omega arith) kept;
             count = length-set _ to RunningStack ∙ (length-set s.stacks s.current left ∙ t.count);
             statics = t.statics;
             store = t.store;

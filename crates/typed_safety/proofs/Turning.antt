@@ -30,12 +30,12 @@ use Rattle.typed_machine.specs.Typing.{StackFits, TypedAmong, scope_of}
 use Rattle.typed_safety.specs.Laws.{ImageLaws, CallTyped, EffectTyped, AsksFor, AllocationTyped}
 use Rattle.typed_safety.proofs.Instructions.{state-keeps}
 use Rattle.typed_safety.proofs.Switching.{SomeTyped, KernelKept, switch-typed}
-use Rattle.typed_safety.proofs.Replying.{aside-typed, SomeReplyTyped, call-replies}
+use Rattle.typed_safety.proofs.Replying.{aside_typed, SomeReplyTyped, call-replies}
 use Rattle.typed_safety.proofs.Resuming.{replied-fits}
 use Rattle.typed_safety.proofs.Values.{number-num}
 use Rattle.typed_safety.proofs.Carrying.{EspRefersNot}
 use Rattle.typed_safety.proofs.Growing.{last-shape, typed-grown, awaits-grown}
-use Rattle.typed_safety.proofs.Gaps.{legal-word}
+use Rattle.typed_safety.proofs.Gaps.{legal_word}
 
 -- A turn leads to a state that is typed among the same objects, where its answer was legal and, if it took one, the object that comes
 -- next is among them. Else an allocation has no answer.
@@ -54,9 +54,9 @@ module _ (image : ImageParts) (rests : RunsOn image) (laws : ImageLaws image) (e
   switched-turn s (Some t) e h = λ legal lives. h
 
   -- the kernel goes on in place of an application
-  kernel-typed : (s : State) → TypedAmong image live s → (left : Stack) (n : ℕ) → StackFits (scope_of image live s) left → left ≢ RunningStack → s.current ≢ 0 → KernelKept 0 s.current left
+  kernel_typed : (s : State) → TypedAmong image live s → (left : Stack) (n : ℕ) → StackFits (scope_of image live s) left → left ≢ RunningStack → s.current ≢ 0 → KernelKept 0 s.current left
       → SomeTyped image live (switched image 0 (Number n) left s)
-  kernel-typed s t left n fits other away kept =
+  kernel_typed s t left n fits other away kept =
       let some = slice_get_within s.stacks s.current RunningStack t.one in
       let count = t.count in
       switch-typed image rests laws live s t left 0 n fits other (λ e. away (sym e)) (omega arith) kept
@@ -64,8 +64,8 @@ module _ (image : ImageParts) (rests : RunsOn image) (laws : ImageLaws image) (e
   -- an interrupt
   interrupted-typed : (s : State) → TypedAmong image live s → s.current ≢ 0 → (line : ℕ) → TurnAmong image live answers s (interrupted image answers line s)
   interrupted-typed s t away line =
-      let u = aside-typed image live s (Granted line ∷ s.devices) s.turns s.ending t in
-      switched-turn s _ _ (kernel-typed (record s { devices = Granted line ∷ s.devices }) u (InterruptedStack s.thread s.values) (131072 + line) u.thread (λ e. cc) away refl)
+      let u = aside_typed image live s (Granted line ∷ s.devices) s.turns s.ending t in
+      switched-turn s _ _ (kernel_typed (record s { devices = Granted line ∷ s.devices }) u (InterruptedStack s.thread s.values) (131072 + line) u.thread (λ e. cc) away refl)
 
   -- the kernel's run ends, or an application does
   ended-typed : (s : State) → TypedAmong image live s → (ending : Ending) (kind : EntryKind) (value reply : ℕ)
@@ -73,8 +73,8 @@ module _ (image : ImageParts) (rests : RunsOn image) (laws : ImageLaws image) (e
   ended-typed s t ending kind value reply = go (s.current == 0) refl
     where
       go : (b : Bool) → (s.current == 0) ≡ b → TurnAmong image live answers s (if b then ended_by ending answers s else kernel_goes_on image answers kind value reply s)
-      go true e = λ legal lives. aside-typed image live s s.devices s.turns (Some ending) t
-      go false e = switched-turn s _ _ (kernel-typed s t EmptyStack reply tt (λ f. cc) (λ f. absurd (grind (arith, nat_tests))) refl)
+      go true e = λ legal lives. aside_typed image live s s.devices s.turns (Some ending) t
+      go false e = switched-turn s _ _ (kernel_typed s t EmptyStack reply tt (λ f. cc) (λ f. absurd (grind (arith, nat_tests))) refl)
 
   -- the caller of a typed state goes on with a reply of the type that it awaits
   replied-typed : {s : State} → TypedAmong image live s → (reply : Value) (next : ℕ) (u : Ty) → Awaits (scope_of image live s) u next s.values
@@ -104,7 +104,7 @@ module _ (image : ImageParts) (rests : RunsOn image) (laws : ImageLaws image) (e
       placed : (p : ℕ) → Legal gaps words (Placed p) ≡ true → live (length s.store) ≡ true
           → TypedAmong image live (comes_back (Ref (length s.store)) next (allocated (shown image).shapes shape (Placed p) s))
       placed p legal lives =
-          let word = legal-word image (Roots image next s) s words p laws.heap legal in
+          let word = legal_word image (Roots image next s) s words p laws.heap legal in
           let u = typed-grown image live s shape p esp t a.is_shape word.0 word.1 in
           let fits = a.object live (shapes_in (s.store ++ fresh_object (shown image).shapes shape p ∷ [])) (length s.store) lives (last-shape s.store _) in
           replied-typed u (Ref (length s.store)) next a.type (awaits-grown image live s shape p a.type next s.values a.awaited) fits
@@ -135,20 +135,20 @@ module _ (image : ImageParts) (rests : RunsOn image) (laws : ImageLaws image) (e
   call-turn s t next k c is = replied-turn s t next k (Reply k s) refl is (call-replies image rests laws live s t next k c)
 
   -- what an effect comes to
-  effect-typed : (s : State) → TypedAmong image live s → (next : ℕ) (o : Option EffectView) → EffectTyped image live s next o
+  effect_typed : (s : State) → TypedAmong image live s → (next : ℕ) (o : Option EffectView) → EffectTyped image live s next o
       → option_and_then (λ (i : Inst × ℕ). Effect image s i.0 i.1) (inst_at image s.thread.place) ≡ o
       → TurnAmong image live answers s (option_and_then (after_effect image answers next s) o)
-  effect-typed s t next None h is = absurd h
-  effect-typed s t next (Some (Moves m)) h is = λ legal lives. h
-  effect-typed s t next (Some (Faults vector)) h is = ended-typed s t _ _ vector _
-  effect-typed s t next (Some (Calls k)) h is = call-turn s t next k h is
-  effect-typed s t next (Some Ends) h is = ended-typed s t _ _ 0 _
+  effect_typed s t next None h is = absurd h
+  effect_typed s t next (Some (Moves m)) h is = λ legal lives. h
+  effect_typed s t next (Some (Faults vector)) h is = ended-typed s t _ _ vector _
+  effect_typed s t next (Some (Calls k)) h is = call-turn s t next k h is
+  effect_typed s t next (Some Ends) h is = ended-typed s t _ _ 0 _
 
   -- an instruction
   instruction-turn : (s : State) → TypedAmong image live s → TurnAmong image live answers s (instruction image answers s)
   instruction-turn s t =
       let k = state-keeps image rests laws live s t in
-      rw k.spelled (effect-typed s t _ (Effect image s k.placed.inst k.placed.len) k.typed (rw k.spelled refl))
+      rw k.spelled (effect_typed s t _ (Effect image s k.placed.inst k.placed.len) k.typed (rw k.spelled refl))
 
   -- a turn
   pub turn-typed : (events : List Event) (s : State) → TypedAmong image live s → TurnAmong image live answers (begun events s) (TurnOf image events answers s)
@@ -156,7 +156,7 @@ module _ (image : ImageParts) (rests : RunsOn image) (laws : ImageLaws image) (e
   turn-typed events s t = go (s.current == 0) refl
     where
       u : TypedAmong image live (begun events s)
-      u = aside-typed image live s _ _ s.ending t
+      u = aside_typed image live s _ _ s.ending t
 
       granted : (o : Option ℕ) → s.current ≢ 0 → TurnAmong image live answers (begun events s) (interrupt_or image answers (begun events s) o)
       granted None away = instruction-turn (begun events s) u

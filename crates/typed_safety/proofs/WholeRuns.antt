@@ -31,8 +31,8 @@ module _ (image : ImageParts) (rests : RunsOn image) (laws : ImageLaws image) (e
           subst (λ (x : Run). Typed image x.state) same (h (and_parts r.legal u.legal taken).1)
 
   -- its answers were legal before
-  legal-before : (r next : Run) → next_run image events r ≡ Some next → next.legal ≡ true → r.legal ≡ true
-  legal-before r next e legal = go (is_some r.state.ending) (TurnOf image events r.left r.state) e
+  legal_before : (r next : Run) → next_run image events r ≡ Some next → next.legal ≡ true → r.legal ≡ true
+  legal_before r next e legal = go (is_some r.state.ending) (TurnOf image events r.left r.state) e
     where
       go : (b : Bool) (o : Option Turned) → (if b then Some r else option_map (continued r) o) ≡ Some next → r.legal ≡ true
       go true o f = let same : r ≡ next = cc in rw same legal
@@ -61,7 +61,7 @@ module _ (image : ImageParts) (rests : RunsOn image) (laws : ImageLaws image) (e
     where
       go : (o : Option Run) → ((q : Run) → o ≡ Some q → q.legal ≡ true → Typed image q.state) → option_and_then (λ q. next_run image events q) o ≡ Some r → Typed image r.state
       go None before f = absurd (cc)
-      go (Some q) before f = next-typed q r (before q refl (legal-before q r f legal)) f legal
+      go (Some q) before f = next-typed q r (before q refl (legal_before q r f legal)) f legal
 
   -- a run
   pub run-typed : Formed image → (n : ℕ) (answers : List Answer) (r : Run) → RunOf image events n answers ≡ Some r → r.legal ≡ true → RunTyped image events r

@@ -236,17 +236,17 @@ SomeFits l result c (Some s) = StateFits l result c s
 
 module _ (l : Scope) (result : Ty) (c : LiveContext) (s : State) (h : StateFits l result c s) (laws : ImageLaws l.image) where
   -- a value that has a type may stand where that is below the type there
-  may-hold : (w : Value) (t : Ty) (f : FieldTy) → fits_in l w t ≡ true → sub (rows l) t (of_field f) ≡ true → may_hold (shown l.image) s (Some f) w ≡ true
-  may-hold w t f g e = rw (← h.store.shapes) (fits-all (shown l.image) l.live l.shapes w (of_field f) (fits-sub (shown l.image) l.live l.shapes laws.classes w t (of_field f) g e))
+  fitting_may_hold : (w : Value) (t : Ty) (f : FieldTy) → fits_in l w t ≡ true → sub (rows l) t (of_field f) ≡ true → may_hold (shown l.image) s (Some f) w ≡ true
+  fitting_may_hold w t f g e = rw (← h.store.shapes) (fits-all (shown l.image) l.live l.shapes w (of_field f) (fits-sub (shown l.image) l.live l.shapes laws.classes w t (of_field f) g e))
 
   -- a value of a type that is below the type there has that
   fits-there : (w : Value) (t : Ty) (f : FieldTy) → fits_in l w t ≡ true → sub (rows l) t (of_field f) ≡ true → fits_in l w (of_field f) ≡ true
   fits-there w t f g e = fits-sub (shown l.image) l.live l.shapes laws.classes w t (of_field f) g e
 
   -- a static gets a value
-  static-written : (j : ℕ) (f : FieldTy) (w : Value) → slice_get l.image.statics j ≡ Some f → fits_in l w (of_field f) ≡ true
+  static_written : (j : ℕ) (f : FieldTy) (w : Value) → slice_get l.image.statics j ≡ Some f → fits_in l w (of_field f) ≡ true
       → StateFits l result c (record s { statics = slice_set s.statics j w })
-  static-written j f w e g = record { thread = h.thread; table = h.table; statics = statics-set l s.statics j f w h.statics e g; store = h.store }
+  static_written j f w e g = record { thread = h.thread; table = h.table; statics = statics-set l s.statics j f w h.statics e g; store = h.store }
 
   -- an object gets a value
   store-written : (i j : ℕ) (f : FieldTy) (w : Value) → value_type_at l i j ≡ Some f → fits_in l w (of_field f) ≡ true
@@ -264,11 +264,11 @@ module _ (l : Scope) (result : Ty) (c : LiveContext) (s : State) (h : StateFits 
       → fits_in l w t ≡ true → SomeFits l result (store_place (Some p) t c) (write_spot (shown l.image) s q w)
   unfolding write_spot shown
   place-written base (Whole u) (AtStatic j) w t e a b g =
-      let below = rw e.2 at b in rw (e.1, may-hold w t e.0 g below) (static-written j e.0 w e.1 (fits-there w t e.0 g below))
+      let below = rw e.2 at b in rw (e.1, fitting_may_hold w t e.0 g below) (static_written j e.0 w e.1 (fits-there w t e.0 g below))
   place-written base (Whole u) (AtValue i j) w t e a b g =
       let below = rw e.3 at b in
       let there : type_there (shown l.image) s i j ≡ Some e.0 = rw (← h.store.shapes) e.2 in
-      rw (there, may-hold w t e.0 g below) (store-written i j e.0 w e.2 (fits-there w t e.0 g below))
+      rw (there, fitting_may_hold w t e.0 g below) (store-written i j e.0 w e.2 (fits-there w t e.0 g below))
   place-written base (Slot i) (AtSlot j) w t e a b g = rw (← e.1) (slot-written i e.0 t w e.2 g)
   place-written base p q w t e a b g = absurd (grind arith)
 

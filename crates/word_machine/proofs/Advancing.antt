@@ -1,8 +1,7 @@
 -- From what an instruction leaves to where its effect leads, as the code goes.
-use Rattle.std.specs.Prelude.{◌==◌, nat_le, slice_get, slice_index, slice_set, is_some, if◌then◌else◌}
+use Rattle.std.specs.Prelude.{◌==◌, slice_get, slice_index, slice_set, is_some, if◌then◌else◌}
 use Rattle.std.specs.Option.{option_map, option_and_then, option_map_or}
 use Rattle.std.proofs.Common.{◌≡◌, ◌≢◌, ℕ, ◌+◌, ◌-◌, ◌*◌, ◌/◌, ◌%◌, ◌^◌, ◌<◌, ◌≤◌, ◌&&◌, zero, suc, Bool, true, false, List, [], ◌∷◌, length, Option, Some, None, refl, sym, ap, ◌∙◌, arith, eqb-true}
-use Rattle.std.proofs.lemmas.Bool.{and_parts}
 use Rattle.std.proofs.lemmas.Bool.Decides.{nat_tests}
 use Rattle.ia32_code.specs.declared.instruction.Operand.{Operand}
 use Rattle.ia32_code.specs.declared.instruction.Inst.{Inst}
@@ -34,7 +33,7 @@ use Rattle.word_machine.specs.Following.{Grounds, StandsAt, Runs, Came}
 use Rattle.word_machine.specs.Laws.{WordChanges, PushLaw, DropLaw}
 use Rattle.word_machine.specs.Stepping.{StepLaws, is_push, is_at_limit, overflows, Left, return_leads, went_back}
 use Rattle.word_machine.proofs.Telling.{there}
-use Rattle.word_machine.proofs.Grounding.{held, thread-stands, Begins, begins, current-few}
+use Rattle.word_machine.proofs.Grounding.{held, thread_stands, Begins, begins, current-few}
 use Rattle.word_machine.proofs.StackForms.{below-top, not-full, full}
 use Rattle.word_machine.proofs.Table.{step-of}
 use Rattle.word_machine.proofs.Leaving.{Ran, StepOf}
@@ -110,8 +109,8 @@ step-overflows laws cpu m current (inst.Push x) len spelled h image live s at sa
 step-overflows laws cpu m current i len spelled h image live s at same = absurd (cc)
 
 -- the running stack is one of 64
-pub stack-few : (current : ℕ) (i : Inst) (len : ℕ) (cpu : Cpu) (m : MemoryView) → Runs current i len cpu m → current < 64
-stack-few current i len cpu m (image, live, s, at, same) = rw (← same) (current-few at.grounds)
+pub stack_few : (current : ℕ) (i : Inst) (len : ℕ) (cpu : Cpu) (m : MemoryView) → Runs current i len cpu m → current < 64
+stack_few current i len cpu m (image, live, s, at, same) = rw (← same) (current-few at.grounds)
 
 -- ---- what came, by what is left
 
@@ -121,9 +120,9 @@ pub next-comes : (image : ImageParts) (live : ℕ → Bool) (s : State) (e : Opt
 next-comes image live s e ran after (t, is, stand) = rw is (refl, stand)
 
 -- a fault
-pub fault-comes : (image : ImageParts) (live : ℕ → Bool) (s : State) (e : Option EffectView) (ran : Cpu) (after : MemoryView) (n : ℕ)
+pub fault_comes : (image : ImageParts) (live : ℕ → Bool) (s : State) (e : Option EffectView) (ran : Cpu) (after : MemoryView) (n : ℕ)
     → (e ≡ Some (Faults n)) × WordsStand image live s ran after → Came (step.Faults n) ran after image live s e
-fault-comes image live s e ran after n (is, stand) = rw is (refl, stand)
+fault_comes image live s e ran after n (is, stand) = rw is (refl, stand)
 
 -- the words that are left stand for the same typed state
 pub left-grounds : (image : ImageParts) (live : ℕ → Bool) (s : State) (cpu ran : Cpu) (m after : MemoryView) (i : Inst) (len : ℕ) → StandsAt image live s cpu m i len
@@ -223,7 +222,7 @@ module _ (laws : StepLaws) (image : ImageParts) (live : ℕ → Bool) (s : State
         refl,
         record {
           processor = record { regs = rw (top, g.stand.processor.regs, under.1) at regs; flags = flags ∙ g.stand.processor.flags; place = place };
-          memory = thread-stands (law.pushed (Ret next) written put) _;
+          memory = thread_stands (law.pushed (Ret next) written put) _;
         },
       )
 
@@ -241,15 +240,15 @@ module _ (image : ImageParts) (live : ℕ → Bool) (s : State) (ran : Cpu) (aft
   place-there = returned-top s.values s (λ none. back.0 (back.1 ∙ none))
 
   -- whose word is mapped
-  pub return-reaches : is_mapped after (slice_index ran.regs 4) ≡ true
-  return-reaches =
+  pub return_reaches : is_mapped after (slice_index ran.regs 4) ≡ true
+  return_reaches =
       let top = place-there in
       rw (ap (λ r. slice_index r 4) g.stand.processor.regs) (law.there (Ret top.0) top.1 top.2)
 
   -- the word is the place
-  return-word : (a : ℕ) (us : List Value) → s.values ≡ Ret a ∷ us → memory_word after (slice_index ran.regs 4) ≡ a
+  return_word : (a : ℕ) (us : List Value) → s.values ≡ Ret a ∷ us → memory_word after (slice_index ran.regs 4) ≡ a
   unfolding Word
-  return-word a us values = rw (ap (λ r. slice_index r 4) g.stand.processor.regs) (there after (esp_of s) a (law.top (Ret a) us values))
+  return_word a us values = rw (ap (λ r. slice_index r 4) g.stand.processor.regs) (there after (esp_of s) a (law.top (Ret a) us values))
 
   -- a return to a place
   goes-back : (a : ℕ) (us : List Value) → s.values ≡ Ret (suc a) ∷ us
@@ -267,18 +266,18 @@ module _ (image : ImageParts) (live : ℕ → Bool) (s : State) (ran : Cpu) (aft
             flags = g.stand.processor.flags;
             place = refl;
           };
-          memory = thread-stands left _;
+          memory = thread_stands left _;
         },
       )
 
   -- a return goes back, or ends at the end word
-  pub return-comes : Came (return_leads (memory_word after (slice_index ran.regs 4))) (went_back (memory_word after (slice_index ran.regs 4)) ran) after image live s e
-  return-comes = let top = place-there in go top.0 top.1 top.2
+  pub return_comes : Came (return_leads (memory_word after (slice_index ran.regs 4))) (went_back (memory_word after (slice_index ran.regs 4)) ran) after image live s e
+  return_comes = let top = place-there in go top.0 top.1 top.2
     where
       go : (a : ℕ) (us : List Value) → s.values ≡ Ret a ∷ us
           → Came (return_leads (memory_word after (slice_index ran.regs 4))) (went_back (memory_word after (slice_index ran.regs 4)) ran) after image live s e
-      go zero [] values = rw (back.1 ∙ ap (λ vs. returns_from vs s) values, return-word zero [] values) (refl, g.stand)
+      go zero [] values = rw (back.1 ∙ ap (λ vs. returns_from vs s) values, return_word zero [] values) (refl, g.stand)
       go zero (v ∷ us) values = absurd (back.0 (back.1 ∙ ap (λ vs. returns_from vs s) values))
       go (suc a) us values =
           let some : (suc a == 0) ≡ false = grind (arith, nat_tests) in
-          rw (back.1 ∙ ap (λ vs. returns_from vs s) values, return-word (suc a) us values, some) (goes-back a us values)
+          rw (back.1 ∙ ap (λ vs. returns_from vs s) values, return_word (suc a) us values, some) (goes-back a us values)

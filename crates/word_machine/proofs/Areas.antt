@@ -126,9 +126,9 @@ unfolding heap_allows
 low-open words a low = grind (arith, nat_tests)
 
 -- one of the heap is open where its word is an object's
-pub heap-open : (words : List ℕ) (k : ℕ) → heap_allows words (heap_start + 4 * k) ≡ is_object_word words k
+pub heap_open : (words : List ℕ) (k : ℕ) → heap_allows words (heap_start + 4 * k) ≡ is_object_word words k
 unfolding heap_allows word_index
-heap-open words k =
+heap_open words k =
     let low : nat_lt (heap_start + 4 * k) heap_start ≡ false = grind (arith, nat_tests) in
     let t : (nat_le heap_start (heap_start + 4 * k) && ((heap_start + 4 * k - heap_start) % 4 == 0)) ≡ true = grind (arith, nat_tests) in
     let e : (heap_start + 4 * k - heap_start) / 4 ≡ k = omega arith in
@@ -144,9 +144,9 @@ same-open xs ys e a = ap (λ b. nat_lt a heap_start || b) (go (word_index heap_s
     go (Some k) = ap (λ (blocks : List Block). list_any (has_word k) blocks) e
 
 -- the word of the heap at an address, and of an object where the address is mapped
-pub heap-object : (m : MemoryView) (a : ℕ) → is_mapped m a ≡ true → heap_start ≤ a → is_object_word m.heap ((a - heap_start) / 4) ≡ true
+pub heap_object : (m : MemoryView) (a : ℕ) → is_mapped m a ≡ true → heap_start ≤ a → is_object_word m.heap ((a - heap_start) / 4) ≡ true
 unfolding heap_allows word_index
-heap-object m a there low = let test = (mapped-word m a there).1 in grind (arith, nat_tests)
+heap_object m a there low = let test = (mapped-word m a there).1 in grind (arith, nat_tests)
 
 -- what a bus tells after a write
 pub words_after : (m n : MemoryView) (a w : ℕ) → WordChanges m n a w → (b : ℕ) → memory_word n b ≡ (if b == a then w else memory_word m b)
@@ -186,11 +186,11 @@ put-below m n a w there h same formed = record {
 -- what is mapped below the heap, and in it
 pub low-mapped : (m : MemoryView) (a : ℕ) → a < heap_start → is_mapped m a ≡ is_some (word_of m a)
 unfolding is_mapped
-low-mapped m a low = rw (low-open m.heap a low) (also-true (is_some (word_of m a)))
+low-mapped m a low = rw (low-open m.heap a low) (also_true (is_some (word_of m a)))
   where
-    also-true : (b : Bool) → (b && true) ≡ b
-    also-true true = refl
-    also-true false = refl
+    also_true : (b : Bool) → (b && true) ≡ b
+    also_true true = refl
+    also_true false = refl
 
 pub high-mapped : (m : MemoryView) (a : ℕ) → heap_start ≤ a
     → is_mapped m a ≡ (is_some (word_in heap_start m.heap a) && option_map_or (is_object_word m.heap) (word_index heap_start a) false)
@@ -264,14 +264,14 @@ stack_within m k h there = within m.stacks k (rw (stack_there m k h) at (mapped-
 -- ---- the heap after a write
 
 -- a write below the heap leaves it
-pub heap-stays : (m n : MemoryView) (a w : ℕ) → WordChanges m n a w → a < heap_start → n.heap ≡ m.heap
-heap-stays m n a w h low = same-list n.heap m.heap (λ k.
+pub heap_stays : (m n : MemoryView) (a w : ℕ) → WordChanges m n a w → a < heap_start → n.heap ≡ m.heap
+heap_stays m n a w h low = same-list n.heap m.heap (λ k.
     let other : nat_eq (heap_start + 4 * k) a ≡ false = grind (arith, nat_tests) in
     sym (heap_there n k) ∙ h (heap_start + 4 * k) ∙ (rw other (heap_there m k)))
 
 -- a write in it changes one of its words
-pub heap-set : (m n : MemoryView) (k w : ℕ) → WordChanges m n (heap_start + 4 * k) w → k < length m.heap → n.heap ≡ slice_set m.heap k w
-heap-set m n k w h few = same-list n.heap (slice_set m.heap k w) (λ j.
+pub heap_set : (m n : MemoryView) (k w : ℕ) → WordChanges m n (heap_start + 4 * k) w → k < length m.heap → n.heap ≡ slice_set m.heap k w
+heap_set m n k w h few = same-list n.heap (slice_set m.heap k w) (λ j.
     let same : nat_eq (heap_start + 4 * j) (heap_start + 4 * k) ≡ nat_eq j k = grind (arith, nat_tests) in
     sym (heap_there n j) ∙ h (heap_start + 4 * j) ∙ (rw (same, get_set m.heap k j w few, heap_there m j) refl))
 

@@ -30,9 +30,9 @@ module _ {image : ImageParts} {live : ℕ → Bool} {s : State} {cpu : Cpu} {m :
   kept-short (Some (InterruptedStack thread values)) h = (h (InterruptedStack thread values) refl).room
 
   -- nor is the one that runs
-  pub stack-short : (n : ℕ) → length (values_at s n) ≤ 4096
+  pub stack_short : (n : ℕ) → length (values_at s n) ≤ 4096
   unfolding values_at
-  stack-short n = go (n == s.current)
+  stack_short n = go (n == s.current)
     where
       go : (b : Bool) → length (if b then s.values else option_map_or kept_values (slice_get s.stacks n) []) ≤ 4096
       go true = g.typed.thread.room

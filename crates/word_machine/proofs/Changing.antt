@@ -16,8 +16,8 @@ use Rattle.word_machine.specs.Standing.{HoldsValues, values_at, BlocksStand}
 use Rattle.word_machine.specs.Following.{Grounds}
 use Rattle.word_machine.proofs.Holding.{Outside, Change, word-kept, holds-kept}
 use Rattle.word_machine.proofs.Tables.{table-below, descriptor-below}
-use Rattle.word_machine.proofs.Areas.{mapped-word, low-open, heap-stays}
-use Rattle.word_machine.proofs.Bounds.{few-stacks, stack-short}
+use Rattle.word_machine.proofs.Areas.{mapped-word, low-open, heap_stays}
+use Rattle.word_machine.proofs.Bounds.{few-stacks, stack_short}
 
 -- the words of stack n, where it has these values
 abbrev pub StackHolds : MemoryView → State → ℕ → List Value → Type 0
@@ -32,9 +32,9 @@ module _ {image : ImageParts} {live : ℕ → Bool} {s : State} {cpu : Cpu} {m :
       let below = table-below (shapes_of image) laws d k v h in word-kept c (table_address d + 4 * k) (λ z. omega arith) ∙ g.stand.memory.tables d k v h
 
   -- the descriptors
-  pub descriptors-kept : ClassLaws (shapes_of image) → statics_start ≤ a → (d k v : ℕ) → descriptor_word (shapes_of image) d k ≡ Some v
+  pub descriptors_kept : ClassLaws (shapes_of image) → statics_start ≤ a → (d k v : ℕ) → descriptor_word (shapes_of image) d k ≡ Some v
       → word_of after (descriptor_address d + 4 * k) ≡ Some v
-  descriptors-kept laws high d k v h =
+  descriptors_kept laws high d k v h =
       let below = descriptor-below (shapes_of image) laws d k v h in word-kept c (descriptor_address d + 4 * k) (λ z. omega arith) ∙ g.stand.memory.descriptors d k v h
 
   -- all words of the stacks are still there
@@ -48,21 +48,21 @@ module _ {image : ImageParts} {live : ℕ → Bool} {s : State} {cpu : Cpu} {m :
 
   -- the blocks of the heap, where the address is below it
   pub blocks-kept : a < heap_start → BlocksStand image live s.store after.heap
-  blocks-kept low = rw (heap-stays m after a w c.written low) g.stand.memory.blocks
+  blocks-kept low = rw (heap_stays m after a w c.written low) g.stand.memory.blocks
 
   -- the statics
   pub statics-kept : Outside a statics_start (length s.statics) → HoldsValues after (places_of s) statics_start s.statics
   statics-kept out = holds-kept c (places_of s) statics_start s.statics g.stand.memory.statics out
 
   -- an object that lives
-  pub object-kept : (i : ℕ) (o : Object) → live i ≡ true → slice_get s.store i ≡ Some o → Outside a o.place (length (object_values o))
+  pub object_kept : (i : ℕ) (o : Object) → live i ≡ true → slice_get s.store i ≡ Some o → Outside a o.place (length (object_values o))
       → HoldsValues after (places_of s) o.place (object_values o)
-  object-kept i o lives there out = holds-kept c (places_of s) o.place (object_values o) (g.stand.memory.objects i o lives there) out
+  object_kept i o lives there out = holds-kept c (places_of s) o.place (object_values o) (g.stand.memory.objects i o lives there) out
 
   -- a stack that the address is not in
-  pub stack-kept : (n : ℕ) → n < image.stacks → (a < stacks_start + 16384 * n) ⊎ (stacks_start + 16384 * (n + 1) ≤ a) → StackHolds after s n (values_at s n)
-  stack-kept n there out = holds-kept c (places_of s) (stack_pointer n (length (values_at s n))) (values_at s n) (g.stand.memory.stacks n there) (outside out)
+  pub stack_kept : (n : ℕ) → n < image.stacks → (a < stacks_start + 16384 * n) ⊎ (stacks_start + 16384 * (n + 1) ≤ a) → StackHolds after s n (values_at s n)
+  stack_kept n there out = holds-kept c (places_of s) (stack_pointer n (length (values_at s n))) (values_at s n) (g.stand.memory.stacks n there) (outside out)
     where
       outside : (a < stacks_start + 16384 * n) ⊎ (stacks_start + 16384 * (n + 1) ≤ a) → Outside a (stack_pointer n (length (values_at s n))) (length (values_at s n))
-      outside (inl low) = let short = stack-short g n in inl (omega arith)
-      outside (inr high) = let short = stack-short g n in inr (omega arith)
+      outside (inl low) = let short = stack_short g n in inl (omega arith)
+      outside (inr high) = let short = stack_short g n in inr (omega arith)

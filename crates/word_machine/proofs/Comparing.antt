@@ -23,8 +23,8 @@ use Rattle.word_machine.proofs.Spelled.{MayUse, OneInMemory, PairIsPlain}
 use Rattle.word_machine.proofs.Operating.{read-alike, SetsFlags}
 use Rattle.word_machine.proofs.Grounding.{words_over, Begins}
 use Rattle.word_machine.proofs.OperandWords.{OperandThere, value-there, spot-there}
-use Rattle.word_machine.proofs.Computing.{agrees-first, agrees-second}
-use Rattle.word_machine.proofs.Leaving.{StepOf, thread-step}
+use Rattle.word_machine.proofs.Computing.{agrees_first, agrees_second}
+use Rattle.word_machine.proofs.Leaving.{StepOf, thread_step}
 
 -- ---- what is known
 
@@ -49,11 +49,11 @@ module _ {image : ImageParts} {live : ℕ → Bool} {s : State} {cpu : Cpu} {m :
   flags-step d x o one at_d at_x (Some known) h =
       let over_now = words_over s m in
       let w = word_among (shown image) s (d ∷ x ∷ []) in
-      let first : read_word d over_now ≡ read_word d (words_of s w) = read-alike (memory_word m) w (words_of s 0) d (agrees-first d (x ∷ []) at_d) in
-      let second : read_word x over_now ≡ read_word x (words_of s w) = read-alike (memory_word m) w (words_of s 0) x (agrees-second d x [] one at_x) in
+      let first : read_word d over_now ≡ read_word d (words_of s w) = read-alike (memory_word m) w (words_of s 0) d (agrees_first d (x ∷ []) at_d) in
+      let second : read_word x over_now ≡ read_word x (words_of s w) = read-alike (memory_word m) w (words_of s 0) x (agrees_second d x [] one at_x) in
       let flags : (executed i over_now).flags ≡ (executed i (words_of s w)).flags =
       ap (λ k. k.flags) (o.done_is over_now) ∙ (ap₂ o.flags first second ∙ sym (ap (λ k. k.flags) (o.done_is (words_of s w)))) in
-      thread-step b (at_place (next_address s.thread.place len) (with_flags (executed i (words_of s w)).flags known s)).thread over_now refl
+      thread_step b (at_place (next_address s.thread.place len) (with_flags (executed i (words_of s w)).flags known s)).thread over_now refl
       (o.effect_is over_now len) (ap (λ k. k.memory) (o.done_is over_now)) (ap (λ k. k.regs) (o.done_is over_now)) flags (o.next_is over_now len)
       (o.reaches over_now (is_mapped m) at_d.reached at_x.reached) o.runs
 
@@ -86,8 +86,8 @@ module _ {image : ImageParts} {live : ℕ → Bool} {s : State} {cpu : Cpu} {m :
       go false k g = absurd (g refl)
 
   -- what sets flags knows something
-  something-known : (xs : List Operand) (known : Option Known) → sets_flags (shown image) s i (next_address s.thread.place len) xs known ≢ None → known ≢ None
-  something-known xs known h e = h (ap (sets_flags (shown image) s i (next_address s.thread.place len) xs) e)
+  something_known : (xs : List Operand) (known : Option Known) → sets_flags (shown image) s i (next_address s.thread.place len) xs known ≢ None → known ≢ None
+  something_known xs known h e = h (ap (sets_flags (shown image) s i (next_address s.thread.place len) xs) e)
 
   -- CMP
   pub compare-step : (d x : Operand) → i ≡ inst.Alu alu.Cmp d x → SetsFlags i d x → PairIsPlain (MayUse image live s) d x → compares (shown image) s i (next_address s.thread.place len) d x ≢ None
@@ -95,7 +95,7 @@ module _ {image : ImageParts} {live : ℕ → Bool} {s : State} {cpu : Cpu} {m :
   unfolding compares
   compare-step d x is o plain h =
       let known = known_of (operand_value (shown image) s d) (operand_value (shown image) s x) (is_bare_zero x (operand_value (shown image) s x)) (is_display (shown image) s d) in
-      let at = compared-there d x is plain (operand_value (shown image) s d) (operand_value (shown image) s x) refl refl (something-known (d ∷ x ∷ []) known h) in
+      let at = compared-there d x is plain (operand_value (shown image) s d) (operand_value (shown image) s x) refl refl (something_known (d ∷ x ∷ []) known h) in
       flags-step d x o plain.one at.0 at.1 known h
 
   -- the operands of TEST are there, where something is known of them
@@ -116,5 +116,5 @@ module _ {image : ImageParts} {live : ℕ → Bool} {s : State} {cpu : Cpu} {m :
   unfolding tests
   test-step d x o plain h =
       let known = known_of_test (operand_value (shown image) s d) (operand_value (shown image) s x) (same_register d x) in
-      let at = tested-there d x plain (operand_value (shown image) s d) (operand_value (shown image) s x) refl refl (something-known (d ∷ x ∷ []) known h) in
+      let at = tested-there d x plain (operand_value (shown image) s d) (operand_value (shown image) s x) refl refl (something_known (d ∷ x ∷ []) known h) in
       flags-step d x o plain.one at.0 at.1 known h

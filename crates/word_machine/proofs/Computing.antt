@@ -31,10 +31,10 @@ use Rattle.typed_machine.specs.Words.{words_of}
 use Rattle.word_machine.specs.Memory.{MemoryView, is_mapped, memory_word}
 use Rattle.word_machine.proofs.Spelled.{MayUse, OneInMemory}
 use Rattle.word_machine.proofs.Operating.{over, Agrees, AllAgree, Operates, Widens}
-use Rattle.word_machine.proofs.Grounding.{words_over, thread-stands, Begins}
+use Rattle.word_machine.proofs.Grounding.{words_over, thread_stands, Begins}
 use Rattle.word_machine.proofs.OperandWords.{OperandThere, AllThere, all-reached, number-there}
 use Rattle.word_machine.proofs.Putting.{PutFor, put-reached, put-stands}
-use Rattle.word_machine.proofs.Leaving.{ran-on, StepOf, stays, thread-step}
+use Rattle.word_machine.proofs.Leaving.{ran_on, StepOf, stays, thread_step}
 
 -- ---- the one word in memory
 
@@ -45,40 +45,40 @@ AllUsed image live s (x ∷ xs) = MayUse image live s x × AllUsed image live s 
 
 module _ {image : ImageParts} {s : State} {m : MemoryView} where
   -- an operand agrees with the word of those among which it comes first
-  pub agrees-first : (x : Operand) (xs : List Operand) → OperandThere image s m x
+  pub agrees_first : (x : Operand) (xs : List Operand) → OperandThere image s m x
       → Agrees (memory_word m) (word_among (shown image) s (x ∷ xs)) (words_over s m).regs x
   unfolding word_among
-  agrees-first (R r) xs h = tt
-  agrees-first (M a) xs h = h.agrees
-  agrees-first (I n) xs h = tt
+  agrees_first (R r) xs h = tt
+  agrees_first (M a) xs h = h.agrees
+  agrees_first (I n) xs h = tt
 
   -- and with that of those among which it comes behind one that is not in memory
-  pub agrees-second : (d x : Operand) (xs : List Operand) → OneInMemory d x → OperandThere image s m x
+  pub agrees_second : (d x : Operand) (xs : List Operand) → OneInMemory d x → OperandThere image s m x
       → Agrees (memory_word m) (word_among (shown image) s (d ∷ x ∷ xs)) (words_over s m).regs x
   unfolding word_among
-  agrees-second d (R r) xs one h = tt
-  agrees-second d (I n) xs one h = tt
-  agrees-second (R r) (M a) xs one h = h.agrees
-  agrees-second (I n) (M a) xs one h = h.agrees
-  agrees-second (M e) (M a) xs one h = absurd one
+  agrees_second d (R r) xs one h = tt
+  agrees_second d (I n) xs one h = tt
+  agrees_second (R r) (M a) xs one h = h.agrees
+  agrees_second (I n) (M a) xs one h = h.agrees
+  agrees_second (M e) (M a) xs one h = absurd one
 
   -- a destination that is read too
-  pub agrees-third : (d x : Operand) (xs : List Operand) → OneInMemory d x → OperandThere image s m x
+  pub agrees_third : (d x : Operand) (xs : List Operand) → OneInMemory d x → OperandThere image s m x
       → Agrees (memory_word m) (word_among (shown image) s (d ∷ d ∷ x ∷ xs)) (words_over s m).regs x
   unfolding word_among
-  agrees-third d (R r) xs one h = tt
-  agrees-third d (I n) xs one h = tt
-  agrees-third (R r) (M a) xs one h = h.agrees
-  agrees-third (I n) (M a) xs one h = h.agrees
-  agrees-third (M e) (M a) xs one h = absurd one
+  agrees_third d (R r) xs one h = tt
+  agrees_third d (I n) xs one h = tt
+  agrees_third (R r) (M a) xs one h = h.agrees
+  agrees_third (I n) (M a) xs one h = h.agrees
+  agrees_third (M e) (M a) xs one h = absurd one
 
   -- an operand behind three registers
-  pub agrees-fourth : (p q r : Reg) (x : Operand) → OperandThere image s m x
+  pub agrees_fourth : (p q r : Reg) (x : Operand) → OperandThere image s m x
       → Agrees (memory_word m) (word_among (shown image) s (R p ∷ R q ∷ R r ∷ x ∷ [])) (words_over s m).regs x
   unfolding word_among
-  agrees-fourth p q r (R o) h = tt
-  agrees-fourth p q r (M a) h = h.agrees
-  agrees-fourth p q r (I n) h = tt
+  agrees_fourth p q r (R o) h = tt
+  agrees_fourth p q r (M a) h = h.agrees
+  agrees_fourth p q r (I n) h = tt
 
 -- ---- what was put is there
 
@@ -140,7 +140,7 @@ module _ {image : ImageParts} {live : ℕ → Bool} {s : State} {cpu : Cpu} {m :
           reaches = o.reaches over_now (is_mapped m) (put-reached b d _ u spares is) (all-reached image s m sources there);
           runs = o.runs;
           leaves = λ ran after r.
-              let on = ran-on i len over_now m ran after goes r in
+              let on = ran_on i len over_now m ran after goes r in
               let put : PutFor image live s u m after d (o.value before) =
               put-stands b d (Number (o.value before)) u after spares is
               (λ a. on.words a ∙ (ap (λ x. x.memory a) (o.done_is over_now) ∙ ap (λ n. (put_word d n over_now).memory a) value)) on.mapped on.formed in
@@ -153,7 +153,7 @@ module _ {image : ImageParts} {live : ℕ → Bool} {s : State} {cpu : Cpu} {m :
                     flags = on.flags ∙ (ap (λ x. x.flags) (o.done_is over_now) ∙ (flags ∙ sym (ap (λ x. x.flags) (o.done_is before))));
                     place = on.place ∙ o.next_is over_now len;
                   };
-                  memory = thread-stands put.memory _;
+                  memory = thread_stands put.memory _;
                 },
               );
         }
@@ -198,7 +198,7 @@ module _ {image : ImageParts} {live : ℕ → Bool} {s : State} {cpu : Cpu} {m :
         let over_now = words_over s m in
         let agrees = agree there in
         let made : executed i over_now ≡ over (memory_word m) (executed i wide-before) = o.alike (memory_word m) (word_among (shown image) s (R Eax ∷ sources)) (words_of s 0) agrees in
-        thread-step b wide-after.thread over_now refl
+        thread_step b wide-after.thread over_now refl
         (o.effect_alike (memory_word m) (word_among (shown image) s (R Eax ∷ sources)) (words_of s 0) len agrees ∙ goes)
         (ap (λ x. x.memory) made)
         (ap (λ x. x.regs) made ∙ o.others _ _ _ _ _ _ _ _ wide-before refl)

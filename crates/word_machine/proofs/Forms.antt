@@ -36,16 +36,16 @@ use Rattle.typed_machine.specs.Effects.{goes_on, moves, is_number_in, addresses,
 use Rattle.typed_machine.specs.Words.{esp_of, words_of}
 use Rattle.word_machine.specs.Memory.{MemoryView, is_mapped}
 use Rattle.word_machine.proofs.Spelled.{IsNoNumber}
-use Rattle.word_machine.proofs.Grounding.{words_over, next, thread-stands, Begins}
+use Rattle.word_machine.proofs.Grounding.{words_over, next, thread_stands, Begins}
 use Rattle.word_machine.proofs.OperandWords.{register-written, value-there, value-word}
 use Rattle.word_machine.proofs.Putting.{PutFor, put-reached, put-stands}
 use Rattle.word_machine.proofs.Computing.{register-read}
-use Rattle.word_machine.proofs.Leaving.{ran-on, StepOf, stays, thread-step}
+use Rattle.word_machine.proofs.Leaving.{ran_on, StepOf, stays, thread_step}
 
 -- what a test lets through
-pub let-in : {X : Type 0} (t : Bool) (x : X) → (if t then Some x else None) ≢ None → t ≡ true
-let-in true x h = refl
-let-in false x h = absurd (h refl)
+pub let_in : {X : Type 0} (t : Bool) (x : X) → (if t then Some x else None) ≢ None → t ≡ true
+let_in true x h = refl
+let_in false x h = absurd (h refl)
 
 -- ---- moves and addresses
 
@@ -78,7 +78,7 @@ module _ {image : ImageParts} {live : ℕ → Bool} {s : State} {cpu : Cpu} {m :
           reaches = (put-reached b d w u b.plain.first written, (value-there b x w b.plain.second value).reached);
           runs = refl;
           leaves = λ ran after r.
-              let on = ran-on i len (words_over s m) m ran after refl r in
+              let on = ran_on i len (words_over s m) m ran after refl r in
               let put : PutFor image live s u m after d (Word (places_of s) w) =
               put-stands b d w u after b.plain.first written
               (λ a. on.words a ∙ ap (λ n. (put_word d n (words_over s m)).memory a) word) on.mapped on.formed in (
@@ -90,7 +90,7 @@ module _ {image : ImageParts} {live : ℕ → Bool} {s : State} {cpu : Cpu} {m :
                     flags = on.flags ∙ (put-flags d (read_word x (words_over s m)) (words_over s m) ∙ sym put.flags);
                     place = on.place;
                   };
-                  memory = thread-stands put.memory _;
+                  memory = thread_stands put.memory _;
                 },
               );
         }
@@ -123,7 +123,7 @@ module _ {image : ImageParts} {live : ℕ → Bool} {s : State} {cpu : Cpu} {m :
       goes e =
           let spared : same r Esp ≡ false = not-true (same r Esp) e in
           let read : there (R r) ≡ address_of a (words_of s 0).regs = register-read s 0 (address_of a (words_of s 0).regs) r in
-          thread-step b (at_place (next s len) (with_register r (Number (there (R r))) s)).thread (words_over s m) refl refl refl
+          thread_step b (at_place (next s len) (with_register r (Number (there (R r))) s)).thread (words_over s m) refl refl refl
           (rw read (register-written s (places_of s) (esp_of s) r (Number (address_of a (words_of s 0).regs)) spared)) refl refl tt refl
 
       go : (t : Bool) → not (same r Esp) ≡ t → (u : Bool) → (if t && u then Some (goes_on (next s len) (with_register r (Number (there (R r))) s)) else None) ≢ None
@@ -139,7 +139,7 @@ module _ {image : ImageParts} {live : ℕ → Bool} {s : State} {cpu : Cpu} {m :
       → next_of i (words_over s m) len ≡ to → Reaches i (words_over s m) (is_mapped m) → is_system i ≡ false → StepOf image live s m i len (Some (goes_on to s))
   unfolding words_of
   gone-step i to b nothing effect place reaches runs =
-      thread-step b (at_place to s).thread (words_over s m) refl effect (ap (λ k. k.memory) nothing) (ap (λ k. k.regs) nothing)
+      thread_step b (at_place to s).thread (words_over s m) refl effect (ap (λ k. k.memory) nothing) (ap (λ k. k.regs) nothing)
       (ap (λ k. k.flags) nothing) place reaches runs
 
   -- NOP
@@ -148,11 +148,11 @@ module _ {image : ImageParts} {live : ℕ → Bool} {s : State} {cpu : Cpu} {m :
   nothing-step b = gone-step inst.Nop (next s len) b refl refl refl tt refl
 
   -- JMP
-  pub jump-step : (z : ℤ) → Begins image live s cpu m (inst.Jmp z) len → jumps image s (address_at (next s len) z) ≢ None
+  pub jump_step : (z : ℤ) → Begins image live s cpu m (inst.Jmp z) len → jumps image s (address_at (next s len) z) ≢ None
       → StepOf image live s m (inst.Jmp z) len (jumps image s (address_at (next s len) z))
   unfolding words_of next_address address_at
-  jump-step z b known =
-      let may = let-in (may_go image s.thread.place (address_at (next s len) z)) (goes_on (address_at (next s len) z) s) known in
+  jump_step z b known =
+      let may = let_in (may_go image s.thread.place (address_at (next s len) z)) (goes_on (address_at (next s len) z) s) known in
       rw may (gone-step (inst.Jmp z) (address_at (next s len) z) b refl refl refl tt refl)
 
   -- a conditional jump
@@ -160,7 +160,7 @@ module _ {image : ImageParts} {live : ℕ → Bool} {s : State} {cpu : Cpu} {m :
       → StepOf image live s m (inst.Jcc c z) len (branches image s (next s len) c (address_at (next s len) z))
   unfolding words_of next_address address_at
   branch-step c z b known =
-      let may = let-in (is_known s.thread.known c && may_go image s.thread.place (address_at (next s len) z)) _ known in
+      let may = let_in (is_known s.thread.known c && may_go image s.thread.place (address_at (next s len) z)) _ known in
       rw may (gone-step (inst.Jcc c z) (if holds c s.thread.flags then address_at (next s len) z else (next s len)) b refl refl refl tt refl)
 
   -- ---- calls and returns
@@ -176,8 +176,8 @@ module _ {image : ImageParts} {live : ℕ → Bool} {s : State} {cpu : Cpu} {m :
   }
 
   -- RET
-  pub return-step : Begins image live s cpu m inst.Ret len → returns_from s.values s ≢ None → StepOf image live s m inst.Ret len (returns_from s.values s)
-  return-step b known = record {
+  pub return_step : Begins image live s cpu m inst.Ret len → returns_from s.values s ≢ None → StepOf image live s m inst.Ret len (returns_from s.values s)
+  return_step b known = record {
     reaches = tt;
     runs = refl;
     leaves = λ ran after r. (known, refl, stays b step.Return ran after refl refl r);

@@ -47,9 +47,9 @@ same-heap-words m after same = same-list after.heap m.heap (λ k. sym (heap_ther
 
 module _ {image : ImageParts} {live : ℕ → Bool} {s : State} {m : MemoryView} (h : MemoryStands image live s m) where
   -- the memory stands for the state, whatever its thread
-  pub thread-stands : (t : Thread) → MemoryStands image live (record s { thread = t }) m
+  pub thread_stands : (t : Thread) → MemoryStands image live (record s { thread = t }) m
   unfolding values_at
-  thread-stands t = record {
+  thread_stands t = record {
     tables = h.tables;
     descriptors = h.descriptors;
     statics = h.statics;
@@ -87,9 +87,9 @@ pub record Begins (image : ImageParts) (live : ℕ → Bool) (s : State) (cpu : 
   pub known : Effect image s i len ≢ None
 
 -- an effect that keeps typing is there
-effect-there : (image : ImageParts) (live : ℕ → Bool) (s : State) (next : ℕ) (e : _) → EffectTyped image live s next e → e ≢ None
-effect-there image live s next None h e = h
-effect-there image live s next (Some x) h e = absurd (cc)
+effect_there : (image : ImageParts) (live : ℕ → Bool) (s : State) (next : ℕ) (e : _) → EffectTyped image live s next e → e ≢ None
+effect_there image live s next None h e = h
+effect_there image live s next (Some x) h e = absurd (cc)
 
 -- what is in a value that is there
 pub some-is : {X : Type 0} (x y : X) → Some x ≡ Some y → x ≡ y
@@ -105,7 +105,7 @@ pub begins : (image : ImageParts) (live : ℕ → Bool) (s : State) (cpu : Cpu) 
 begins image live s cpu m i len laws spelled at =
     let kept : KeepsTyping image live s = laws.keeps image at.grounds.well_typed live s at.grounds.typed in
     let same = the-pair (kept.placed.inst, kept.placed.len) (i, len) (sym kept.spelled ∙ at.here) in
-    let effect : Effect image s kept.placed.inst kept.placed.len ≢ None = effect-there image live s (next_address s.thread.place kept.placed.len) _ kept.typed in
+    let effect : Effect image s kept.placed.inst kept.placed.len ≢ None = effect_there image live s (next_address s.thread.place kept.placed.len) _ kept.typed in
     record {
       grounds = at.grounds;
       laws = laws;

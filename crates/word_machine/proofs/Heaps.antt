@@ -44,9 +44,9 @@ pub record LiesInUsed (words : List ℕ) (k : ℕ) : Type 0 where
 
 module _ (laws : HeapLaws) (words : List ℕ) (formed : FormedHeap words) where
   -- a word of an object lies in a used block
-  pub object-block : (k : ℕ) → is_object_word words k ≡ true → LiesInUsed words k
+  pub object_block : (k : ℕ) → is_object_word words k ≡ true → LiesInUsed words k
   unfolding is_object_word
-  object-block k h =
+  object_block k h =
       let found = Any-from_list_any (has_word k) (Blocks words) h in
       let b : Block = found.1 in
       let test : has_word k b ≡ true = found.4 in
@@ -72,24 +72,24 @@ module _ (laws : HeapLaws) (words : List ℕ) (formed : FormedHeap words) where
       list_any-from_Any (has_word k) (Blocks words) (there.0, block_at words i, there.1, there.2, test)
 
   -- which no header and no link is
-  pub object-is-word : (k : ℕ) → is_object_word words k ≡ true → IsObjectWord words k
-  object-is-word k h =
-      let b = object-block k h in
+  pub object_is_word : (k : ℕ) → is_object_word words k ≡ true → IsObjectWord words k
+  object_is_word k h =
+      let b = object_block k h in
       let at : b.block + (k - b.block) ≡ k = let behind = b.behind in omega arith in
       let behind = b.behind in
       let before = b.before in
       rw at at (laws.blocks.places.object words b.block (k - b.block) b.used (omega arith) (omega arith))
 
   -- it is inside the heap
-  pub object-inside : (k : ℕ) → is_object_word words k ≡ true → k < length words
-  object-inside k h =
-      let b = object-block k h in
+  pub object_inside : (k : ℕ) → is_object_word words k ≡ true → k < length words
+  object_inside k h =
+      let b = object_block k h in
       let room = laws.blocks.places.room words b.block formed b.used.begins in
       omega (arith, b.before, room.within)
 
   -- by the block in which word k lies: whether it is an object's
-  pub object-test : (i k : ℕ) → Begins words i → i ≤ k → k < i + size_at words i → is_object_word words k ≡ (used_at words i && nat_le (i + 2) k)
-  object-test i k begins behind before = go (is_object_word words k) refl (used_at words i) refl (nat_le (i + 2) k) refl
+  pub object_test : (i k : ℕ) → Begins words i → i ≤ k → k < i + size_at words i → is_object_word words k ≡ (used_at words i && nat_le (i + 2) k)
+  object_test i k begins behind before = go (is_object_word words k) refl (used_at words i) refl (nat_le (i + 2) k) refl
     where
       same-block : (b : LiesInUsed words k) → b.block ≡ i
       same-block b = elim (cases_lt b.block i) [
@@ -102,7 +102,7 @@ module _ (laws : HeapLaws) (words : List ℕ) (formed : FormedHeap words) where
 
       go : (o : Bool) → is_object_word words k ≡ o → (u : Bool) → used_at words i ≡ u → (l : Bool) → nat_le (i + 2) k ≡ l → o ≡ (u && l)
       go true h u e l f =
-          let b = object-block k h in
+          let b = object_block k h in
           let same = same-block b in
           let used : u ≡ true = sym e ∙ ap (used_at words) (sym same) ∙ b.used.used in
           let low : l ≡ true = sym f ∙ (let behind = b.behind in grind (arith, nat_tests)) in

@@ -17,7 +17,7 @@ use Rattle.word_machine.specs.Memory.{MemoryView, is_mapped, memory_word}
 use Rattle.word_machine.specs.Standing.{MemoryStands, WordsStand}
 use Rattle.word_machine.specs.Stepping.{Left}
 use Rattle.word_machine.proofs.Telling.{same-told}
-use Rattle.word_machine.proofs.Grounding.{words_over, thread-stands, same-stands, Begins}
+use Rattle.word_machine.proofs.Grounding.{words_over, thread_stands, same-stands, Begins}
 
 -- the processor and the memory after an instruction on these words
 pub record Ran (i : Inst) (len : ℕ) (before : WordState) (m : MemoryView) (cpu : Cpu) (after : MemoryView) : Type 0 where
@@ -38,9 +38,9 @@ pub record RanOn (i : Inst) (len : ℕ) (before : WordState) (m : MemoryView) (c
   pub formed : FormedHeap after.heap
 
 -- an instruction that leaves nothing to the caller has run on
-pub ran-on : (i : Inst) (len : ℕ) (before : WordState) (m : MemoryView) (cpu : Cpu) (after : MemoryView) → effect_of i before len ≡ step.Next
+pub ran_on : (i : Inst) (len : ℕ) (before : WordState) (m : MemoryView) (cpu : Cpu) (after : MemoryView) → effect_of i before len ≡ step.Next
     → Ran i len before m cpu after → RanOn i len before m cpu after
-ran-on i len before m cpu after is r = record {
+ran_on i len before m cpu after is r = record {
   regs = rw is at r.regs;
   flags = rw is at r.flags;
   place = rw is at r.place;
@@ -74,19 +74,19 @@ module _ {image : ImageParts} {live : ℕ → Bool} {s : State} {cpu : Cpu} {m :
   pub memory-stays : (t : Thread) (after : MemoryView) → ((a : ℕ) → memory_word after a ≡ memory_word m a) → ((a : ℕ) → is_mapped after a ≡ is_mapped m a)
       → FormedHeap after.heap → MemoryStands image live (record s { thread = t }) after
   memory-stays t after words mapped formed =
-      thread-stands (same-stands b.grounds.stand.memory after (same-told b.laws.heap m after b.grounds.stand.memory.blocks.formed formed words mapped)) t
+      thread_stands (same-stands b.grounds.stand.memory after (same-told b.laws.heap m after b.grounds.stand.memory.blocks.formed formed words mapped)) t
 
   -- an instruction that changes the thread alone
-  pub thread-step : (t : Thread) (before : WordState) → before ≡ words_over s m → effect_of i before len ≡ step.Next → (executed i before).memory ≡ before.memory
+  pub thread_step : (t : Thread) (before : WordState) → before ≡ words_over s m → effect_of i before len ≡ step.Next → (executed i before).memory ≡ before.memory
       → (executed i before).regs ≡ register_words (places_of s) t.regs (esp_of s) → (executed i before).flags ≡ t.flags → next_of i before len ≡ t.place
       → Reaches i before (is_mapped m) → is_system i ≡ false → StepOf image live s m i len (Some (Moves (record s { thread = t })))
-  thread-step t before is effect memory regs flags place reaches runs =
+  thread_step t before is effect memory regs flags place reaches runs =
       let goes : effect_of i (words_over s m) len ≡ step.Next = rw is at effect in
       record {
         reaches = rw is at reaches;
         runs = runs;
         leaves = λ ran after r.
-            let on = ran-on i len (words_over s m) m ran after goes r in
+            let on = ran_on i len (words_over s m) m ran after goes r in
             rw goes (
               record s { thread = t },
               refl,

@@ -15,13 +15,13 @@ use Rattle.word_machine.specs.Standing.{end_of, IsInside, ObjectsLie, BlocksStan
 -- ---- place and shape
 
 -- the place of an object
-pub object-place : (s : State) (i : ℕ) (o : Object) → slice_get s.store i ≡ Some o → slice_index (places_of s) i ≡ o.place
-object-place s i o h =
+pub place_of_object : (s : State) (i : ℕ) (o : Object) → slice_get s.store i ≡ Some o → slice_index (places_of s) i ≡ o.place
+place_of_object s i o h =
     get_or_from_slice_get (places_of s) i o.place 0 (slice_get-map (λ (p : Object). p.place) s.store i ∙ ap (option_map (λ (p : Object). p.place)) h)
 
 -- its shape
-pub object-shape : (s : State) (i : ℕ) (o : Object) → slice_get s.store i ≡ Some o → slice_get (placed_shapes s) i ≡ Some o.shape
-object-shape s i o h = slice_get-map (λ (p : Object). p.shape) s.store i ∙ ap (option_map (λ (p : Object). p.shape)) h
+pub object_shape : (s : State) (i : ℕ) (o : Object) → slice_get s.store i ≡ Some o → slice_get (placed_shapes s) i ≡ Some o.shape
+object_shape s i o h = slice_get-map (λ (p : Object). p.shape) s.store i ∙ ap (option_map (λ (p : Object). p.shape)) h
 
 -- where there is no object there is no shape
 pub no-shape : (s : State) (i : ℕ) → slice_get s.store i ≡ None → slice_get (placed_shapes s) i ≡ None
@@ -36,7 +36,7 @@ shape-object s i f v h = go (slice_get s.store i) refl
     go None e =
         let nothing = rw (no-shape s i e) at h in
         absurd cc
-    go (Some o) e = (o, e, rw (object-shape s i o e) at h)
+    go (Some o) e = (o, e, rw (object_shape s i o e) at h)
 
 -- ---- a value of an object replaced
 
@@ -133,9 +133,9 @@ still-blocks image live store i j v words h = record {
 -- ---- the words of an object
 
 -- its block has two words more than it, at least
-pub object-need : (s : ShapesView) (o : Object) → length o.values ≡ value_count s o.shape → length (object_values o) + 2 ≤ need s o.shape
+pub object_need : (s : ShapesView) (o : Object) → length o.values ≡ value_count s o.shape → length (object_values o) + 2 ≤ need s o.shape
 unfolding object_values head_values value_count Need rounded_up
-object-need s o count = go o.shape count
+object_need s o count = go o.shape count
   where
     go : (shape : ObjectShape) → length o.values ≡ value_count s shape → length (head_values shape ++ o.values) + 2 ≤ need s shape
     go (InstanceOf c) e = omega (arith, e)

@@ -18,8 +18,8 @@ use Rattle.object_layout.specs.Areas.{heap_start}
 use Rattle.word_machine.specs.Memory.{MemoryView, is_object_word, is_mapped, memory_word}
 use Rattle.word_machine.specs.Laws.{WordChanges, HeapWritten}
 use Rattle.word_machine.specs.Stepping.{HeapLaws, IsLeft}
-use Rattle.word_machine.proofs.Areas.{is_within, there_in_heap, heap-object, heap-stays, heap-set}
-use Rattle.word_machine.proofs.Heaps.{object-inside, object-is-word}
+use Rattle.word_machine.proofs.Areas.{is_within, there_in_heap, heap_object, heap_stays, heap_set}
+use Rattle.word_machine.proofs.Heaps.{object_inside, object_is_word}
 use Rattle.word_machine.proofs.Telling.{same-heap-told, written-told}
 
 -- ---- the words that an instruction writes
@@ -86,32 +86,32 @@ after-one i len m mapped h = go (effect_of i m len)
 module _ (laws : HeapLaws) (m after : MemoryView) (formed : FormedHeap m.heap) (formed_after : FormedHeap after.heap)
     (mapped : (b : ℕ) → is_mapped after b ≡ is_mapped m b) where
   -- where a mapped word changes and no other, one word of an object changes at most
-  heap-one : (a w : ℕ) → is_mapped m a ≡ true → ((b : ℕ) → memory_word after b ≡ (if b == a then w else memory_word m b)) → HeapWritten m.heap after.heap
-  heap-one a w here words = elim (cases_lt a heap_start) [
-    | inl low ↦ inl (heap-stays m after a w (written-told laws m after formed formed_after a w here words mapped) low)
+  heap_one : (a w : ℕ) → is_mapped m a ≡ true → ((b : ℕ) → memory_word after b ≡ (if b == a then w else memory_word m b)) → HeapWritten m.heap after.heap
+  heap_one a w here words = elim (cases_lt a heap_start) [
+    | inl low ↦ inl (heap_stays m after a w (written-told laws m after formed formed_after a w here words mapped) low)
     | inr high ↦ inr (
         let there = there_in_heap m a here high in
         let k = (a - heap_start) / 4 in
-        let object = heap-object m a here high in
-        let inside = object-inside laws m.heap formed k object in
+        let object = heap_object m a here high in
+        let inside = object_inside laws m.heap formed k object in
         let at = (is_within heap_start m.heap a there).whole in
         record {
           index = k;
           word = w;
-          object = object-is-word laws m.heap formed k object;
+          object = object_is_word laws m.heap formed k object;
           inside = inside;
-          is = heap-set m after k w (rw at at (written-told laws m after formed formed_after a w here words mapped)) inside;
+          is = heap_set m after k w (rw at at (written-told laws m after formed formed_after a w here words mapped)) inside;
         })
   ]
 
   -- so it is after an instruction
-  pub ran-heap : (i : Inst) (len : ℕ) (before : WordState) → before.memory ≡ memory_word m → Reaches i before (is_mapped m)
+  pub ran_heap : (i : Inst) (len : ℕ) (before : WordState) → before.memory ≡ memory_word m → Reaches i before (is_mapped m)
       → ((a : ℕ) → memory_word after a ≡ (after_instruction i len before).memory a) → HeapWritten m.heap after.heap
-  ran-heap i len before same reaches words = go (after-one i len before (is_mapped m) reaches)
+  ran_heap i len before same reaches words = go (after-one i len before (is_mapped m) reaches)
     where
       go : WritesOne before (is_mapped m) (after_instruction i len before).memory → HeapWritten m.heap after.heap
       go (inl none) = inl (same-heap-told laws m after formed formed_after (λ a. words a ∙ none a ∙ (rw same refl)))
-      go (inr (b, w, there, one)) = heap-one b w there (λ a. words a ∙ one a ∙ (rw same refl))
+      go (inr (b, w, there, one)) = heap_one b w there (λ a. words a ∙ one a ∙ (rw same refl))
 
   -- where something is left to the caller, the heap stays
   pub left-heap : (i : Inst) (len : ℕ) (before : WordState) (e : Effect) → before.memory ≡ memory_word m → effect_of i before len ≡ e → IsLeft e

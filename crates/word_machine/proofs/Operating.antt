@@ -140,8 +140,8 @@ shift-operates op d by more = record {
 }
 
 -- CDQ
-pub cdq-operates : Operates inst.Cdq (R Eax ∷ []) (R Edx)
-cdq-operates = record {
+pub cdq_operates : Operates inst.Cdq (R Eax ∷ []) (R Edx)
+cdq_operates = record {
   value = λ m. sign_of (eax m);
   flags = λ m. m.flags;
   value_alike = λ f w m h. refl;
@@ -167,8 +167,8 @@ imul-operates d x = record {
   runs = refl;
 }
 
-pub imul_number-operates : (d x : Operand) (n : ℕ) → Operates (inst.Imul3 d x n) (x ∷ I n ∷ []) d
-imul_number-operates d x n = record {
+pub imul_number_operates : (d x : Operand) (n : ℕ) → Operates (inst.Imul3 d x n) (x ∷ I n ∷ []) d
+imul_number_operates d x n = record {
   value = λ m. (imul_of (read_word x m) n m.flags).value;
   flags = λ m. (imul_of (read_word x m) n m.flags).flags;
   value_alike = λ f w m h. ap (λ a. (imul_of a n m.flags).value) (read-alike f w m x h.0);

@@ -30,7 +30,7 @@ use Rattle.word_machine.proofs.Spots.{spot-address}
 use Rattle.word_machine.proofs.Objects.{places-set}
 use Rattle.word_machine.proofs.Spelled.{MayUse}
 use Rattle.word_machine.proofs.Telling.{same-told, written-told}
-use Rattle.word_machine.proofs.Grounding.{words_over, thread-stands, same-stands, Begins}
+use Rattle.word_machine.proofs.Grounding.{words_over, thread_stands, same-stands, Begins}
 use Rattle.word_machine.proofs.OperandWords.{register-written, spot-value_word, spot-there}
 use Rattle.ia32_step.specs.Reaches.{IsReached}
 
@@ -152,7 +152,7 @@ module _ {image : ImageParts} {live : ℕ → Bool} {s : State} {cpu : Cpu} {m :
       subst (λ y. PutFor image live s y m after (R r) (Word (places_of s) w)) through.1 (record {
         regs = register-written s (places_of s) (esp_of s) r w spared;
         flags = refl;
-        memory = thread-stands kept _;
+        memory = thread_stands kept _;
       })
   put-stands (M x) w u after spares h words mapped formed = go (spot_of (shown image).shapes s x) refl h
     where

@@ -24,13 +24,13 @@ use Rattle.word_machine.specs.Memory.{MemoryView, word_of, heap_allows, is_mappe
 use Rattle.word_machine.specs.Standing.{end_of, IsInside}
 use Rattle.word_machine.specs.Following.{Grounds}
 use Rattle.word_machine.specs.Stepping.{HeapLaws}
-use Rattle.word_machine.proofs.Areas.{low-open, heap-open}
+use Rattle.word_machine.proofs.Areas.{low-open, heap_open}
 use Rattle.word_machine.proofs.Heaps.{block-object}
 use Rattle.word_machine.proofs.Lists.{behind-read}
 use Rattle.word_machine.proofs.Bounds.{few-stacks, runs-there}
 use Rattle.word_machine.proofs.Tables.{table-below, method-word}
-use Rattle.word_machine.proofs.Objects.{object-place, object-shape, shape-object, object-need}
-use Rattle.word_machine.proofs.Stacks.{running-holds}
+use Rattle.word_machine.proofs.Objects.{place_of_object, object_shape, shape-object, object_need}
+use Rattle.word_machine.proofs.Stacks.{running_holds}
 use Rattle.word_machine.proofs.Spots.{head_count, spot_place, spot-address}
 
 -- a word stands at an address of 32 bits, which is open to instructions
@@ -56,8 +56,8 @@ inside-below image s i o (inr (heap, above, below)) = omega arith
 
 module _ {image : ImageParts} {live : ℕ → Bool} {s : State} {cpu : Cpu} {m : MemoryView} (g : Grounds image live s cpu m) where
   -- a static
-  static-stands : (j : ℕ) (v : Value) → slice_get s.statics j ≡ Some v → Stands m (statics_start + 4 * j) (Word (places_of s) v)
-  static-stands j v h =
+  static_stands : (j : ℕ) (v : Value) → slice_get s.statics j ≡ Some v → Stands m (statics_start + 4 * j) (Word (places_of s) v)
+  static_stands j v h =
       let short = g.stand.memory.lie.short in
       let few = slice_get_within s.statics j v h in
       record { below = omega arith; there = g.stand.memory.statics j v h; open_to = low-open m.heap (statics_start + 4 * j) (omega arith) }
@@ -69,20 +69,20 @@ module _ {image : ImageParts} {live : ℕ → Bool} {s : State} {cpu : Cpu} {m :
       let stacks = few-stacks g in
       let runs = runs-there g in
       let short = g.typed.thread.room in
-      record { below = omega arith; there = running-holds g i v h; open_to = low-open m.heap (esp_of s + 4 * i) (omega arith) }
+      record { below = omega arith; there = running_holds g i v h; open_to = low-open m.heap (esp_of s + 4 * i) (omega arith) }
 
   -- a word of an object is open: it lies below the heap, or in the block of the object
-  object-open : HeapLaws → (i k : ℕ) (o : Object) → live i ≡ true → slice_get s.store i ≡ Some o → k < length (object_values o) → IsInside image s i o
+  object_open : HeapLaws → (i k : ℕ) (o : Object) → live i ≡ true → slice_get s.store i ≡ Some o → k < length (object_values o) → IsInside image s i o
       → heap_allows m.heap (o.place + 4 * k) ≡ true
-  object-open laws i k o lives there few (inl (row, above, below)) = low-open m.heap (o.place + 4 * k) (omega arith)
-  object-open laws i k o lives there few (inr (heap, above, below)) =
+  object_open laws i k o lives there few (inl (row, above, below)) = low-open m.heap (o.place + 4 * k) (omega arith)
+  object_open laws i k o lives there few (inr (heap, above, below)) =
       let blocks = g.stand.memory.blocks in
       let b = blocks.objects i o lives heap there in
-      let room = object-need (shown image).shapes o (g.typed.store.counts i o there) in
+      let room = object_need (shown image).shapes o (g.typed.store.counts i o there) in
       let place = b.place in
       let exact = b.exact in
       let at : o.place + 4 * k ≡ heap_start + 4 * (b.block + (k + 2)) = omega arith in
-      rw (at, heap-open m.heap (b.block + (k + 2))) (block-object laws m.heap blocks.formed b.block (b.block + (k + 2)) b.used (omega arith) (within room exact))
+      rw (at, heap_open m.heap (b.block + (k + 2))) (block-object laws m.heap blocks.formed b.block (b.block + (k + 2)) b.used (omega arith) (within room exact))
     where
       within : length (object_values o) + 2 ≤ need (shown image).shapes o.shape → size_at m.heap (g.stand.memory.blocks.objects i o lives heap there).block ≡ need (shown image).shapes o.shape
           → (g.stand.memory.blocks.objects i o lives heap there).block + (k + 2)
@@ -90,16 +90,16 @@ module _ {image : ImageParts} {live : ℕ → Bool} {s : State} {cpu : Cpu} {m :
       within room exact = omega (arith, room, exact, few)
 
   -- a word of an object
-  object-stands : HeapLaws → (i k : ℕ) (o : Object) (v : Value) → live i ≡ true → slice_get s.store i ≡ Some o → slice_get (object_values o) k ≡ Some v
+  object_stands : HeapLaws → (i k : ℕ) (o : Object) (v : Value) → live i ≡ true → slice_get s.store i ≡ Some o → slice_get (object_values o) k ≡ Some v
       → Stands m (slice_index (places_of s) i + 4 * k) (Word (places_of s) v)
-  object-stands laws i k o v lives there h =
+  object_stands laws i k o v lives there h =
       let few = slice_get_within (object_values o) k v h in
       let inside = g.stand.memory.lie.inside i o lives there in
       let below = inside-below image s i o inside in
-      rw (object-place s i o there) (record {
+      rw (place_of_object s i o there) (record {
         below = omega arith;
         there = g.stand.memory.objects i o lives there k v h;
-        open_to = object-open laws i k o lives there few inside;
+        open_to = object_open laws i k o lives there few inside;
       })
 
   -- a value of an object
@@ -109,15 +109,15 @@ module _ {image : ImageParts} {live : ℕ → Bool} {s : State} {cpu : Cpu} {m :
   value-stands laws i j v lives h =
       let found = read-object s i j v h in
       let o = found.0 in
-      rw (object-shape s i o found.1)
-      (object-stands laws i (length (head_values o.shape) + j) o v lives found.1 (behind-read (head_values o.shape) o.values j ∙ found.2))
+      rw (object_shape s i o found.1)
+      (object_stands laws i (length (head_values o.shape) + j) o v lives found.1 (behind-read (head_values o.shape) o.values j ∙ found.2))
 
   -- the length of an array
   length-stands : HeapLaws → (i : ℕ) (v : Value) → live i ≡ true → option_and_then length_value (slice_get (state.placed_shapes s) i) ≡ Some v
       → Stands m (slice_index (places_of s) i + 4 * 1) (Word (places_of s) v)
   unfolding object_values head_values
   length-stands laws i v lives h =
-      let found = shape-object s i length_value v h in object-stands laws i 1 found.0 v lives found.1 (second found.0.shape found.0.values found.2)
+      let found = shape-object s i length_value v h in object_stands laws i 1 found.0 v lives found.1 (second found.0.shape found.0.values found.2)
     where
       second : (shape : ObjectShape) (values : List Value) → length_value shape ≡ Some v → slice_get (head_values shape ++ values) 1 ≡ Some v
       second (InstanceOf c) values e = absurd cc
@@ -128,7 +128,7 @@ module _ {image : ImageParts} {live : ℕ → Bool} {s : State} {cpu : Cpu} {m :
       → Stands m (slice_index (places_of s) i + 4 * 0) (Word (places_of s) v)
   unfolding object_values head_values
   head-stands laws i v lives h =
-      let found = shape-object s i head_value v h in object-stands laws i 0 found.0 v lives found.1 (first found.0.shape found.0.values found.2)
+      let found = shape-object s i head_value v h in object_stands laws i 0 found.0 v lives found.1 (first found.0.shape found.0.values found.2)
     where
       first : (shape : ObjectShape) (values : List Value) → head_value shape ≡ Some v → slice_get (head_values shape ++ values) 0 ≡ Some v
       first (InstanceOf c) values e = e
@@ -160,7 +160,7 @@ module _ {image : ImageParts} {live : ℕ → Bool} {s : State} {cpu : Cpu} {m :
   spot-stands : HeapLaws → ClassLaws (shapes_of image) → (spot : Spot) (w : ℕ) → SpotLives live spot → spot_word (shapes_of image) s spot ≡ Some w
       → Stands m (spot_place s spot) w
   unfolding spot_word read_spot spot_place
-  spot-stands heap laws (AtStatic j) w lives h = value-word _ w _ h (λ v e. static-stands j v e)
+  spot-stands heap laws (AtStatic j) w lives h = value-word _ w _ h (λ v e. static_stands j v e)
   spot-stands heap laws (AtSlot i) w lives h = value-word _ w _ h (λ v e. slot-stands i v e)
   spot-stands heap laws (AtValue i j) w lives h = value-word _ w _ h (λ v e. value-stands heap i j v lives e)
   spot-stands heap laws (AtLength i) w lives h = value-word _ w _ h (λ v e. length-stands heap i v lives e)

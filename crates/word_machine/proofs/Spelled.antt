@@ -108,10 +108,10 @@ formed : (o : Operand) (s : OperandForm → Spelling) → IsSpelled (with_form (
 formed o s h = shortest_form-spares o (λ e. h (ap (λ f. option_map text (with_form f s)) e))
 
 -- and it is no number
-form-no_number : (o : Operand) (s : OperandForm → Spelling) → IsSpelled (with_form (shortest_form o) s) → IsNoNumber o
-form-no_number (R r) s h = tt
-form-no_number (M m) s h = tt
-form-no_number (I n) s h = absurd (h refl)
+form_no_number : (o : Operand) (s : OperandForm → Spelling) → IsSpelled (with_form (shortest_form o) s) → IsNoNumber o
+form_no_number (R r) s h = tt
+form_no_number (M m) s h = tt
+form_no_number (I n) s h = absurd (h refl)
 
 -- one of two rows is spelled
 split : (t : Bool) (x y : Option Spelling) → IsSpelled (if t then x else y) → (t ≡ true) ⊎ IsSpelled y
@@ -227,7 +227,7 @@ Canonical-plain inst.Nop h = tt
 Canonical-plain (inst.Push o) h = push_of-plain o h
 Canonical-plain (inst.Pop r) h = tt
 Canonical-plain (inst.CallRel z) h = tt
-Canonical-plain (inst.CallAt o) h = (formed o _ h, form-no_number o _ h)
+Canonical-plain (inst.CallAt o) h = (formed o _ h, form_no_number o _ h)
 Canonical-plain inst.Ret h = tt
 Canonical-plain (inst.Jmp z) h = tt
 Canonical-plain (inst.Jcc c z) h = tt
@@ -242,14 +242,14 @@ MayUse image live s x = Unit {0}
 
 module _ (image : ImageParts) (live : ℕ → Bool) (s : State) where
   -- so it is with one operand
-  may-use : (x : Operand) → SparesIndex x → PointsToLiving image live s x → MayUse image live s x
-  may-use (R r) spares lives = tt
-  may-use (M a) spares lives = (spares, lives)
-  may-use (I n) spares lives = tt
+  may_use : (x : Operand) → SparesIndex x → PointsToLiving image live s x → MayUse image live s x
+  may_use (R r) spares lives = tt
+  may_use (M a) spares lives = (spares, lives)
+  may_use (I n) spares lives = tt
 
   -- and with two
   both-used : (d x : Operand) → PairIsPlain SparesIndex d x → PointsToLiving image live s d × PointsToLiving image live s x → PairIsPlain (MayUse image live s) d x
-  both-used d x p lives = record { first = may-use d p.first lives.0; second = may-use x p.second lives.1; one = p.one }
+  both-used d x p lives = record { first = may_use d p.first lives.0; second = may_use x p.second lives.1; one = p.one }
 
   -- and with those of an instruction
   pub plain-used : (i : Inst) → IsPlain SparesIndex i → OperandsLive image live s i → IsPlain (MayUse image live s) i
@@ -257,23 +257,23 @@ module _ (image : ImageParts) (live : ℕ → Bool) (s : State) where
   plain-used (inst.Mov d x) p lives = both-used d x p lives
   plain-used (inst.Lea d x) p lives = tt
   plain-used (inst.Test d x) p lives = both-used d x p lives
-  plain-used (inst.Inc d) p lives = may-use d p lives
-  plain-used (inst.Dec d) p lives = may-use d p lives
-  plain-used (inst.Not d) p lives = may-use d p lives
-  plain-used (inst.Neg d) p lives = may-use d p lives
-  plain-used (inst.Mul x) p lives = may-use x p lives
-  plain-used (inst.Imul1 x) p lives = may-use x p lives
-  plain-used (inst.Div x) p lives = may-use x p lives
-  plain-used (inst.Idiv x) p lives = may-use x p lives
+  plain-used (inst.Inc d) p lives = may_use d p lives
+  plain-used (inst.Dec d) p lives = may_use d p lives
+  plain-used (inst.Not d) p lives = may_use d p lives
+  plain-used (inst.Neg d) p lives = may_use d p lives
+  plain-used (inst.Mul x) p lives = may_use x p lives
+  plain-used (inst.Imul1 x) p lives = may_use x p lives
+  plain-used (inst.Div x) p lives = may_use x p lives
+  plain-used (inst.Idiv x) p lives = may_use x p lives
   plain-used (inst.Imul2 d x) p lives = both-used d x p lives
   plain-used (inst.Imul3 d x n) p lives = both-used d x p lives
-  plain-used (inst.Shift op d by) p lives = may-use d p lives
+  plain-used (inst.Shift op d by) p lives = may_use d p lives
   plain-used inst.Cdq p lives = tt
   plain-used inst.Nop p lives = tt
-  plain-used (inst.Push x) p lives = may-use x p lives
+  plain-used (inst.Push x) p lives = may_use x p lives
   plain-used (inst.Pop r) p lives = tt
   plain-used (inst.CallRel z) p lives = tt
-  plain-used (inst.CallAt x) p lives = (may-use x p.0 lives, p.1)
+  plain-used (inst.CallAt x) p lives = (may_use x p.0 lives, p.1)
   plain-used inst.Ret p lives = tt
   plain-used (inst.Jmp z) p lives = tt
   plain-used (inst.Jcc c z) p lives = tt

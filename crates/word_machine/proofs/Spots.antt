@@ -103,9 +103,9 @@ points-to s known spot sum is at there = subst (λ x. Points s x sum) is (record
 
 module _ (v : ShapesView) (s : State) (spot : Spot) where
   -- a static
-  static-points : (disp : ℕ) → static_spot s disp ≡ Some spot → Points s spot disp
+  static_points : (disp : ℕ) → static_spot s disp ≡ Some spot → Points s spot disp
   unfolding static_spot spot_place
-  static-points disp h =
+  static_points disp h =
       let found = if-index (λ j. nat_lt j (length s.statics)) AtStatic statics_start disp spot h in
       points-to s (AtStatic found.number_is) spot disp found.spot_is found.byte_is tt
 
@@ -155,10 +155,10 @@ module _ (v : ShapesView) (s : State) (spot : Spot) where
       go (Some j) f g = let byte = index-byte 4 disp j f in let is : AtValue i j ≡ spot = cc in value-points i j (InstanceOf c) disp e is (omega arith)
 
   -- the head, a field or the length of an object
-  object-points : (i disp : ℕ) (shape : ObjectShape) → slice_get (placed_shapes s) i ≡ Some shape → object_spot v i shape disp ≡ Some spot
+  object_points : (i disp : ℕ) (shape : ObjectShape) → slice_get (placed_shapes s) i ≡ Some shape → object_spot v i shape disp ≡ Some spot
       → Points s spot (slice_index (places_of s) i + disp)
   unfolding object_spot spot_place
-  object-points i disp (InstanceOf c) e h = go (disp == 0) refl h
+  object_points i disp (InstanceOf c) e h = go (disp == 0) refl h
     where
       go : (b : Bool) → (disp == 0) ≡ b
           → (if b then Some (AtHead i) else (if is_some (field_at v c disp) then option_map (AtValue i) (word_index 4 disp) else None)) ≡ Some spot
@@ -167,7 +167,7 @@ module _ (v : ShapesView) (s : State) (spot : Spot) where
           let none : disp ≡ 0 = grind (arith, nat_tests) in
           points-to s (AtHead i) spot (slice_index (places_of s) i + disp) (cc) (omega arith) tt
       go false f g = field-points i c disp e (is_some (field_at v c disp)) g
-  object-points i disp (ArrayOf k n) e h = go (disp == 4) refl h
+  object_points i disp (ArrayOf k n) e h = go (disp == 4) refl h
     where
       go : (b : Bool) → (disp == 4) ≡ b → (if b then Some (AtLength i) else None) ≡ Some spot → Points s spot (slice_index (places_of s) i + disp)
       go true f g =
@@ -176,11 +176,11 @@ module _ (v : ShapesView) (s : State) (spot : Spot) where
       go false f g = absurd cc
 
   -- an element
-  element-points : (i scale disp : ℕ) (shape : ObjectShape) (index : Value) → slice_get (placed_shapes s) i ≡ Some shape
+  element_points : (i scale disp : ℕ) (shape : ObjectShape) (index : Value) → slice_get (placed_shapes s) i ≡ Some shape
       → element_spot i shape index scale disp ≡ Some spot
       → Points s spot (slice_index (places_of s) i + Word (places_of s) index * 2 ^ scale + disp)
   unfolding element_spot Word head_values
-  element-points i scale disp (ArrayOf k n) (Number j) e h = go (nat_lt j n && ((scale == 2) && (disp == 8))) refl h
+  element_points i scale disp (ArrayOf k n) (Number j) e h = go (nat_lt j n && ((scale == 2) && (disp == 8))) refl h
     where
       go : (b : Bool) → (nat_lt j n && ((scale == 2) && (disp == 8))) ≡ b → (if b then Some (AtValue i j) else None) ≡ Some spot
           → Points s spot (slice_index (places_of s) i + j * 2 ^ scale + disp)
@@ -191,7 +191,7 @@ module _ (v : ShapesView) (s : State) (spot : Spot) where
           let is : AtValue i j ≡ spot = cc in
           rw (two, eight, sum) (value-points i j (ArrayOf k n) (j * 2 ^ 2 + 8) e is (omega arith))
       go false f g = absurd cc
-  element-points i scale disp shape index e h = absurd cc
+  element_points i scale disp shape index e h = absurd cc
 
   -- a spot at the value of a base
   based-points : (w : Value) (x : Option Reg) (scale disp index : ℕ) → ((r : Reg) → x ≡ Some r → index ≡ Word (places_of s) (s.thread.regs r))
@@ -205,13 +205,13 @@ module _ (v : ShapesView) (s : State) (spot : Spot) where
       go None e f = absurd cc
       go (Some shape) e f =
           let sum : slice_index (places_of s) i + 0 * 2 ^ scale + disp ≡ slice_index (places_of s) i + disp = omega arith in
-          rw sum (object-points i disp shape e f)
+          rw sum (object_points i disp shape e f)
   based-points (Ref i) (Some r) scale disp index at none h = rw (at r refl) (go (slice_get (placed_shapes s) i) refl h)
     where
       go : (o : Option ObjectShape) → slice_get (placed_shapes s) i ≡ o → option_and_then (λ shape. element_spot i shape (s.thread.regs r) scale disp) o ≡ Some spot
           → Points s spot (slice_index (places_of s) i + Word (places_of s) (s.thread.regs r) * 2 ^ scale + disp)
       go None e f = absurd cc
-      go (Some shape) e f = element-points i scale disp shape (s.thread.regs r) e f
+      go (Some shape) e f = element_points i scale disp shape (s.thread.regs r) e f
   based-points (Tab c) None scale disp index at none h =
       let sum : table_address c + 0 * 2 ^ scale + disp ≡ table_address c + disp = omega arith in rw (none refl, sum) (table-points c disp h)
   based-points w x scale disp index at none h = absurd cc
@@ -224,7 +224,7 @@ module _ (v : ShapesView) (s : State) (spot : Spot) where
     -- base and index
     located-points : (base index : Option Reg) (scale disp : ℕ) → index ≢ Some Esp → located_spot v s base index scale disp ≡ Some spot
         → Points s spot (part_of base cpu.regs + part_of index cpu.regs * 2 ^ scale + disp)
-    located-points None None scale disp spared h = let sum : 0 + 0 * 2 ^ scale + disp ≡ disp = omega arith in rw sum (static-points disp h)
+    located-points None None scale disp spared h = let sum : 0 + 0 * 2 ^ scale + disp ≡ disp = omega arith in rw sum (static_points disp h)
     located-points None (Some x) scale disp spared h = absurd cc
     located-points (Some r) index scale disp spared h = go (same r Esp) refl h
       where

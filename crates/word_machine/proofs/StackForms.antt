@@ -30,10 +30,10 @@ use Rattle.word_machine.specs.Memory.{MemoryView}
 use Rattle.word_machine.specs.Standing.{MemoryStands}
 use Rattle.word_machine.specs.Laws.{WordChanges, PushLaw, DropLaw}
 use Rattle.word_machine.proofs.Telling.{there, same-told, written-told}
-use Rattle.word_machine.proofs.Grounding.{words_over, next, thread-stands, same-stands, Begins, current-few}
+use Rattle.word_machine.proofs.Grounding.{words_over, next, thread_stands, same-stands, Begins, current-few}
 use Rattle.word_machine.proofs.OperandWords.{register-written, value-there, value-word}
-use Rattle.word_machine.proofs.Forms.{let-in}
-use Rattle.word_machine.proofs.Leaving.{ran-on, StepOf}
+use Rattle.word_machine.proofs.Forms.{let_in}
+use Rattle.word_machine.proofs.Leaving.{ran_on, StepOf}
 
 -- ---- ESP
 
@@ -76,14 +76,14 @@ module _ {image : ImageParts} {live : ℕ → Bool} {s : State} {cpu : Cpu} {m :
         reaches = ((value-there b x w b.plain value).reached, rw low law.there);
         runs = refl;
         leaves = λ ran after r.
-            let on = ran-on i len (words_over s m) m ran after refl r in
+            let on = ran_on i len (words_over s m) m ran after refl r in
             let written : WordChanges m after (esp_of s - 4) (Word (places_of s) w) =
             written-told b.laws.heap m after g.stand.memory.blocks.formed on.formed (esp_of s - 4) (Word (places_of s) w) law.there (λ a. rw (low, word) at (on.words a)) on.mapped in (
               at_place (next s len) (with_values (w ∷ s.values) s),
               refl,
               record {
                 processor = record { regs = rw (low, under.1) at on.regs; flags = on.flags; place = on.place };
-                memory = thread-stands (law.pushed w after written) _;
+                memory = thread_stands (law.pushed w after written) _;
               },
             );
       }
@@ -101,10 +101,10 @@ module _ {image : ImageParts} {live : ℕ → Bool} {s : State} {cpu : Cpu} {m :
       go (Some w) e h = rw (not-full s room) (pushed-step x w b room e)
 
   -- POP of this value
-  popped-step : (r : Reg) (w : Value) (vs : List Value) → Begins image live s cpu m (inst.Pop r) len → s.values ≡ w ∷ vs → same r Esp ≡ false
+  popped_step : (r : Reg) (w : Value) (vs : List Value) → Begins image live s cpu m (inst.Pop r) len → s.values ≡ w ∷ vs → same r Esp ≡ false
       → StepOf image live s m (inst.Pop r) len (Some (goes_on (next s len) (with_register r w (with_values vs s))))
   unfolding words_of next_address
-  popped-step r w vs b values spared =
+  popped_step r w vs b values spared =
       let i = inst.Pop r in
       let g = b.grounds in
       let law : DropLaw image live s m = b.laws.drops image live s cpu m g in
@@ -117,7 +117,7 @@ module _ {image : ImageParts} {live : ℕ → Bool} {s : State} {cpu : Cpu} {m :
         reaches = law.there w vs values;
         runs = refl;
         leaves = λ ran after r'.
-            let on = ran-on i len (words_over s m) m ran after refl r' in
+            let on = ran_on i len (words_over s m) m ran after refl r' in
             let kept = same-stands left after (same-told b.laws.heap m after g.stand.memory.blocks.formed on.formed on.words on.mapped) in (
               at_place (next s len) (with_register r w (with_values vs s)),
               refl,
@@ -127,7 +127,7 @@ module _ {image : ImageParts} {live : ℕ → Bool} {s : State} {cpu : Cpu} {m :
                   flags = on.flags;
                   place = on.place;
                 };
-                memory = thread-stands kept _;
+                memory = thread_stands kept _;
               },
             );
       }
@@ -140,7 +140,7 @@ module _ {image : ImageParts} {live : ℕ → Bool} {s : State} {cpu : Cpu} {m :
           → (t : Bool) → same r Esp ≡ t → (if t then None else Some (goes_on (next s len) (with_register r w (with_values vs s)))) ≢ None
           → StepOf image live s m (inst.Pop r) len (if t then None else Some (goes_on (next s len) (with_register r w (with_values vs s))))
       at w vs values true e h = absurd (h refl)
-      at w vs values false e h = popped-step r w vs b values e
+      at w vs values false e h = popped_step r w vs b values e
 
       go : (vs : List Value) → s.values ≡ vs → pops (next s len) r vs s ≢ None → StepOf image live s m (inst.Pop r) len (pops (next s len) r vs s)
       go [] values h = absurd (h refl)
@@ -184,13 +184,13 @@ module _ {image : ImageParts} {live : ℕ → Bool} {s : State} {cpu : Cpu} {m :
         reaches = (tt, tt);
         runs = refl;
         leaves = λ ran after r.
-            let on = ran-on i len (words_over s m) m ran after refl r in
+            let on = ran_on i len (words_over s m) m ran after refl r in
             let kept = same-stands (law.dropped k some) after (same-told b.laws.heap m after g.stand.memory.blocks.formed on.formed on.words on.mapped) in (
               _,
               refl,
               record {
                 processor = record { regs = on.regs ∙ ap (register_words (places_of s) s.thread.regs) up; flags = on.flags; place = on.place };
-                memory = thread-stands kept _;
+                memory = thread_stands kept _;
               },
             );
       }
@@ -205,5 +205,5 @@ module _ {image : ImageParts} {live : ℕ → Bool} {s : State} {cpu : Cpu} {m :
           → StepOf image live s m (inst.Alu alu.Add (R Esp) (I bytes)) len (drops s (inst.Alu alu.Add (R Esp) (I bytes)) (next s len) o)
       go None e h = absurd (h refl)
       go (Some k) e h =
-          let above = let-in (has_above k s.values) _ h in
+          let above = let_in (has_above k s.values) _ h in
           rw above (dropped-step bytes k b (slots-bytes bytes k e) (above-least k s.values above))

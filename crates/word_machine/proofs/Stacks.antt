@@ -21,7 +21,7 @@ use Rattle.word_machine.specs.Standing.{HoldsValues, kept_values, values_at, IsI
 use Rattle.word_machine.specs.Following.{Grounds}
 use Rattle.word_machine.specs.Laws.{WordChanges, PushLaw, DropLaw}
 use Rattle.word_machine.proofs.Holding.{Outside, Change, holds-pushed, holds-dropped}
-use Rattle.word_machine.proofs.Changing.{StackHolds, tables-kept, descriptors-kept, room-kept, blocks-kept, statics-kept, object-kept, stack-kept}
+use Rattle.word_machine.proofs.Changing.{StackHolds, tables-kept, descriptors_kept, room-kept, blocks-kept, statics-kept, object_kept, stack_kept}
 use Rattle.word_machine.proofs.Bounds.{few-stacks, runs-there}
 
 -- what holds of a stack's values holds of them where the running stack has others, if it holds of those
@@ -44,26 +44,26 @@ same-lie image live s values lie = record { short = lie.short; aligned = lie.ali
 
 module _ {image : ImageParts} {live : ℕ → Bool} {s : State} {cpu : Cpu} {m : MemoryView} (g : Grounds image live s cpu m) where
   -- the values of the running stack
-  pub running-values : values_at s s.current ≡ s.values
+  pub running_values : values_at s s.current ≡ s.values
   unfolding values_at
-  running-values = let e : (s.current == s.current) ≡ true = grind (arith, nat_tests) in rw e refl
+  running_values = let e : (s.current == s.current) ≡ true = grind (arith, nat_tests) in rw e refl
 
   -- their words
-  pub running-holds : HoldsValues m (places_of s) (esp_of s) s.values
-  running-holds = subst (λ values. StackHolds m s s.current values) running-values (g.stand.memory.stacks s.current (runs-there g))
+  pub running_holds : HoldsValues m (places_of s) (esp_of s) s.values
+  running_holds = subst (λ values. StackHolds m s s.current values) running_values (g.stand.memory.stacks s.current (runs-there g))
 
   module _ (laws : ClassLaws (shapes_of image)) {after : MemoryView} {a w : ℕ} (c : Change m after a w) where
     -- where a word of the running stack changed, the memory stands for other values of this stack if their words are there
-    pub stack-written : (values : List Value) → stacks_start + 16384 * s.current ≤ a → a < stacks_start + 16384 * (s.current + 1) → StackHolds after s s.current values
+    pub stack_written : (values : List Value) → stacks_start + 16384 * s.current ≤ a → a < stacks_start + 16384 * (s.current + 1) → StackHolds after s s.current values
         → MemoryStands image live (with_values values s) after
-    stack-written values low high holds =
+    stack_written values low high holds =
         let memory = g.stand.memory in
         record {
           tables = tables-kept g c laws (omega arith);
-          descriptors = descriptors-kept g c laws (omega arith);
+          descriptors = descriptors_kept g c laws (omega arith);
           statics = let short = memory.lie.short in statics-kept g c (inr (omega arith));
-          objects = λ i o lives there. object-kept g c i o lives there (apart i o (memory.lie.inside i o lives there));
-          stacks = λ n there. stacks-with (StackHolds after s) s values n (λ is. rw is holds) (λ other. stack-kept g c n there (beside n other));
+          objects = λ i o lives there. object_kept g c i o lives there (apart i o (memory.lie.inside i o lives there));
+          stacks = λ n there. stacks-with (StackHolds after s) s values n (λ is. rw is holds) (λ other. stack_kept g c n there (beside n other));
           room = room-kept g c;
           lie = same-lie image live s _ memory.lie;
           blocks = let few = few-stacks g in let there = runs-there g in blocks-kept g c (omega arith);
@@ -89,8 +89,8 @@ module _ {image : ImageParts} {live : ℕ → Bool} {s : State} {cpu : Cpu} {m :
             let c : Change m after (esp_of s - 4) (Word (places_of s) v) = record { written = written } in
             let base : esp_of s ≡ esp_of s - 4 + 4 = omega arith in
             let grown : stack_pointer s.current (length (v ∷ s.values)) ≡ esp_of s - 4 = omega arith in
-            stack-written laws c (v ∷ s.values) (omega arith) (omega arith)
-            (rw grown (holds-pushed c (places_of s) (esp_of s) s.values running-holds v base refl));
+            stack_written laws c (v ∷ s.values) (omega arith) (omega arith)
+            (rw grown (holds-pushed c (places_of s) (esp_of s) s.values running_holds v base refl));
       }
 
   -- values are dropped
@@ -113,7 +113,7 @@ module _ {image : ImageParts} {live : ℕ → Bool} {s : State} {cpu : Cpu} {m :
           let fewer = length-drop n s.values in
           let room = g.typed.thread.room in
           let up : stack_pointer s.current (length (drop n s.values)) ≡ esp_of s + 4 * n = omega arith in
-          rw up (holds-dropped m (places_of s) (esp_of s) n s.values running-holds)
+          rw up (holds-dropped m (places_of s) (esp_of s) n s.values running_holds)
 
   -- the law
   pub values-dropped : DropLaw image live s m
@@ -123,7 +123,7 @@ module _ {image : ImageParts} {live : ℕ → Bool} {s : State} {cpu : Cpu} {m :
         let runs = runs-there g in
         let depth : length s.values ≡ length (v ∷ vs) = ap length is in
         g.stand.memory.room (esp_of s) (omega arith) (omega arith) (omega arith);
-    top = λ v vs is. let same : esp_of s ≡ esp_of s + 4 * 0 = omega arith in rw same (running-holds 0 v (rw is refl));
+    top = λ v vs is. let same : esp_of s ≡ esp_of s + 4 * 0 = omega arith in rw same (running_holds 0 v (rw is refl));
     dropped = dropped;
   }
 
@@ -141,9 +141,9 @@ unfolding values_at kept_values
 empty-free image live s m well_typed typed memory laws n empty w after written =
     record {
       tables = tables-kept g c laws (omega arith);
-      descriptors = descriptors-kept g c laws (omega arith);
+      descriptors = descriptors_kept g c laws (omega arith);
       statics = let short = memory.lie.short in statics-kept g c (inr (omega arith));
-      objects = λ i o lives here. object-kept g c i o lives here (apart i o (memory.lie.inside i o lives here));
+      objects = λ i o lives here. object_kept g c i o lives here (apart i o (memory.lie.inside i o lives here));
       stacks = λ k inside. at k inside (k == n) refl;
       room = room-kept g c;
       lie = memory.lie;
@@ -180,4 +180,4 @@ empty-free image live s m well_typed typed memory laws n empty w after written =
     at k inside true e = let same : k ≡ n = grind (arith, nat_tests) in rw (same, none) (λ j v h. absurd (cc))
     at k inside false e =
         let differ : k ≢ n = grind (arith, nat_tests) in
-        stack-kept g c k inside (⊎_elim (λ (l : k < n). inr (omega arith)) (λ (l : n ≤ k). inl (omega arith)) (cases_lt k n))
+        stack_kept g c k inside (⊎_elim (λ (l : k < n). inr (omega arith)) (λ (l : n ≤ k). inl (omega arith)) (cases_lt k n))

@@ -11,8 +11,8 @@ use Rattle.object_layout.specs.Areas.{heap_start}
 use Rattle.word_machine.specs.Memory.{MemoryView, word_in, word_of, is_object_word, heap_allows, is_mapped, memory_word}
 use Rattle.word_machine.specs.Laws.{WordChanges, WriteLeaves}
 use Rattle.word_machine.specs.Stepping.{HeapLaws}
-use Rattle.word_machine.proofs.Areas.{is_within, word_put, in_heap, mapped-word, mapped-through, there_in_heap, low-mapped, heap-object, heap_there}
-use Rattle.word_machine.proofs.Heaps.{object-inside, object-is-word, set-formed, same-heap}
+use Rattle.word_machine.proofs.Areas.{is_within, word_put, in_heap, mapped-word, mapped-through, there_in_heap, low-mapped, heap_object, heap_there}
+use Rattle.word_machine.proofs.Heaps.{object_inside, object_is_word, set-formed, same-heap}
 
 -- ---- one address
 
@@ -46,9 +46,9 @@ high-word : (m : MemoryView) (a : ℕ) → heap_start ≤ a → word_of m a ≡ 
 unfolding word_of
 high-word m a high = let e : nat_le heap_start a ≡ true = grind (arith, nat_tests) in rw e refl
 
-heap-word : (m : MemoryView) (k : ℕ) → memory_word m (heap_start + 4 * k) ≡ slice_index m.heap k
+word_in_heap : (m : MemoryView) (k : ℕ) → memory_word m (heap_start + 4 * k) ≡ slice_index m.heap k
 unfolding memory_word
-heap-word m k = rw (heap_there m k) (unwrapped (slice_get m.heap k) ∙ unwrap_or-slice_get m.heap k 0)
+word_in_heap m k = rw (heap_there m k) (unwrapped (slice_get m.heap k) ∙ unwrap_or-slice_get m.heap k 0)
   where
     unwrapped : (o : Option ℕ) → option_map_or (λ n. n) o 0 ≡ Rattle.std.specs.Option.unwrap_or o 0
     unwrapped None = refl
@@ -59,7 +59,7 @@ heap-word m k = rw (heap_there m k) (unwrapped (slice_get m.heap k) ∙ unwrap_o
 module _ (laws : HeapLaws) (m after : MemoryView) (formed : FormedHeap m.heap) (formed_after : FormedHeap after.heap) where
   -- where nothing changes, the heap stays
   pub same-heap-told : ((a : ℕ) → memory_word after a ≡ memory_word m a) → after.heap ≡ m.heap
-  same-heap-told words = same-heap laws after.heap m.heap formed_after formed (λ k. sym (heap-word after k) ∙ words (heap_start + 4 * k) ∙ heap-word m k)
+  same-heap-told words = same-heap laws after.heap m.heap formed_after formed (λ k. sym (word_in_heap after k) ∙ words (heap_start + 4 * k) ∙ word_in_heap m k)
 
   -- and each word
   pub same-told : ((a : ℕ) → memory_word after a ≡ memory_word m a) → ((a : ℕ) → is_mapped after a ≡ is_mapped m a) → (a : ℕ) → word_of after a ≡ word_of m a
@@ -99,7 +99,7 @@ module _ (laws : HeapLaws) (m after : MemoryView) (formed : FormedHeap m.heap) (
         heap : after.heap ≡ m.heap
         heap = same-heap laws after.heap m.heap formed_after formed (λ k.
             let t : (heap_start + 4 * k == a) ≡ false = grind (arith, nat_tests) in
-            sym (heap-word after k) ∙ (rw t at (words (heap_start + 4 * k))) ∙ heap-word m k)
+            sym (word_in_heap after k) ∙ (rw t at (words (heap_start + 4 * k))) ∙ word_in_heap m k)
 
     -- a write in it
     high-written : heap_start ≤ a → WordChanges m after a w
@@ -112,23 +112,23 @@ module _ (laws : HeapLaws) (m after : MemoryView) (formed : FormedHeap m.heap) (
         at = (is_within heap_start m.heap a (there_in_heap m a here high)).whole
 
         object : is_object_word m.heap k ≡ true
-        object = heap-object m a here high
+        object = heap_object m a here high
 
         few : k < length m.heap
-        few = object-inside laws m.heap formed k object
+        few = object_inside laws m.heap formed k object
 
         is : IsObjectWord m.heap k
-        is = object-is-word laws m.heap formed k object
+        is = object_is_word laws m.heap formed k object
 
         each : (j : ℕ) → (t : Bool) → (j == k) ≡ t → slice_index after.heap j ≡ slice_index (slice_set m.heap k w) j
         each j true t =
             let same : j ≡ k = grind (arith, nat_tests) in
             let here : (heap_start + 4 * j == a) ≡ true = grind (arith, nat_tests, at) in
-            sym (heap-word after j) ∙ (rw here at (words (heap_start + 4 * j))) ∙ (rw same (sym (get_or-set_same m.heap k w 0 few)))
+            sym (word_in_heap after j) ∙ (rw here at (words (heap_start + 4 * j))) ∙ (rw same (sym (get_or-set_same m.heap k w 0 few)))
         each j false t =
             let other : j ≢ k = grind (arith, nat_tests) in
             let there : (heap_start + 4 * j == a) ≡ false = grind (arith, nat_tests, at) in
-            sym (heap-word after j) ∙ (rw there at (words (heap_start + 4 * j))) ∙ heap-word m j ∙ sym (get_or-set_other m.heap k j w 0 other)
+            sym (word_in_heap after j) ∙ (rw there at (words (heap_start + 4 * j))) ∙ word_in_heap m j ∙ sym (get_or-set_other m.heap k j w 0 other)
 
         heap : after.heap ≡ slice_set m.heap k w
         heap = same-heap laws after.heap (slice_set m.heap k w) formed_after (set-formed laws m.heap k w is formed) (λ j. each j (j == k) refl)
@@ -150,8 +150,8 @@ put-in-heap laws m words a w here high there object formed is blocks after = rec
   heap = inr (record {
     index = (a - heap_start) / 4;
     word = w;
-    object = object-is-word laws m.heap formed ((a - heap_start) / 4) object;
-    inside = object-inside laws m.heap formed ((a - heap_start) / 4) object;
+    object = object_is_word laws m.heap formed ((a - heap_start) / 4) object;
+    inside = object_inside laws m.heap formed ((a - heap_start) / 4) object;
     is = is;
   });
 }

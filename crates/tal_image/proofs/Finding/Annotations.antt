@@ -8,7 +8,7 @@ use Rattle.tal_image.specs.Image.{BlockPart}
 use Rattle.object_layout.specs.Areas.{code_start}
 use Rattle.tal_image.specs.Kept.{RisesBy, IsAtKey}
 use Rattle.tal_image.specs.Shown.{block_in, mark_in}
-use Rattle.tal_image.proofs.Finding.KeyedRows.{first_with, first_with-found, first_with-missing}
+use Rattle.tal_image.proofs.Finding.KeyedRows.{first_with, first_with_found, first_with_missing}
 
 -- what a block tells, and a mark
 abbrev told_by_block : BlockPart → ContextView
@@ -55,21 +55,21 @@ module _ (bs : List BlockPart) (pc n : ℕ) (from : code_start ≤ pc) (is : n �
   pub block_in-at : (i : ℕ) (b : BlockPart) → RisesBy (λ (b : BlockPart). b.offset) bs → b ≡ get_or bs i b → IsAtKey (λ (b : BlockPart). b.offset) bs n (Some i) → block_in pc bs ≡ Some (told_by_block b)
   block_in-at i b rising read found =
       ap (λ a. block_in a bs) (place pc n from is) ∙ block_in-first n bs
-      ∙ first_with-found (λ (b : BlockPart). b.offset) told_by_block n bs i b rising found.0 (found.1 b) ∙ ap (λ x. Some (told_by_block x)) (sym read)
+      ∙ first_with_found (λ (b : BlockPart). b.offset) told_by_block n bs i b rising found.0 (found.1 b) ∙ ap (λ x. Some (told_by_block x)) (sym read)
 
   -- where none was found there is none
   pub block_in-nowhere : IsAtKey (λ (b : BlockPart). b.offset) bs n None → block_in pc bs ≡ None
   block_in-nowhere missing =
-      ap (λ a. block_in a bs) (place pc n from is) ∙ block_in-first n bs ∙ first_with-missing (λ (b : BlockPart). b.offset) told_by_block n bs missing
+      ap (λ a. block_in a bs) (place pc n from is) ∙ block_in-first n bs ∙ first_with_missing (λ (b : BlockPart). b.offset) told_by_block n bs missing
 
 module _ (ms : List MarkPart) (pc n : ℕ) (from : code_start ≤ pc) (is : n ≡ pc - code_start) where
   -- the mark that was found is the one at the address
   pub mark_in-at : (i : ℕ) (m : MarkPart) → RisesBy (λ (m : MarkPart). m.offset) ms → m ≡ get_or ms i m → IsAtKey (λ (m : MarkPart). m.offset) ms n (Some i) → mark_in pc ms ≡ Some (record { tag = m.tag; index = m.index })
   mark_in-at i m rising read found =
       ap (λ a. mark_in a ms) (place pc n from is) ∙ mark_in-first n ms
-      ∙ first_with-found (λ (m : MarkPart). m.offset) told_by_mark n ms i m rising found.0 (found.1 m) ∙ ap (λ x. Some (told_by_mark x)) (sym read)
+      ∙ first_with_found (λ (m : MarkPart). m.offset) told_by_mark n ms i m rising found.0 (found.1 m) ∙ ap (λ x. Some (told_by_mark x)) (sym read)
 
   -- where none was found there is none
   pub mark_in-nowhere : IsAtKey (λ (m : MarkPart). m.offset) ms n None → mark_in pc ms ≡ None
   mark_in-nowhere missing =
-      ap (λ a. mark_in a ms) (place pc n from is) ∙ mark_in-first n ms ∙ first_with-missing (λ (m : MarkPart). m.offset) told_by_mark n ms missing
+      ap (λ a. mark_in a ms) (place pc n from is) ∙ mark_in-first n ms ∙ first_with_missing (λ (m : MarkPart). m.offset) told_by_mark n ms missing

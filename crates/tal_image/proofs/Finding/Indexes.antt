@@ -203,13 +203,13 @@ begun_by-owner a (f ∷ fs) address some = by_case (begun_by-owner (a + f.length
 
 module _ (a : Inside) (k : KeepsImage a) (pc o : ℕ) (place : pc ≡ code_start + o) where
   -- what an image keeps of a byte's owner is the function that has it
-  pub owner-there : (n : ℕ) → o < length a.owners.items → n ≡ get_or a.owners.items o n → (n < length a.rows.functions.items) × (span_of pc (spans code_start a.rows.functions.items) ≡ slice_get (spans code_start a.rows.functions.items) n)
-  owner-there n within is =
+  pub owner_there : (n : ℕ) → o < length a.owners.items → n ≡ get_or a.owners.items o n → (n < length a.rows.functions.items) × (span_of pc (spans code_start a.rows.functions.items) ≡ slice_get (spans code_start a.rows.functions.items) n)
+  owner_there n within is =
       let fs = a.rows.functions.items in
       let has = owned code_start 0 fs o n (rw (← k.owners) within) (subst (λ l. n ≡ get_or l o n) k.owners is) in
       let first : n - 0 ≡ n = omega arith in
       (omega (arith, has.1), rw place (subst (λ i. span_of (code_start + o) (spans code_start fs) ≡ slice_get (spans code_start fs) i) first has.2))
 
   -- where it keeps none there is none
-  pub owner-nowhere : length a.owners.items ≤ o → span_of pc (spans code_start a.rows.functions.items) ≡ None
-  owner-nowhere past = rw place (unowned code_start 0 a.rows.functions.items o (rw (← k.owners) past))
+  pub owner_nowhere : length a.owners.items ≤ o → span_of pc (spans code_start a.rows.functions.items) ≡ None
+  owner_nowhere past = rw place (unowned code_start 0 a.rows.functions.items o (rw (← k.owners) past))

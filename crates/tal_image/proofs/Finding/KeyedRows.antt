@@ -14,24 +14,24 @@ module _ {A B : Type 0} (key : A → ℕ) (f : A → B) (n : ℕ) where
   first_with (x ∷ xs) = if key x == n then Some (f x) else first_with xs
 
 -- where keys rise, the row at a place is the first with its key
-pub first_with-found : {A B : Type 0} (key : A → ℕ) (f : A → B) (n : ℕ) (xs : List A) (i : ℕ) (d : A) → RisesBy key xs → i < length xs → key (get_or xs i d) ≡ n → first_with key f n xs ≡ Some (f (get_or xs i d))
+pub first_with_found : {A B : Type 0} (key : A → ℕ) (f : A → B) (n : ℕ) (xs : List A) (i : ℕ) (d : A) → RisesBy key xs → i < length xs → key (get_or xs i d) ≡ n → first_with key f n xs ≡ Some (f (get_or xs i d))
 unfolding first_with
-first_with-found key f n [] i d rising within at = absurd (omega arith)
-first_with-found key f n (x ∷ xs) zero d rising within at =
+first_with_found key f n [] i d rising within at = absurd (omega arith)
+first_with_found key f n (x ∷ xs) zero d rising within at =
     let hit : nat_eq (key x) n ≡ true = grind (arith, nat_tests) in rw hit refl
-first_with-found key f n (x ∷ xs) (suc i) d rising within at =
+first_with_found key f n (x ∷ xs) (suc i) d rising within at =
     let before : key x < key (get_or xs i d) = rising 0 (suc i) d (omega arith) within in
     let miss : nat_eq (key x) n ≡ false = grind (arith, nat_tests) in
-    rw miss (first_with-found key f n xs i d (λ j k e b w. rising (suc j) (suc k) e (omega arith) (omega arith)) (omega arith) at)
+    rw miss (first_with_found key f n xs i d (λ j k e b w. rising (suc j) (suc k) e (omega arith) (omega arith)) (omega arith) at)
 
 -- where no row has the key, there is none
-pub first_with-missing : {A B : Type 0} (key : A → ℕ) (f : A → B) (n : ℕ) (xs : List A) → ((i : ℕ) (d : A) → i < length xs → key (get_or xs i d) ≢ n) → first_with key f n xs ≡ None
+pub first_with_missing : {A B : Type 0} (key : A → ℕ) (f : A → B) (n : ℕ) (xs : List A) → ((i : ℕ) (d : A) → i < length xs → key (get_or xs i d) ≢ n) → first_with key f n xs ≡ None
 unfolding first_with
-first_with-missing key f n [] differs = refl
-first_with-missing key f n (x ∷ xs) differs =
+first_with_missing key f n [] differs = refl
+first_with_missing key f n (x ∷ xs) differs =
     let other : key x ≢ n = differs 0 x (omega arith) in
     let miss : nat_eq (key x) n ≡ false = grind (arith, nat_tests) in
-    rw miss (first_with-missing key f n xs (λ i d w. differs (suc i) d (omega arith)))
+    rw miss (first_with_missing key f n xs (λ i d w. differs (suc i) d (omega arith)))
 
 -- each key is at least what the rows before allow
 at_least : {A : Type 0} (key : A → ℕ) (step : ℕ → A → ℕ) (Is : ℕ → ℕ → A → Type 0) → ((least : ℕ) (x : A) → step least x ≡ key x + 1) → ((later least : ℕ) (x : A) → Is later least x → least ≤ key x) → (least : ℕ) (xs : List A) → EachAfter step Is least xs → (i : ℕ) (d : A) → i < length xs → least ≤ key (get_or xs i d)

@@ -4,7 +4,7 @@ use Rattle.word_machine.specs.Memory.{MemoryView}
 use Rattle.heap_changes.specs.Laws.{with_heap}
 use Rattle.heap_calls.specs.Telling.{CollectionTold}
 use Rattle.heap_calls.proofs.AtCalls.{caller-walked, others-walkable, words-good}
-use Rattle.heap_calls.proofs.Collecting.{collection-told}
+use Rattle.heap_calls.proofs.Collecting.{collection_told}
 use Rattle.heap_calls.proofs.entries.collect_at_call.Goals as goal
 
 pub new-roots-requires-clause-walked : goal.new-roots-requires-clause-walked
@@ -31,7 +31,7 @@ returns-clause-told c = λ image live s t f.
     let listed : c.new-roots.result ≡ root_words c.args.marks.now c.args.memory.now.statics c.args.frames.now c.args.memory.now.stacks c.args.stacks.now c.args.esp c.args.next =
     rw (c.deref.ensures.value ∙ ap (λ (m : MemoryView). m.statics) c.memory.view_is, c.deref-2.ensures.value ∙ ap (λ (m : MemoryView). m.stacks) c.memory.view_is)
     at c.new-roots.ensures in
-    let told = collection-told f c.roots_are_exact.ensures c.typed_roots_refer.ensures c.collections_stand.ensures c.free_words_are_counted.ensures c.heap_is_replaced.ensures
+    let told = collection_told f c.roots_are_exact.ensures c.typed_roots_refer.ensures c.collections_stand.ensures c.free_words_are_counted.ensures c.heap_is_replaced.ensures
     c.collect_and_count.result c.collect_and_count.new.heap c.collect_and_count.ensures.formed (rw (heap, listed) at c.collect_and_count.ensures.collected)
     (rw (heap, listed) at c.collect_and_count.ensures.counted) in
     subst (λ (m : MemoryView). CollectionTold image c.args.next s c.collect_and_count.result m) (sym (ap (with_heap c.collect_and_count.new.heap) c.memory.view_is)) told

@@ -1,5 +1,5 @@
-use Rattle.heap_changes.proofs.Replacing.{heap-replaced}
+use Rattle.heap_changes.proofs.Replacing.{heap_replaced}
 use Rattle.heap_changes.proofs.laws.heap_is_replaced.Goals as goal
 
 pub returns : goal.returns
-returns c = heap-replaced c.block_laws.ensures c.formed_shapes.ensures
+returns c = heap_replaced c.block_laws.ensures c.formed_shapes.ensures

@@ -1,11 +1,11 @@
-use Rattle.mark_sweep.proofs.Collects.{all_good-kept, collects, keeps-only, apart-only}
+use Rattle.mark_sweep.proofs.Collects.{all_good_kept, collects, keeps-only, apart-only}
 use Rattle.mark_sweep.proofs.Keeping.{blocks-sym}
 use Rattle.mark_sweep.proofs.Sweeps.{keeps-trans}
 use Rattle.mark_sweep.proofs.collecting.collect.Goals as goal
 
 pub mark-requires-clause-good : goal.mark-requires-clause-good
 mark-requires-clause-good g c =
-    all_good-kept c.block_laws.ensures _ _ _ _
+    all_good_kept c.block_laws.ensures _ _ _ _
     (c.block_laws.ensures.headers.formed _ _ (blocks-sym _ _ c.clear_marks.ensures.kept.blocks) c.clear_marks.ensures.formed) c.clear_marks.ensures.kept c.requires.good
 
 pub returns-clause-collected : goal.returns-clause-collected

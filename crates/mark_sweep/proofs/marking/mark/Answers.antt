@@ -1,12 +1,12 @@
 use Rattle.std.proofs.Common.{arith, ◌<◌, ◌≤◌}
 use Rattle.mark_sweep.specs.Marking.{left}
 use Rattle.mark_sweep.proofs.Keeping.{kept-refl}
-use Rattle.mark_sweep.proofs.Steps.{good-placed}
+use Rattle.mark_sweep.proofs.Steps.{good_placed}
 use Rattle.mark_sweep.proofs.Scanning.{taken, waits-none}
 use Rattle.mark_sweep.proofs.marking.mark.Goals as goal
 
 pub mark_listed-first-requires-clause-placed : goal.mark_listed-first-requires-clause-placed
-mark_listed-first-requires-clause-placed g c = λ w m. good-placed _ _ _ w (kept-refl _) (c.requires.good.roots w m)
+mark_listed-first-requires-clause-placed g c = λ w m. good_placed _ _ _ w (kept-refl _) (c.requires.good.roots w m)
 
 pub waiting-init : goal.waiting-init
 waiting-init g c = record { waits = c.mark_listed-first.ensures.waits _ c.requires.good; formed = c.mark_listed-first.ensures.formed }

@@ -1,10 +1,10 @@
 use Rattle.std.proofs.Common.{arith}
 use Rattle.heap_words.specs.Blocks.{Begins}
-use Rattle.mark_sweep.proofs.Sweeps.{at_block, step_fits, clearing-first, clearing-step}
+use Rattle.mark_sweep.proofs.Sweeps.{at_block, step_fits, clearing_first, clearing_step}
 use Rattle.mark_sweep.proofs.passes.clear_marks.Goals as goal
 
 pub loop-at-init : goal.loop-at-init
-loop-at-init c = clearing-first c.block_laws.ensures _ c.size-size.ensures.formed
+loop-at-init c = clearing_first c.block_laws.ensures _ c.size-size.ensures.formed
 
 pub block_size-at-requires : goal.block_size-at-requires
 block_size-at-requires c =
@@ -28,5 +28,5 @@ loop-at-preserved c =
     let n = c.loop-at.invariant.kept.blocks.size in
     let b : Begins c.loop-at.heap c.loop-at.at = at_block _ _ c.loop-at.invariant.stands (omega (arith, n, c.size-size.ensures.size)) in
     rw c.block_size-at.ensures.size
-    (clearing-step c.block_laws.ensures _ _ _ _ _ c.loop-at.invariant b c.set_marked.ensures.words c.set_marked.ensures.same
+    (clearing_step c.block_laws.ensures _ _ _ _ _ c.loop-at.invariant b c.set_marked.ensures.words c.set_marked.ensures.same
     c.set_marked.ensures.used c.set_marked.ensures.marked c.set_marked.ensures.formed)

@@ -1,6 +1,6 @@
 use Rattle.std.proofs.Common.{ap, sym, ◌∙◌}
 use Rattle.tal_flow.specs.Edges.{target_of}
-use Rattle.tal_flow.proofs.EdgeRules.{dead-context, jump-branches, taken-branches, dead-branches, nowhere-branches}
+use Rattle.tal_flow.proofs.EdgeRules.{dead-context, jump_branches, taken-branches, dead-branches, nowhere-branches}
 use Rattle.tal_flow.proofs.flowing.edge.Goals as goal
 
 pub returns-then-context : goal.returns-then-context
@@ -8,7 +8,7 @@ returns-then-context g c = dead-branches _ c.args.context.now c.args.form.now c.
 
 pub returns-in-Jump : goal.returns-in-Jump
 unfolding target_of
-returns-in-Jump g c = (ap target_of c.in-Jump.is, jump-branches _ c.args.context.now c.args.form.now _ c.if-context.false c.in-Jump.is, c.if-context.false)
+returns-in-Jump g c = (ap target_of c.in-Jump.is, jump_branches _ c.args.context.now c.args.form.now _ c.if-context.false c.in-Jump.is, c.if-context.false)
 
 pub returns-then-taken : goal.returns-then-taken
 returns-then-taken g c =

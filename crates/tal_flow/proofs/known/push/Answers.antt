@@ -1,5 +1,5 @@
 use Rattle.std.proofs.Common.{refl, arith}
-use Rattle.tal_flow.proofs.Fields.{same_live, take-pushed, junk-pushed, depth-of}
+use Rattle.tal_flow.proofs.Fields.{same_live, take-pushed, junk_pushed, depth-of}
 use Rattle.tal_flow.proofs.known.push.Goals as goal
 
 pub overflow_add-context : goal.overflow_add-context
@@ -13,7 +13,7 @@ invariant_of-context-clause-shallow c =
 pub invariant_of-context-clause-no_more_slots : goal.invariant_of-context-clause-no_more_slots
 invariant_of-context-clause-no_more_slots c = λ k l.
     let made = c.shift_up.ensures in
-    junk-pushed c.shift_up.new.slots c.args.context.now.slots c.args.context.now.depth k made.long made.given made.rest c.args.context.now.no_more_slots l
+    junk_pushed c.shift_up.new.slots c.args.context.now.slots c.args.context.now.depth k made.long made.given made.rest c.args.context.now.no_more_slots l
 
 pub returns-clause-known : goal.returns-clause-known
 returns-clause-known c =

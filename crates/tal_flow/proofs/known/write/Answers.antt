@@ -1,10 +1,10 @@
 use Rattle.std.proofs.Common.{refl, arith}
 use Rattle.tal_flow.specs.Afterwards.{write}
-use Rattle.tal_flow.proofs.Fields.{same_live, kept_type-set, esp-other}
+use Rattle.tal_flow.proofs.Fields.{same_live, kept_type-set, esp_other}
 use Rattle.tal_flow.proofs.known.write.Goals as goal
 
 pub invariant_of-context-clause-stack_pointer : goal.invariant_of-context-clause-stack_pointer
-invariant_of-context-clause-stack_pointer c = rw c.number.ensures.value (esp-other c.args.context.now.regs c.args.r c.args.t (omega arith) c.requires c.args.context.now.stack_pointer)
+invariant_of-context-clause-stack_pointer c = rw c.number.ensures.value (esp_other c.args.context.now.regs c.args.r c.args.t (omega arith) c.requires c.args.context.now.stack_pointer)
 
 pub returns-clause-known : goal.returns-clause-known
 unfolding write

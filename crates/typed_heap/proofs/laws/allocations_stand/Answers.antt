@@ -1,5 +1,5 @@
-use Rattle.typed_heap.proofs.Growing.{allocations-stand}
+use Rattle.typed_heap.proofs.Growing.{told_allocations_stand}
 use Rattle.typed_heap.proofs.laws.allocations_stand.Goals as goal
 
 pub returns : goal.returns
-returns c = allocations-stand record { lie_within = c.references_lie_within.ensures; come_back = c.shapes_come_back.ensures; classes = c.formed_shapes.ensures; least = c.reach_is_least.ensures }
+returns c = told_allocations_stand record { lie_within = c.references_lie_within.ensures; come_back = c.shapes_come_back.ensures; classes = c.formed_shapes.ensures; least = c.reach_is_least.ensures }

@@ -1,5 +1,5 @@
-use Rattle.typed_safety.proofs.Keeping.{heap-call-typed}
+use Rattle.typed_safety.proofs.Keeping.{heap_call_typed}
 use Rattle.typed_safety.proofs.laws.heap_calls_are_typed.Goals as goal
 
 pub returns : goal.returns
-returns c = λ image typed. heap-call-typed image (c.accepted_runs.ensures image typed) (c.formed_images_tell.ensures image typed.formed)
+returns c = λ image typed. heap_call_typed image (c.accepted_runs.ensures image typed) (c.formed_images_tell.ensures image typed.formed)

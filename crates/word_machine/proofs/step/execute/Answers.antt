@@ -1,10 +1,10 @@
 use Rattle.std.proofs.Common.{refl, sym, ◌∙◌}
-use Rattle.word_machine.proofs.OneWrite.{ran-heap, left-heap}
-use Rattle.word_machine.proofs.Advancing.{stack-few, step-asks, step-leaves, step-overflows}
+use Rattle.word_machine.proofs.OneWrite.{ran_heap, left-heap}
+use Rattle.word_machine.proofs.Advancing.{stack_few, step-asks, step-leaves, step-overflows}
 use Rattle.word_machine.proofs.step.execute.Goals as goal
 
 pub overflows-requires : goal.overflows-requires
-overflows-requires c = stack-few _ _ _ _ _ c.requires.runs
+overflows-requires c = stack_few _ _ _ _ _ c.requires.runs
 
 pub returns-then-overflows-clause-left : goal.returns-then-overflows-clause-left
 returns-then-overflows-clause-left c = step-overflows c.lawful.ensures _ _ _ _ _ c.requires.spelled (sym c.overflows.ensures ∙ c.if-overflows.true)
@@ -24,7 +24,7 @@ returns-clause-left c =
 pub returns-clause-heap : goal.returns-clause-heap
 returns-clause-heap c =
     let asks = step-asks c.lawful.ensures _ _ _ _ _ c.requires.spelled c.requires.runs (sym c.overflows.ensures ∙ c.if-overflows.false) in
-    ran-heap c.lawful.ensures.heap _ _ c.formed.ensures c.formed-2.ensures c.exec-effect.ensures.mapped _ _ _ refl asks.1 c.exec-effect.ensures.words
+    ran_heap c.lawful.ensures.heap _ _ c.formed.ensures c.formed-2.ensures c.exec-effect.ensures.mapped _ _ _ refl asks.1 c.exec-effect.ensures.words
 
 pub returns-clause-stays : goal.returns-clause-stays
 returns-clause-stays c = λ left.

@@ -3,7 +3,7 @@ use Rattle.heap_words.specs.Headers.{marked_of}
 use Rattle.free_index.proofs.Listing.{next-names, back-names}
 use Rattle.free_index.proofs.LinkChanges.{only-refl, only-headers}
 use Rattle.free_index.proofs.Standing.{put-names, put-other, put-stands, put-only}
-use Rattle.free_index.proofs.Taking.{cut-fits, cut-only, taken-between, used-listed, rest-unlisted, whole-listed, unheaded-length}
+use Rattle.free_index.proofs.Taking.{cut-fits, cut-only, taken-between, used-listed, rest-unlisted, whole-listed, unheaded_length}
 use Rattle.free_index.proofs.index.FreeIndex.occupy.Goals as goal
 
 pub cut-requires-clause-next : goal.cut-requires-clause-next
@@ -52,7 +52,7 @@ returns-then-need-size-clause-lists c =
     c.cut.ensures.removed c.cut.ensures.heads c.use_front.ensures.taken c.use_front.ensures.others
     (omega (arith, c.if-need-size.true, c.block_size-size.ensures.size)))
     (c.use_front.ensures.taken.rest (omega (arith, c.if-need-size.true, c.block_size-size.ensures.size))).0
-    (unheaded-length _ _ _ _ _ c.cut.ensures.heads c.requires.lists.count) c.put.ensures.inserted c.put.ensures.heads
+    (unheaded_length _ _ _ _ _ c.cut.ensures.heads c.requires.lists.count) c.put.ensures.inserted c.put.ensures.heads
 
 pub returns-else-need-size-clause-taken : goal.returns-else-need-size-clause-taken
 returns-else-need-size-clause-taken c =
@@ -62,7 +62,7 @@ returns-else-need-size-clause-taken c =
 pub returns-else-need-size-clause-lists : goal.returns-else-need-size-clause-lists
 returns-else-need-size-clause-lists c =
     record {
-      count = unheaded-length _ _ _ _ _ c.cut.ensures.heads c.requires.lists.count;
+      count = unheaded_length _ _ _ _ _ c.cut.ensures.heads c.requires.lists.count;
       lists = whole-listed c.cut.new.heap _ _ c.args.need c.args.i (omega (arith, c.if-need-size.false, c.block_size-size.ensures.size))
           (used-listed c.block_laws.ensures _ _ _ _ _ _ _ c.requires.lists c.requires.fits.free c.requires.rows c.requires.some c.cut.ensures.removed c.cut.ensures.heads
           c.use_front.ensures.taken c.use_front.ensures.others);

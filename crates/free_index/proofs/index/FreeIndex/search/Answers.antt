@@ -1,9 +1,9 @@
 use Rattle.std.proofs.Common.{arith}
-use Rattle.free_index.proofs.Search.{searching-first, search-step, searching-none}
+use Rattle.free_index.proofs.Search.{searching_first, search-step, searching_none}
 use Rattle.free_index.proofs.index.FreeIndex.search.Goals as goal
 
 pub loop-link-init : goal.loop-link-init
-loop-link-init c = rw c.self.view_is (searching-first _ _ _ _ c.requires.lists.lists c.requires.class)
+loop-link-init c = rw c.self.view_is (searching_first _ _ _ _ c.requires.lists.lists c.requires.class)
 
 pub block_size-requires : goal.block_size-requires
 block_size-requires c = (search-step _ _ _ _ c.loop-link.invariant (omega (arith, c.loop-link-test.true))).free.begins
@@ -28,4 +28,4 @@ loop-link-preserved c =
     ((search-step _ _ _ _ c.loop-link.invariant (omega (arith, c.loop-link-test.true))).next (omega (arith, c.if-need-block_size.false, c.block_size.ensures.size)))
 
 pub returns : goal.returns
-returns c = searching-none _ _ _ _ c.loop-link.invariant (omega (arith, c.loop-link-test.false))
+returns c = searching_none _ _ _ _ c.loop-link.invariant (omega (arith, c.loop-link-test.false))

@@ -1,5 +1,5 @@
 use Rattle.std.proofs.Common.{refl, ap, ◌∙◌}
-use Rattle.kernel_machine.proofs.Turning.{inst-here, begun-turn, may-act, accept-takes, act-takes, turn-lawful}
+use Rattle.kernel_machine.proofs.Turning.{inst_here, begun-turn, may_act, accept-takes, act-takes, turn-lawful}
 use Rattle.kernel_machine.proofs.machine.Machine.step.Goals as goal
 
 pub returns-then-accept-clause-takes : goal.returns-then-accept-clause-takes
@@ -15,21 +15,21 @@ invariant_of-self c =
 
 pub inst_in-inst-requires-clause-low : goal.inst_in-inst-requires-clause-low
 inst_in-inst-requires-clause-low c =
-    rw (c.if-accept.ensures.none refl).1 (inst-here c.well_typed_images_keep_typing.ensures c.accepted_runs.ensures _ _ c.self.invariant).low
+    rw (c.if-accept.ensures.none refl).1 (inst_here c.well_typed_images_keep_typing.ensures c.accepted_runs.ensures _ _ c.self.invariant).low
 
 pub inst_in-inst-requires-clause-inside : goal.inst_in-inst-requires-clause-inside
 inst_in-inst-requires-clause-inside c =
-    rw ((c.if-accept.ensures.none refl).1, c.image-image.ensures.value) (inst-here c.well_typed_images_keep_typing.ensures c.accepted_runs.ensures _ _ c.self.invariant).inside
+    rw ((c.if-accept.ensures.none refl).1, c.image-image.ensures.value) (inst_here c.well_typed_images_keep_typing.ensures c.accepted_runs.ensures _ _ c.self.invariant).inside
 
 pub inst_in-inst-requires-clause-whole : goal.inst_in-inst-requires-clause-whole
 inst_in-inst-requires-clause-whole c =
-    rw ((c.if-accept.ensures.none refl).1, c.image-image.ensures.value) (inst-here c.well_typed_images_keep_typing.ensures c.accepted_runs.ensures _ _ c.self.invariant).whole
+    rw ((c.if-accept.ensures.none refl).1, c.image-image.ensures.value) (inst_here c.well_typed_images_keep_typing.ensures c.accepted_runs.ensures _ _ c.self.invariant).whole
 
 pub act-self-inside-requires-clause-acts : goal.act-self-inside-requires-clause-acts
 act-self-inside-requires-clause-acts c =
     let begun = begun-turn c.turns_lawful.ensures c.self.invariant (ap (λ v. v.ending) c.self.view_is ∙ c.requires.on) (rw c.deref.ensures.value at c.enter_events-self-inside.ensures.come) in
     let none = c.if-accept.ensures.none refl in
-    rw (none.0, none.1) (may-act begun _ _ (rw (none.1, c.image-image.ensures.value) at c.inst_in-inst.ensures.here) _ _ (rw c.image-image.ensures.value at c.shapes.ensures.value) (c.frames.ensures.value ∙ c.frames.ensures.rows))
+    rw (none.0, none.1) (may_act begun _ _ (rw (none.1, c.image-image.ensures.value) at c.inst_in-inst.ensures.here) _ _ (rw c.image-image.ensures.value at c.shapes.ensures.value) (c.frames.ensures.value ∙ c.frames.ensures.rows))
 
 pub returns-clause-takes : goal.returns-clause-takes
 returns-clause-takes c =

@@ -1,7 +1,7 @@
 use Rattle.std.proofs.Common.{◌∙◌, sym}
 use Rattle.nucleus_calls.proofs.Asked.{called-asks}
 use Rattle.nucleus_calls.proofs.Keeping.{kept-after, handed-count}
-use Rattle.nucleus_calls.proofs.Led.{yield-leads, reply-leads}
+use Rattle.nucleus_calls.proofs.Led.{yield_leads, reply-leads}
 use Rattle.nucleus_calls.proofs.Replied.{yields-row}
 use Rattle.nucleus_calls.proofs.nucleus.Nucleus.call.Goals as goal
 
@@ -25,7 +25,7 @@ returns-then-yields-clause-turn c = λ image live s next h call turns answers.
     let reply = yields-row image live s _ before.typed before.nucleus one c.args.number _ _ yields asks in
     let went = rw current at c.go_on.ensures in
     rw (c.add.ensures.entries, current, c.switch-was.ensures.table)
-    (yield-leads c.empty_stacks_are_free.ensures image live s next _ _ before one _ other _ c.switch-was.ensures.was _ start c.args.number reply _ _ went
+    (yield_leads c.empty_stacks_are_free.ensures image live s next _ _ before one _ other _ c.switch-was.ensures.was _ start c.args.number reply _ _ went
     c.args.turn turns c.args.journal.now.entries answers)
 
 pub returns-clause-turn : goal.returns-clause-turn

@@ -1,6 +1,6 @@
 use Rattle.std.proofs.Common.{◌<◌, arith}
 use Rattle.typed_machine.specs.Reaching.{live_in}
-use Rattle.nucleus_calls.proofs.HeapReplies.{HeapLaws, found, collected-with, answered-with, names-shape, kept-collected, kept-answered}
+use Rattle.nucleus_calls.proofs.HeapReplies.{HeapLaws, found, collected_with, answered-with, names-shape, kept-collected, kept-answered}
 use Rattle.nucleus_calls.proofs.nucleus.Nucleus.heap_reply.Goals as goal
 
 pub collect_at_call-requires-clause-called : goal.collect_at_call-requires-clause-called
@@ -20,7 +20,7 @@ invariant_of-self c =
 pub returns-then-number-eq-GARBAGE_COLLECT-clause-reply : goal.returns-then-number-eq-GARBAGE_COLLECT-clause-reply
 returns-then-number-eq-GARBAGE_COLLECT-clause-reply c = λ image s next h.
     let laws : HeapLaws = record { typed = c.heap_calls_are_typed.ensures; live = c.rooted_objects_live.ensures; hold = c.replies_hold.ensures; words = c.states_keep_words.ensures } in
-    collected-with laws image s next c.args.number _ _ _ _ h c.requires.few c.if-number-eq-GARBAGE_COLLECT.true _ c.self.view_is c.collect_at_call.result c.collect_at_call.new.memory c.collect_at_call.new.index
+    collected_with laws image s next c.args.number _ _ _ _ h c.requires.few c.if-number-eq-GARBAGE_COLLECT.true _ c.self.view_is c.collect_at_call.result c.collect_at_call.new.memory c.collect_at_call.new.index
     (λ t f. c.collect_at_call.ensures.told image (live_in image s) s t f)
 
 pub allocate_at_call-placed-requires-clause-called : goal.allocate_at_call-placed-requires-clause-called

@@ -1,11 +1,11 @@
-use Rattle.nucleus_calls.proofs.Stepping.{may-run, step-leads, step-kept}
+use Rattle.nucleus_calls.proofs.Stepping.{may_run, step-leads, step-kept}
 use Rattle.nucleus_calls.proofs.nucleus.Nucleus.step.Goals as goal
 
 pub advance-requires-clause-runs : goal.advance-requires-clause-runs
 advance-requires-clause-runs c =
     let runs = rw (← c.self.view_is) at c.requires.runs in
     let one = rw (← c.self.view_is) at c.running-stack.ensures.one in
-    rw (c.running-stack.ensures.current, ← c.self.view_is) (may-run c.args.inst.now c.args.len c.args.cpu.now _ runs one)
+    rw (c.running-stack.ensures.current, ← c.self.view_is) (may_run c.args.inst.now c.args.len c.args.cpu.now _ runs one)
 
 pub invariant_of-self : goal.invariant_of-self
 invariant_of-self c =

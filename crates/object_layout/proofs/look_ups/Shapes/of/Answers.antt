@@ -1,13 +1,13 @@
 use Rattle.std.proofs.Common.{inr, refl}
 use Rattle.std.proofs.lemmas.Result.{err_from_is_err_and}
 use Rattle.object_layout.specs.declared.look_ups.Shapes.TheInside.{Inside}
-use Rattle.object_layout.proofs.LaidRows.{classes-fault, kinds-fault, no_fault, kept_rows-kept, laid_out}
+use Rattle.object_layout.proofs.LaidRows.{classes_fault, kinds-fault, no_fault, kept_rows-kept, laid_out}
 use Rattle.object_layout.proofs.look_ups.Shapes.of.Goals as goal
 
 pub returns-in_err-laid-clause-refused : goal.returns-in_err-laid-clause-refused
 returns-in_err-laid-clause-refused c =
     let p = err_from_is_err_and c.from_residual.result c.from_residual.ensures.1 in
-    rw (p.1, p.2) (classes-fault _ _ c.in_err-laid.ensures.err)
+    rw (p.1, p.2) (classes_fault _ _ c.in_err-laid.ensures.err)
 
 pub returns-in-Some-clause-refused : goal.returns-in-Some-clause-refused
 returns-in-Some-clause-refused c = inr (kinds-fault _ _ c.in_ok-laid.ensures.ok.sound c.in-Some.ensures)

@@ -1,6 +1,6 @@
 use Rattle.std.proofs.Common.{rules}
 use Rattle.outside.proofs.Outcomes.{on-ok, on-err}
-use Rattle.outside.proofs.Places.{leaves-front, writes-all}
+use Rattle.outside.proofs.Places.{leaves_front, writes-all}
 use Rattle.outside.proofs.Sinks.{passing-all, passing-front}
 use Rattle.outside.proofs.failing.FailingFilesFiles.TheImpl.Goals as goal
 
@@ -10,7 +10,7 @@ write-tells c =
     let ps = old.files.places in
     record {
       done = on-ok _ (λ done. writes-all ps _ _ _ _ c.ensures.places (passing-all old.failing _ _ (c.ensures.ok.0 done).0) (c.ensures.ok.0 done).1);
-      part = on-err _ (leaves-front ps _ _ _ _ c.ensures.places (passing-front old.failing _ _));
+      part = on-err _ (leaves_front ps _ _ _ _ c.ensures.places (passing-front old.failing _ _));
       steady = search rules;
       failed = search rules;
       failed_alone = search rules;

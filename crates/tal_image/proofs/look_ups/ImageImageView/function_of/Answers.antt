@@ -2,7 +2,7 @@ use Rattle.std.proofs.Common.{◌≡◌, ◌<◌, ◌≤◌, ◌+◌, length, ge
 use Rattle.object_layout.specs.Areas.{code_start}
 use Rattle.tal_image.specs.Image.{ImageParts}
 use Rattle.tal_image.specs.Shown.{shown, spans}
-use Rattle.tal_image.proofs.Finding.Indexes.{unowned-before, owner-there, owner-nowhere}
+use Rattle.tal_image.proofs.Finding.Indexes.{unowned-before, owner_there, owner_nowhere}
 use Rattle.tal_image.proofs.look_ups.ImageImageView.function_of.Goals as goal
 
 pub returns-in_err-offset : goal.returns-in_err-offset
@@ -16,14 +16,14 @@ unfolding shown
 returns-in_err-f c =
     let place : c.args.pc ≡ code_start + c.in_ok-offset.offset = omega (arith, c.in_ok-offset.ensures.0, c.in_ok-offset.ensures.1) in
     let past : length c.self.inside.owners.items ≤ c.in_ok-offset.offset = rw (← c.deref.ensures.value) c.in_err-f.ensures.lookup.3 in
-    c.from_residual-in_err-f.ensures ∙ rw (← c.self.view_is) (sym (owner-nowhere c.self.inside c.self.invariant c.args.pc c.in_ok-offset.offset place past))
+    c.from_residual-in_err-f.ensures ∙ rw (← c.self.view_is) (sym (owner_nowhere c.self.inside c.self.invariant c.args.pc c.in_ok-offset.offset place past))
 
 pub span-requires : goal.span-requires
 span-requires c =
     let place : c.args.pc ≡ code_start + c.in_ok-offset.offset = omega (arith, c.in_ok-offset.ensures.0, c.in_ok-offset.ensures.1) in
     let within : c.in_ok-offset.offset < length c.self.inside.owners.items = rw (← c.deref.ensures.value) c.in_ok-f.ensures.lookup.3.0 in
     let is = subst (λ l. c.in_ok-f.f.now ≡ get_or l c.in_ok-offset.offset c.in_ok-f.f.now) c.deref.ensures.value c.in_ok-f.ensures.lookup.1 in
-    subst (λ (i : ImageParts). c.in_ok-f.f.now < length i.functions) c.self.view_is (owner-there c.self.inside c.self.invariant c.args.pc c.in_ok-offset.offset place c.in_ok-f.f.now within is).0
+    subst (λ (i : ImageParts). c.in_ok-f.f.now < length i.functions) c.self.view_is (owner_there c.self.inside c.self.invariant c.args.pc c.in_ok-offset.offset place c.in_ok-f.f.now within is).0
 
 pub returns : goal.returns
 unfolding shown
@@ -32,4 +32,4 @@ returns c =
     let within : c.in_ok-offset.offset < length c.self.inside.owners.items = rw (← c.deref.ensures.value) c.in_ok-f.ensures.lookup.3.0 in
     let is = subst (λ l. c.in_ok-f.f.now ≡ get_or l c.in_ok-offset.offset c.in_ok-f.f.now) c.deref.ensures.value c.in_ok-f.ensures.lookup.1 in
     let there = subst (λ (i : ImageParts). slice_get (spans code_start i.functions) c.in_ok-f.f.now ≡ Some c.span.result) (sym c.self.view_is) c.span.ensures in
-    rw (← c.self.view_is) (sym ((owner-there c.self.inside c.self.invariant c.args.pc c.in_ok-offset.offset place c.in_ok-f.f.now within is).1 ∙ there))
+    rw (← c.self.view_is) (sym ((owner_there c.self.inside c.self.invariant c.args.pc c.in_ok-offset.offset place c.in_ok-f.f.now within is).1 ∙ there))

@@ -1,7 +1,7 @@
 use Rattle.std.proofs.Common.{refl}
-use Rattle.word_machine.proofs.Heaps.{object-inside, object-is-word}
+use Rattle.word_machine.proofs.Heaps.{object_inside, object_is_word}
 use Rattle.word_machine.proofs.Telling.{put-in-heap}
-use Rattle.word_machine.proofs.Areas.{in_stacks, in_statics, in_descriptors, in_tables, there_in_heap, there_in_stacks, there_in_statics, there_in_descriptors, there_in_tables, heap-object, put-below}
+use Rattle.word_machine.proofs.Areas.{in_stacks, in_statics, in_descriptors, in_tables, there_in_heap, there_in_stacks, there_in_statics, there_in_descriptors, there_in_tables, heap_object, put-below}
 use Rattle.word_machine.proofs.memory.Memory.put.Goals as goal
 
 pub put_in-requires : goal.put_in-requires
@@ -46,18 +46,18 @@ returns-else-address-ge-DESCRIPTORS_START c =
 
 pub set_word-requires-clause-inside : goal.set_word-requires-clause-inside
 set_word-requires-clause-inside c =
-    object-inside c.heap_lawful.ensures c.self.inside.heap c.size-size.ensures.formed _
-    (rw (← c.self.view_is) at (heap-object c.args.self.now c.args.address c.requires c.if-address-ge-HEAP_START.true))
+    object_inside c.heap_lawful.ensures c.self.inside.heap c.size-size.ensures.formed _
+    (rw (← c.self.view_is) at (heap_object c.args.self.now c.args.address c.requires c.if-address-ge-HEAP_START.true))
 
 pub set_word-requires-clause-object : goal.set_word-requires-clause-object
 set_word-requires-clause-object c =
-    object-is-word c.heap_lawful.ensures c.self.inside.heap c.size-size.ensures.formed _
-    (rw (← c.self.view_is) at (heap-object c.args.self.now c.args.address c.requires c.if-address-ge-HEAP_START.true))
+    object_is_word c.heap_lawful.ensures c.self.inside.heap c.size-size.ensures.formed _
+    (rw (← c.self.view_is) at (heap_object c.args.self.now c.args.address c.requires c.if-address-ge-HEAP_START.true))
 
 pub returns-then-address-ge-HEAP_START : goal.returns-then-address-ge-HEAP_START
 returns-then-address-ge-HEAP_START c =
     let high = c.if-address-ge-HEAP_START.true in
     let there = rw (← c.self.view_is) at (there_in_heap c.args.self.now c.args.address c.requires high) in
-    let object = rw (← c.self.view_is) at (heap-object c.args.self.now c.args.address c.requires high) in
+    let object = rw (← c.self.view_is) at (heap_object c.args.self.now c.args.address c.requires high) in
     rw (← c.self.view_is) (put-in-heap c.heap_lawful.ensures _ c.set_word.new.self c.args.address c.args.word (rw (← c.self.view_is) at c.requires) high
     there object c.size-size.ensures.formed c.set_word.ensures.words c.set_word.ensures.blocks c.set_word.ensures.formed)
