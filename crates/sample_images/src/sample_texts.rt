@@ -1,5 +1,5 @@
 // The texts of the sample kernel and of its two applications.
-ghost use Rattle.std.specs.Prelude.{◌≡◌, option_map};
+ghost use Rattle.std.specs.Prelude.{◌≡◌, ◌≤◌, length, option_map, IfSome};
 ghost use Rattle.sample_images.specs.Samples.{app_text};
 
 /// A kernel that lets two applications run in turn.
@@ -273,14 +273,16 @@ end
 
 /// The text of the sample kernel.
 pub fn kernel_source() -> &'static str
-    ensures { result.now ≡ KERNEL.now }
+    ensures text { result.now ≡ KERNEL.now }
+    ensures short { length result.now ≤ 4096 }
 {
     KERNEL
 }
 
 /// The text of application `n` of the sample kernel. None where `n` is not 1 or 2.
 pub fn app_source(n: u32) -> Option<&'static str>
-    ensures { option_map (λ text. text.now) result ≡ app_text n }
+    ensures text { option_map (λ text. text.now) result ≡ app_text n }
+    ensures short { IfSome result (λ text. length text.now ≤ 4096) }
 {
     match n {
         1 => Some(APP_1),

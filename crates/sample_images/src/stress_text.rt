@@ -1,5 +1,5 @@
 // The text of the large run: a kernel and eight applications that allocate as numbers tell that follow from a seed.
-ghost use Rattle.std.specs.Prelude.{◌≡◌, IfOk};
+ghost use Rattle.std.specs.Prelude.{◌≡◌, ◌≤◌, length, IfOk};
 ghost use Rattle.std.specs.String.{string_bytes};
 ghost use Rattle.sample_images.specs.Stress.{StressText};
 
@@ -108,7 +108,8 @@ end
 ///
 /// After `NoMemory` there is no text.
 pub fn stress_source(alloc: Global, seed: u32) -> Result<String, NoMemory>
-    ensures { IfOk result (λ text. string_bytes text ≡ StressText seed) }
+    ensures text { IfOk result (λ text. string_bytes text ≡ StressText seed) }
+    ensures short { IfOk result (λ text. length (string_bytes text) ≤ 4096) }
 {
     let mut out = String::new(alloc);
     out.push_str(STRESS_HEAD)?;
