@@ -4,11 +4,15 @@ ghost use Rattle.sample_images.specs.Samples.{app_text};
 
 /// A kernel that lets two applications run in turn.
 pub const KERNEL: &str =
-    "; A kernel for two applications. It makes the semaphore that they share, sets the timer, so that none of them runs for ever, and
-; lets them run in turn until both have ended. Key codes that wait are shown from the left in row 0.
+    "; A kernel that lets two applications run in turn, app1.asm and app2.asm, until both have ended.
+;
+; It makes the semaphore that the applications share, and sets the timer, so that its ticks
+; interrupt an application that never yields. Whenever it runs again it shows the key codes that
+; wait, from the left in row 0. At the end it writes `done` at the left of row 24, the last one,
+; and returns how many nodes the applications made.
 heap 4096
 stacks 3
-entry 0 kernel
+entry 0 kernel                  ; the entries of stacks 1 and 2 stand in the other texts
 
 sig plain () num
 sig of_number (eax num) num
@@ -32,39 +36,39 @@ func kernel plain
     mov eax, tab semaphore
     call nucleus 0              ; AllocObject
     test eax, eax
-    je refused
+    je refused                  ; null: the heap has no room
     mov [eax + field semaphore count], 1
     mov [static gate], eax
     mov eax, 65536
     call nucleus 8              ; StartTimer
-    push 2                      ; the application that waits, 0 for none
-    push 1                      ; the one that runs next
+    push 2                      ; [esp + 4]: the application that waits, 0 for none
+    push 1                      ; [esp]: the application that runs next
 turn: () [num, num]
     mov eax, [esp]
     call nucleus 3              ; YieldTo: it runs until it yields, is interrupted, or ends
-    push eax
+    push eax                    ; the reply tells which of these it was
     call show_keys
     pop eax
     cmp eax, 196608
-    jae ended
+    jae ended                   ; from there on it ended, by a fault or by itself
     cmp eax, 131072
-    jb swap
+    jb swap                     ; below it yielded
     call nucleus 9              ; SendEoi: the interrupt is served
 swap: () [num, num]
     mov eax, [esp + 4]
     cmp eax, 0
-    je turn
+    je turn                     ; there is no other one
     mov ecx, [esp]
     mov [esp], eax
     mov [esp + 4], ecx
     jmp turn
 ended: () [num, num]
-    mov eax, [esp + 4]
+    mov eax, [esp + 4]          ; the other one goes on alone
     mov [esp], eax
     mov [esp + 4], 0
     cmp eax, 0
     jne turn
-    add esp, 8
+    add esp, 8                  ; both have ended
     call show_keys
     mov eax, 1920               ; row 24
     mov ecx, 0x0764             ; d
@@ -109,11 +113,12 @@ none: (eax num)
     ret
 end
 
-; Shows a digit from 0 to 15 at the column, and goes on to the next one; behind the last comes the first.
+; Shows a digit from 0 to 15 at the column, and goes on to the next column. Behind the last one
+; comes the first again.
 func show_digit of_number
     cmp eax, 10
     jb decimal
-    add eax, 7                  ; from behind 9 to A
+    add eax, 7                  ; the letter A stands seven characters behind the digit 9
 decimal: (eax num)
     mov ecx, eax
     add ecx, 0x0730             ; 0, with attribute 7
@@ -144,11 +149,13 @@ end
 ";
 
 /// The application on stack 1.
-pub const APP_1: &str =
-    "; Application 1. In each of ten rounds it takes the semaphore, puts a node into its list, writes the round's digit into row 1, gives
-; the semaphore back, and yields to the kernel.
+pub const APP_1: &str = "; Application 1 of the kernel in kernel.asm, on stack 1.
+;
+; In each of ten rounds it takes the semaphore, puts a node into its list, writes the digit of the
+; round into row 1, gives the semaphore back, and yields to the kernel.
 entry 1 app1
 
+; What stands behind `extern` is in kernel.asm. It must be the same here as there.
 extern sig plain () num
 
 extern class semaphore
@@ -170,16 +177,16 @@ round: () [num]
     test ebx, ebx
     je leave
     sub [ebx + field semaphore count], 1
-    jns taken
+    jns taken                   ; it was 1, so the semaphore is this application's now
     add [ebx + field semaphore count], 1
     mov eax, 0
-    call nucleus 3              ; YieldTo: the other application has the semaphore
+    call nucleus 3              ; YieldTo the kernel: the other application has the semaphore
     jmp round
 taken: () [num]
     mov eax, tab node
     call nucleus 0              ; AllocObject
     test eax, eax
-    je show
+    je show                     ; null: there is no node in this round
     mov ecx, [esp]
     mov [eax + field node digit], ecx
     mov ecx, [static nodes1]
@@ -188,10 +195,10 @@ taken: () [num]
 show: () [num]
     mov eax, [esp]
     mov ecx, eax
-    add eax, 80
+    add eax, 80                 ; row 1 has the cells from 80 on
     add ecx, 0x0730             ; 0, with attribute 7
     call nucleus 6              ; VgaTextWrite
-    mov ebx, [static gate]
+    mov ebx, [static gate]      ; a call of the Nucleus leaves nothing in EBX
     test ebx, ebx
     je leave
     add [ebx + field semaphore count], 1
@@ -208,11 +215,13 @@ end
 ";
 
 /// The application on stack 2.
-pub const APP_2: &str =
-    "; Application 2. In each of ten rounds it takes the semaphore, puts a node into its list, writes the round's digit into row 2, gives
-; the semaphore back, and yields to the kernel.
+pub const APP_2: &str = "; Application 2 of the kernel in kernel.asm, on stack 2.
+;
+; In each of ten rounds it takes the semaphore, puts a node into its list, writes the digit of the
+; round into row 2, gives the semaphore back, and yields to the kernel.
 entry 2 app2
 
+; What stands behind `extern` is in kernel.asm. It must be the same here as there.
 extern sig plain () num
 
 extern class semaphore
@@ -234,16 +243,16 @@ round: () [num]
     test ebx, ebx
     je leave
     sub [ebx + field semaphore count], 1
-    jns taken
+    jns taken                   ; it was 1, so the semaphore is this application's now
     add [ebx + field semaphore count], 1
     mov eax, 0
-    call nucleus 3              ; YieldTo: the other application has the semaphore
+    call nucleus 3              ; YieldTo the kernel: the other application has the semaphore
     jmp round
 taken: () [num]
     mov eax, tab node
     call nucleus 0              ; AllocObject
     test eax, eax
-    je show
+    je show                     ; null: there is no node in this round
     mov ecx, [esp]
     mov [eax + field node digit], ecx
     mov ecx, [static nodes2]
@@ -252,10 +261,10 @@ taken: () [num]
 show: () [num]
     mov eax, [esp]
     mov ecx, eax
-    add eax, 160
+    add eax, 160                ; row 2 has the cells from 160 on
     add ecx, 0x0730             ; 0, with attribute 7
     call nucleus 6              ; VgaTextWrite
-    mov ebx, [static gate]
+    mov ebx, [static gate]      ; a call of the Nucleus leaves nothing in EBX
     test ebx, ebx
     je leave
     add [ebx + field semaphore count], 1

@@ -1,4 +1,4 @@
-; A division by 0 ends the kernel's run.
+; A division by 0 ends the kernel's run: fault 0, and the status of the command is 10.
 heap 64
 stacks 2
 entry 0 kernel

@@ -1,5 +1,6 @@
-; Nodes are put into a list until the heap has no room for one more: AllocObject then gives null. The list is dropped, and
-; GarbageCollect tells how many words of the heap are free: all 64. A node takes 8 words, so 8 were made, which `made` counts.
+; Nodes are put into a list until the heap has no room for one more: AllocObject then gives null.
+; The list is dropped, and GarbageCollect tells how many words of the heap are free: all 64. A node
+; takes 8 words, so 8 were made, which `made` counts.
 heap 64
 stacks 2
 entry 0 kernel

@@ -1,5 +1,6 @@
-; A kernel and two applications that yield to it. Each application adds to the static `sum` three times, 1 or 10, and yields
-; after each addition. Then both end, the second one last: its end is told by the reply 262144 + 2. The kernel returns 33.
+; A kernel and two applications that yield to it. Each application adds to the static `sum` three
+; times, 1 or 10, and yields after each addition. Then both end, the second one last, which is told
+; by the reply 262144 + 2. The kernel returns 33.
 heap 64
 stacks 3
 entry 0 kernel

@@ -1,5 +1,6 @@
-; A method is called by the tables of three classes, each below the one before it and with a method of its own in its place.
-; Then the last one's table is tested against the second, and a static, which is null, would be tested against the third.
+; A method is called by the tables of three classes, each below the one before it and with a method
+; of its own in its place: 1 + 2 + 4. Then the last one's table is tested against the second, and a
+; static, which is null, would be tested against the third.
 heap 64
 stacks 2
 entry 0 kernel

@@ -1,5 +1,5 @@
-; A kernel and two applications that never yield. Each application counts for ever in a static of its own. The timer's ticks
-; interrupt them, and at each tick the kernel lets the other one run.
+; A kernel and two applications that never yield. Each application counts for ever in a static of
+; its own. The timer's ticks interrupt them, and at each tick the kernel lets the other one run.
 heap 64
 stacks 3
 entry 0 kernel

@@ -1,5 +1,6 @@
-; A kernel that shows each key on the screen, from the left in the first row, with attribute 7. Between two keys an application
-; runs that does nothing. The code 13 ends the run, and the kernel returns how many keys it showed.
+; A kernel that shows each key on the screen, from the left in the first row. Between two keys an
+; application runs that does nothing. The code 13 ends the run, and the kernel returns how many keys
+; it showed.
 heap 64
 stacks 2
 entry 0 kernel

@@ -1,4 +1,5 @@
-; A function that calls itself for each number down to 0. With the one here the stack is filled to its last word.
+; A function that calls itself for each number down to 0. With the number here the stack is filled
+; to its last word, and with one more it would be too small.
 heap 64
 stacks 2
 entry 0 kernel

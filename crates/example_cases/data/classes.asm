@@ -1,4 +1,5 @@
-; An object of the second class is made; behind a test against the first it still is one of the second, so its field can be read.
+; An object of the second class is made. Behind a test against the first it still is one of the
+; second, so its field can be read: 0, as each field of a new object.
 heap 64
 stacks 2
 entry 0 kernel
