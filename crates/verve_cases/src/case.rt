@@ -23,6 +23,10 @@ pub struct Case {
     pub failing_err: Vec<FailingCall>,
     /// How many lines of what `out` took are printed at most.
     pub lines: usize,
+    /// The file of which every proper front is played, where one is named.
+    pub fronts: Option<String>,
+    /// The file whose bytes are printed after each command, where one is named.
+    pub left: Option<String>,
 }
 
 /// Adds a text to others.
@@ -47,8 +51,8 @@ fn add_digits(alloc: Global, bytes: &mut Vec<u8>, digits: &str) -> Result<(), Un
     Ok(())
 }
 
-// The bytes of the first of these files that has this name.
-fn find_bytes<'a>(files: &'a [CaseFile], name: &str) -> Option<&'a [u8]> {
+/// The bytes of the first of these files that has this name.
+pub fn find_bytes<'a>(files: &'a [CaseFile], name: &str) -> Option<&'a [u8]> {
     for file in files {
         if file.name.as_str() == name {
             return Some(&file.bytes);
@@ -128,6 +132,8 @@ impl Case {
             failing_out: Vec::new(alloc),
             failing_err: Vec::new(alloc),
             lines: usize::MAX,
+            fronts: None,
+            left: None,
         })
     }
 
@@ -205,6 +211,14 @@ impl Case {
             "fails" => self.take_failure(rest),
             "lines" => {
                 self.lines = read_number(rest)?;
+                Ok(())
+            }
+            "fronts" => {
+                self.fronts = Some(String::from_str(alloc, rest)?);
+                Ok(())
+            }
+            "left" => {
+                self.left = Some(String::from_str(alloc, rest)?);
                 Ok(())
             }
             _ => match self.files.last_mut() {

@@ -1,8 +1,8 @@
 // A case is played: the top call over files and sinks in memory.
 //
 // A function makes at most two values that a want of memory lets go, and passes them on: a prover goes through each such path.
-use crate::case::{Case, CaseFile, add_string};
-use crate::transcript::{Came, show};
+use crate::case::{Case, CaseFile, add_string, find_bytes};
+use crate::transcript::{Came, show, show_front, show_left};
 use kernel_machine::Machine;
 use no_memory::NoMemory;
 use nucleus_calls::Journal;
@@ -33,10 +33,27 @@ fn make_room(alloc: Global, case: &Case) -> Result<FailingFiles, NoMemory> {
     FailingFiles::new(alloc, &rooms, &case.failing_files)
 }
 
+/// A front of a file, by its length.
+#[derive(Clone, Copy, Drop)]
+struct Front<'a> {
+    name: &'a str,
+    length: usize,
+}
+
+// The bytes of a file that are put there: those of the front, where it is one of this file.
+fn bytes_put<'a>(file: &'a CaseFile, front: Option<Front<'_>>) -> &'a [u8] {
+    match front {
+        Some(front) if front.name == file.name.as_str() => {
+            file.bytes.get(..front.length).unwrap_or(&file.bytes)
+        }
+        _ => &file.bytes,
+    }
+}
+
 // Puts the files there: the first calls. One that is to fail leaves a front.
-fn write_files(files: &mut FailingFiles, written: &[CaseFile]) {
+fn write_files(files: &mut FailingFiles, written: &[CaseFile], front: Option<Front<'_>>) {
     for file in written {
-        let _ = files.write(file.name.as_str(), &file.bytes);
+        let _ = files.write(file.name.as_str(), bytes_put(file, front));
     }
 }
 
@@ -87,6 +104,7 @@ fn play_over(
     out: &mut FailingSink,
     err: &mut FailingSink,
     most: usize,
+    front: Option<Front<'_>>,
 ) -> Result<(), AllocError> {
     let mut journal = Journal::new(alloc);
     let mut kept = None;
@@ -101,7 +119,10 @@ fn play_over(
         out: out.bytes(),
         err: err.bytes(),
     };
-    show(text, &came, most)
+    match front {
+        Some(front) => show_front(text, front.length, &came),
+        None => show(text, &came, most),
+    }
 }
 
 // Plays words over files, with sinks of its own.
@@ -111,17 +132,53 @@ fn play_with(
     case: &Case,
     words: &[String],
     files: &mut FailingFiles,
+    front: Option<Front<'_>>,
 ) -> Result<(), NoMemory> {
     let mut out = FailingSink::new(alloc, OUT_ROOM, &case.failing_out)?;
     let mut err = FailingSink::new(alloc, ERR_ROOM, &case.failing_err)?;
-    play_over(alloc, text, words, files, &mut out, &mut err, case.lines)?;
+    play_over(
+        alloc, text, words, files, &mut out, &mut err, case.lines, front,
+    )?;
     Ok(())
 }
 
-/// Plays a command of a case, and adds what it came to.
+// Plays words over the files of a case, and adds what the file that the case names holds then.
+fn play_words(
+    alloc: Global,
+    text: &mut String,
+    case: &Case,
+    words: &[String],
+    front: Option<Front<'_>>,
+) -> Result<(), NoMemory> {
+    let mut files = make_room(alloc, case)?;
+    write_files(&mut files, &case.files, front);
+    play_with(alloc, text, case, words, &mut files, front)?;
+    if let Some(name) = &case.left {
+        show_left(text, name.as_str(), files.bytes_of(name.as_str()))?;
+    }
+    Ok(())
+}
+
+// Plays words over each proper front of a file, the shortest first.
+fn play_fronts(
+    alloc: Global,
+    text: &mut String,
+    case: &Case,
+    words: &[String],
+    name: &str,
+) -> Result<(), NoMemory> {
+    let bytes = find_bytes(&case.files, name).unwrap_or(b"");
+    for length in 0..bytes.len() {
+        play_words(alloc, text, case, words, Some(Front { name, length }))?;
+    }
+    Ok(())
+}
+
+/// Plays a command of a case, and adds what it came to: once, or over each proper front of the file that the case names.
 pub fn play(alloc: Global, text: &mut String, case: &Case, command: &str) -> Result<(), NoMemory> {
     let words = split_words(alloc, command)?;
-    let mut files = make_room(alloc, case)?;
-    write_files(&mut files, &case.files);
-    play_with(alloc, text, case, &words, &mut files)
+    match &case.fronts {
+        Some(name) => play_fronts(alloc, text, case, &words, name.as_str()),
+        None => play_words(alloc, text, case, &words, None),
+    }
 }

@@ -20,16 +20,22 @@ pub struct Came<'a> {
     pub err: &'a [u8],
 }
 
-// Adds a line that a sink took. One that stands there several times in a row is shown once, with how often. The bars show
-// where it begins and ends; one that lacks its LF lacks the second bar.
-fn show_line(text: &mut String, name: &str, line: &[u8], times: u64) -> Result<(), AllocError> {
-    write!(text, "  {name} |")?;
-    for byte in line {
+// Adds letters that a sink took. The bars show where a line begins and ends; one that lacks its LF lacks the second bar.
+fn show_letters(text: &mut String, letters: &[u8]) -> Result<(), AllocError> {
+    text.push('|')?;
+    for byte in letters {
         match *byte {
             b'\n' => text.push('|')?,
             byte => text.push(char::from(byte))?,
         }
     }
+    Ok(())
+}
+
+// Adds a line that a sink took. One that stands there several times in a row is shown once, with how often.
+fn show_line(text: &mut String, name: &str, line: &[u8], times: u64) -> Result<(), AllocError> {
+    write!(text, "  {name} ")?;
+    show_letters(text, line)?;
     if times > 1 {
         write!(text, " {times} times")?;
     }
@@ -66,6 +72,31 @@ fn show_entry(text: &mut String, entry: &Entry) -> Result<(), AllocError> {
         EntryKind::Interrupt => write!(text, "interrupt {}", entry.value)?,
         EntryKind::Fault => write!(text, "fault {}", entry.value)?,
         EntryKind::Ended => text.push_str("ended")?,
+    }
+    text.push('\n')
+}
+
+/// Adds what a command over a front of a file came to, in one line: the length of the front, the number of the status, how many
+/// bytes `out` took, and what `err` took.
+pub fn show_front(text: &mut String, length: usize, came: &Came<'_>) -> Result<(), AllocError> {
+    let out = came.out.len();
+    write!(
+        text,
+        "  front {length}: status {}, out {out} bytes, err ",
+        came.status
+    )?;
+    show_letters(text, came.err)?;
+    text.push('\n')
+}
+
+/// Adds what a file holds, where it is there: how many bytes, and each in two hexadecimal digits.
+pub fn show_left(text: &mut String, name: &str, bytes: Option<&[u8]>) -> Result<(), AllocError> {
+    let Some(bytes) = bytes else {
+        return writeln!(text, "  left no {name}");
+    };
+    write!(text, "  left {name} of {} bytes ", bytes.len())?;
+    for byte in bytes {
+        write!(text, "{byte:02X}")?;
     }
     text.push('\n')
 }
