@@ -1,6 +1,7 @@
--- What an allocation is answered: gaps of the heap, which answers are legal, and the state after one.
-use Rattle.std.specs.Prelude.{ℕ, zero, suc, ◌+◌, ◌-◌, ◌/◌, ◌%◌, ◌==◌, nat_lt, nat_le, Bool, true, false, not, ◌&&◌, List, [], ◌∷◌, ◌++◌, length, drop, map, replicate, if◌then◌else◌}
-use Rattle.std.specs.List.{list_any}
+-- What an allocation is answered: gaps of the heap, which answers are legal, and the state after one; and whether blocks lie as legal
+-- answers place them.
+use Rattle.std.specs.Prelude.{◌≡◌, ℕ, zero, suc, ◌+◌, ◌-◌, ◌/◌, ◌%◌, ◌==◌, ◌<◌, ◌≤◌, nat_lt, nat_le, Bool, true, false, not, ◌&&◌, List, [], ◌∷◌, ◌++◌, length, drop, map, replicate, if◌then◌else◌}
+use Rattle.std.specs.List.{list_any, All, AllPairs}
 use Rattle.std.specs.Option.{option_map_or}
 use Rattle.object_layout.specs.Areas.{heap_start}
 use Rattle.object_layout.specs.Classes.{ShapesView, Fields, Element}
@@ -97,3 +98,18 @@ unfoldable pub free_words : ImageParts → List Value → State → ℕ
 free_words image values s =
     image.heap_words
     - reached_words (shown image).shapes (Reach (shown image).shapes s.store values) (length image.arrays) (drop (length image.arrays) s.store)
+
+-- ---- blocks that are told by numbers
+
+-- The block of these words, told as its first word and how many they are, lies in a heap of so many words at a multiple of 4.
+abbrev pub WordsLie : ℕ → ℕ × ℕ → Type 0
+WordsLie words (first, count) = (first % 4 ≡ 0) × (first + count ≤ words)
+
+-- no word is in both
+abbrev pub WordsApart : ℕ × ℕ → ℕ × ℕ → Type 0
+WordsApart (first, count) (other, others) = (k : ℕ) → first ≤ k → k < first + count → other ≤ k → k < other + others → ⊥
+
+-- the blocks lie so, and no two overlap
+pub record PlacesLie (words : ℕ) (blocks : List (ℕ × ℕ)) : Type 0 where
+  pub lie : All (WordsLie words) blocks
+  pub apart : AllPairs WordsApart blocks

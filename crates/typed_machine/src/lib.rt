@@ -8,5 +8,7 @@
 
 mod ending;
 pub mod laws;
+mod places;
 
 pub use ending::Ending;
+pub use places::places_ok;
