@@ -10,7 +10,9 @@
 
 pub mod laws;
 mod memory;
+mod quick;
 mod step;
 
 pub use memory::{Memory, STACK_WORDS};
+pub use quick::advance_quick;
 pub use step::{Step, advance};

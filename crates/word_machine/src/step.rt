@@ -22,7 +22,7 @@ use tal_flow::{entry_number, is_entry};
 const ESP: usize = 4;
 
 /// The vector of the stack fault.
-const STACK_FAULT: u8 = 12;
+pub(crate) const STACK_FAULT: u8 = 12;
 
 /// What an instruction came to.
 #[derive(Clone, Copy, Debug, PartialEq, Eq, Drop)]
@@ -88,7 +88,7 @@ fn execute(cpu: &mut Cpu, memory: &mut Memory, current: u32, inst: &Inst, len: u
 }
 
 // The laws that a step rests on: facts for the proof.
-fn lawful()
+pub(crate) fn lawful()
     ensures { StepLaws }
 {
     laws::spots_are_read();
@@ -109,7 +109,7 @@ fn is_push(inst: &Inst) -> bool
 }
 
 // Whether ESP is at the lower end of the stack, which then is full.
-fn is_at_limit(cpu: &Cpu, stack: u32) -> bool
+pub(crate) fn is_at_limit(cpu: &Cpu, stack: u32) -> bool
     requires { stack < MOST_STACKS }
     ensures { result ≡ is_at_limit cpu.now stack }
 {
@@ -125,7 +125,7 @@ fn overflows(inst: &Inst, cpu: &Cpu, stack: u32) -> bool
 }
 
 // Pushes the place after a call, and goes to the function.
-fn enter(cpu: &mut Cpu, memory: &mut Memory, target: u32, next: u32)
+pub(crate) fn enter(cpu: &mut Cpu, memory: &mut Memory, target: u32, next: u32)
     requires { is_mapped memory.old (below_top (state_of cpu.old (memory_word memory.old))) ≡ true }
     ensures regs { cpu.new.regs ≡ (pushed next (state_of cpu.old (memory_word memory.old))).regs }
     ensures flags { cpu.new.flags ≡ cpu.old.flags }
@@ -139,7 +139,7 @@ fn enter(cpu: &mut Cpu, memory: &mut Memory, target: u32, next: u32)
 }
 
 // Goes back to the place on top of the stack, and drops it. At the end word nothing changes.
-fn leave(cpu: &mut Cpu, memory: &Memory) -> Step
+pub(crate) fn leave(cpu: &mut Cpu, memory: &Memory) -> Step
     requires { is_mapped memory.now (slice_index cpu.old.regs 4) ≡ true }
     ensures step { result ≡ return_leads (memory_word memory.now (slice_index cpu.old.regs 4)) }
     ensures cpu { cpu.new ≡ went_back (memory_word memory.now (slice_index cpu.old.regs 4)) cpu.old }
