@@ -2,6 +2,7 @@
 ghost use Rattle.std.specs.Prelude.{◌≡◌, ◌≢◌, ℕ, ◌≤◌, ◌<◌, ◌+◌, ◌*◌, ◌%◌, Bool, None, true, length, slice_get};
 ghost use Rattle.ia32_code.specs.Canonical.{Canonical};
 ghost use Rattle.object_layout.specs.Areas.{statics_start, stacks_start};
+ghost use Rattle.quick_step.specs.QuickForms.{inst_of};
 ghost use Rattle.stack_states.specs.StackTable.{current_of};
 ghost use Rattle.tal_image.specs.Image.{ImageParts};
 ghost use Rattle.typed_machine.specs.States.{State, stack_bytes};
@@ -14,7 +15,8 @@ use crate::nucleus::Nucleus;
 use free_index::laws::object_write_keeps_lists;
 use ia32_code::Inst;
 use ia32_step::Cpu;
-use word_machine::{Step, advance};
+use quick_step::Quick;
+use word_machine::{Step, advance, advance_quick};
 
 impl Nucleus {
     /// The running stack runs the instruction at the processor's place, which is spelled with `len` bytes.
@@ -30,6 +32,20 @@ impl Nucleus {
         object_write_keeps_lists();
         let stack = self.running();
         advance(cpu, &mut self.memory, stack, inst, len)
+    }
+
+    /// Does what [`Nucleus::step`] does with the instruction that the quick form stands for.
+    #[inline(always)]
+    pub fn step_quick(&mut self, cpu: &mut Cpu, quick: &Quick, len: u8) -> Step
+        requires spelled { Canonical (inst_of quick.now) ≢ None }
+        requires runs { MayStep (inst_of quick.now) len cpu.old self.old }
+        ensures step { (image : ImageParts) (live : ℕ → Bool) (s : State) → AtInstruction image live s (inst_of quick.now) len cpu.old self.old
+            → Stepped result cpu.new self.new image live s (Effect image s (inst_of quick.now) len) }
+        ensures stacks { self.new.stacks ≡ self.old.stacks }
+    {
+        object_write_keeps_lists();
+        let stack = self.running();
+        advance_quick(cpu, &mut self.memory, stack, quick, len)
     }
 
     /// The words of a stack from its top, which ESP tells, to its bottom.
