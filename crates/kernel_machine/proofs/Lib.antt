@@ -7,3 +7,4 @@ pub mod Showing
 pub mod Beginning
 pub mod EffectsLead
 pub mod Turning
+pub mod KeptForms

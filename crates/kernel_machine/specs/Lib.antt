@@ -4,5 +4,7 @@ pub mod Shown
 pub mod Machine
 -- How a machine is made and takes a turn.
 pub mod Stepping
+-- The quick forms of the code.
+pub mod Prepared
 -- The law of what is shown.
 pub mod Laws

@@ -16,16 +16,19 @@ use Rattle.typed_machine.specs.declared.ending.Ending.{Ending}
 use Rattle.typed_machine.specs.declared.ending.Ending.TheVariants.{Halted, KernelFault}
 use Rattle.typed_machine.specs.States.{State}
 use Rattle.typed_machine.specs.Placing.{Answer}
-use Rattle.typed_machine.specs.Turns.{Turned, TurnOf}
+use Rattle.typed_machine.specs.Code.{inst_at}
+use Rattle.typed_machine.specs.Effects.{Effect}
+use Rattle.typed_machine.specs.Turns.{Turned, TurnOf, instruction}
 use Rattle.typed_machine.specs.Reaching.{live_in}
 use Rattle.typed_machine.specs.Typing.{Typed}
 use Rattle.typed_safety.specs.Laws.{TurnsKeepTyping, LiveObjectsAreLeast, ReachShrinks}
+use Rattle.word_machine.specs.declared.step.Step.{Step}
 use Rattle.word_machine.specs.Standing.{CpuStands}
 use Rattle.word_machine.specs.Laws.{StandingFalls}
 use Rattle.nucleus_calls.specs.declared.outcome.Leaving.{Leaving}
 use Rattle.nucleus_calls.specs.declared.outcome.Leaving.TheVariants as leaving
 use Rattle.nucleus_calls.specs.Nucleus.{NucleusView, NucleusStands}
-use Rattle.nucleus_calls.specs.Turning.{StandsBefore, AtInstruction}
+use Rattle.nucleus_calls.specs.Turning.{StandsBefore, AtInstruction, Stepped}
 use Rattle.kernel_machine.specs.Machine.{MachineView, Stands, answers_of}
 
 -- a machine of these parts, as contracts see it
@@ -88,6 +91,21 @@ pub record ActsAt (image : ImageParts) (s : State) (i : Inst) (len : ℕ) (shape
 -- there is such a state
 abbrev pub MayAct : Inst → ℕ → ShapesView → List RowAt → Cpu → NucleusView → Type 0
 MayAct i len shapes table cpu v = (image : ImageParts) × (s : State) × ActsAt image s i len shapes table cpu v
+
+-- An instruction that may act came to a step: from every typed state at whose place it stands, processor and Nucleus came to where its
+-- effect leads.
+pub record CameTo (step : Step) (i : Inst) (len : ℕ) (shapes : ShapesView) (table : List RowAt) (cpu : Cpu) (v : NucleusView) (ran : Cpu) (come : NucleusView) : Type 0 where
+  pub acts : MayAct i len shapes table cpu v
+  pub stepped : (image : ImageParts) (live : ℕ → Bool) (s : State) → AtInstruction image live s i len cpu v → Stepped step ran come image live s (Effect image s i len)
+
+-- The instruction at the processor's place in the image's code led each typed state that they stood for to where the turn leads.
+pub record ActedHere (image : ImageParts) (turn : ℕ) (before after : List Entry) (cpu : Cpu) (v : NucleusView) (ran : Cpu) (come : NucleusView)
+    (end : Option Ending) : Type 0 where
+  pub inst : Inst
+  pub len : ℕ
+  pub here : inst_at image cpu.pc ≡ Some (inst, len)
+  pub leads : (of : ImageParts) (s : State) → ActsAt of s inst len (shown image).shapes (frames_of image) cpu v → InTurn turn s → (left : List Answer)
+      → TurnLeads of (live_in of s) turn left before after ran come end (λ answers. instruction of answers s)
 
 -- ---- the turn
 

@@ -12,6 +12,7 @@ mod acting;
 mod events;
 pub mod laws;
 mod machine;
+mod prepared;
 mod running;
 
 pub use machine::Machine;

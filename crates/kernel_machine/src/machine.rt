@@ -13,8 +13,9 @@ ghost use Rattle.kernel_machine.specs.Shown.{esp_by};
 ghost use Rattle.kernel_machine.specs.Machine.{Follows, turn_of, run_answer};
 ghost use Rattle.kernel_machine.specs.Stepping.{TakesTurn, TurnLaws};
 
-use crate::acting::act;
+use crate::acting::act_here;
 use crate::events::enter_events;
+use crate::prepared::Prepared;
 use crate::running::MOST_TURNS;
 use device_model::Event;
 use ia32_code::laws::canonical_is_none;
@@ -49,7 +50,7 @@ const FIRST_ESP: u32 = STACKS_START + 4 * (STACK_WORDS as u32 - 1);
 /// It stands for a state of the typed machine that typing allows, so no turn tests for an ill typed step.
 #[derive(Drop)]
 pub struct Machine {
-    checked: Checked,
+    prepared: Prepared,
     events: Vec<Event>,
     /// The index of the first event that has not come.
     next_event: usize,
@@ -65,9 +66,9 @@ impl Model for Machine {
 
     ghost Value = { MachineView };
 
-    ghost view = { λ m. viewed m.checked.image m.events.items m.cpu m.nucleus m.turns m.ending };
+    ghost view = { λ m. viewed m.prepared.image m.events.items m.cpu m.nucleus m.turns m.ending };
 
-    ghost invariant = { λ m. Lawful (viewed m.checked.image m.events.items m.cpu m.nucleus m.turns m.ending) m.next_event };
+    ghost invariant = { λ m. Lawful (viewed m.prepared.image m.events.items m.cpu m.nucleus m.turns m.ending) m.next_event };
 }
 
 // Where stack 0 begins.
@@ -83,7 +84,7 @@ fn entry_place(image: &Image) -> u32
 }
 
 // The instruction at an address, and the length of its spelling.
-fn inst_in(image: &Image, pc: u32) -> (Inst, u8)
+pub(crate) fn inst_in(image: &Image, pc: u32) -> (Inst, u8)
     requires low { code_start ≤ pc }
     requires inside { pc ≤ code_start + length image.now.code }
     requires whole { IsSome (inst_at image.now pc) }
@@ -137,6 +138,7 @@ impl Machine {
         let image = checked.image();
         let pc = entry_place(image);
         let nucleus = Nucleus::new(alloc, image)?;
+        let prepared = Prepared::new(alloc, checked)?;
         let flags = FlagBits {
             carry: false,
             zero: false,
@@ -149,7 +151,7 @@ impl Machine {
             pc,
         };
         Ok(Machine {
-            checked,
+            prepared,
             events,
             next_event: 0,
             cpu,
@@ -195,7 +197,7 @@ impl Machine {
     pub fn checked(&self) -> &Checked
         ensures { result.now.image ≡ self.now.image }
     {
-        &self.checked
+        self.prepared.checked()
     }
 
     /// The end, or `Turns` where there is none yet. It is never `NoMemory`.
@@ -228,16 +230,11 @@ impl Machine {
         if self.nucleus.accept(turn, &mut self.cpu, journal) {
             return;
         }
-        let image = self.checked.image();
-        let (inst, len) = inst_in(image, self.cpu.pc);
-        self.ending = act(
+        self.ending = act_here(
+            &mut self.prepared,
             &mut self.nucleus,
             &mut self.cpu,
             turn,
-            &inst,
-            len,
-            image.shapes(),
-            self.checked.frames(),
             journal,
         );
     }
@@ -297,7 +294,7 @@ impl Shown for Machine {
     }
 
     fn statics(&self) -> &[u32] {
-        let image = self.checked.image();
+        let image = self.prepared.image();
         image.formed();
         self.nucleus.statics(image.statics().len() as u32)
     }

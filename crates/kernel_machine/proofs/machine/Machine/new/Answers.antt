@@ -9,11 +9,11 @@ invariant_of-result c =
     let place : c.entry_place-pc.result ≡ entry_place c.args.checked.image 0 = search rules in
     let nucleus : (live : ℕ → Bool) → NucleusStands c.args.checked.image live (first_state c.args.checked.image) c.in_ok-nucleus.nucleus =
     rw c.image-image.ensures.value at c.in_ok-nucleus.ensures in
-    rw place (first-lawful c.runs_are_typed.ensures _ _ c.in_ok-nucleus.nucleus c.image-image.ensures.typed c.requires.ordered nucleus)
+    rw (place, c.in_ok-prepared.ensures) (first-lawful c.runs_are_typed.ensures _ _ c.in_ok-nucleus.nucleus c.image-image.ensures.typed c.requires.ordered nucleus)
 
 pub returns-clause-follows : goal.returns-clause-follows
 returns-clause-follows c =
     let place : c.entry_place-pc.result ≡ entry_place c.args.checked.image 0 = search rules in
     let nucleus : (live : ℕ → Bool) → NucleusStands c.args.checked.image live (first_state c.args.checked.image) c.in_ok-nucleus.nucleus =
     rw c.image-image.ensures.value at c.in_ok-nucleus.ensures in
-    rw place (first-follows _ _ c.in_ok-nucleus.nucleus nucleus)
+    rw (place, c.in_ok-prepared.ensures) (first-follows _ _ c.in_ok-nucleus.nucleus nucleus)

@@ -13,36 +13,37 @@ invariant_of-self c =
     turn-lawful c.turns_lawful.ensures _ _ _ _ _ _ c.self.invariant (accept-takes begun c.if-accept.ensures.grants _ _ _ _ c.if-accept.ensures.turn)
     (rw c.deref.ensures.value at c.enter_events-self-inside.ensures.next)
 
-pub inst_in-inst-requires-clause-low : goal.inst_in-inst-requires-clause-low
-inst_in-inst-requires-clause-low c =
+pub act_here-self-inside-requires-clause-low : goal.act_here-self-inside-requires-clause-low
+act_here-self-inside-requires-clause-low c =
     rw (c.if-accept.ensures.none refl).1 (inst_here c.well_typed_images_keep_typing.ensures c.accepted_runs.ensures _ _ c.self.invariant).low
 
-pub inst_in-inst-requires-clause-inside : goal.inst_in-inst-requires-clause-inside
-inst_in-inst-requires-clause-inside c =
-    rw ((c.if-accept.ensures.none refl).1, c.image-image.ensures.value) (inst_here c.well_typed_images_keep_typing.ensures c.accepted_runs.ensures _ _ c.self.invariant).inside
+pub act_here-self-inside-requires-clause-inside : goal.act_here-self-inside-requires-clause-inside
+act_here-self-inside-requires-clause-inside c =
+    rw (c.if-accept.ensures.none refl).1 (inst_here c.well_typed_images_keep_typing.ensures c.accepted_runs.ensures _ _ c.self.invariant).inside
 
-pub inst_in-inst-requires-clause-whole : goal.inst_in-inst-requires-clause-whole
-inst_in-inst-requires-clause-whole c =
-    rw ((c.if-accept.ensures.none refl).1, c.image-image.ensures.value) (inst_here c.well_typed_images_keep_typing.ensures c.accepted_runs.ensures _ _ c.self.invariant).whole
+pub act_here-self-inside-requires-clause-whole : goal.act_here-self-inside-requires-clause-whole
+act_here-self-inside-requires-clause-whole c =
+    rw (c.if-accept.ensures.none refl).1 (inst_here c.well_typed_images_keep_typing.ensures c.accepted_runs.ensures _ _ c.self.invariant).whole
 
-pub act-self-inside-requires-clause-acts : goal.act-self-inside-requires-clause-acts
-act-self-inside-requires-clause-acts c =
+pub act_here-self-inside-requires-clause-acts : goal.act_here-self-inside-requires-clause-acts
+act_here-self-inside-requires-clause-acts c =
     let begun = begun-turn c.turns_lawful.ensures c.self.invariant (ap (λ v. v.ending) c.self.view_is ∙ c.requires.on) (rw c.deref.ensures.value at c.enter_events-self-inside.ensures.come) in
     let none = c.if-accept.ensures.none refl in
-    rw (none.0, none.1) (may_act begun _ _ (rw (none.1, c.image-image.ensures.value) at c.inst_in-inst.ensures.here) _ _ (rw c.image-image.ensures.value at c.shapes.ensures.value) (c.frames.ensures.value ∙ c.frames.ensures.rows))
+    λ i len here. rw (none.0, none.1) (may_act begun i len (rw none.1 at here) _ _ refl refl)
 
 pub returns-clause-takes : goal.returns-clause-takes
 returns-clause-takes c =
     let begun = begun-turn c.turns_lawful.ensures c.self.invariant (ap (λ v. v.ending) c.self.view_is ∙ c.requires.on) (rw c.deref.ensures.value at c.enter_events-self-inside.ensures.come) in
     let none = c.if-accept.ensures.none refl in
-    rw (← c.self.view_is) (act-takes begun c.if-accept.ensures.grants _ _ (rw (none.1, c.image-image.ensures.value) at c.inst_in-inst.ensures.here) _ _ (rw c.image-image.ensures.value at c.shapes.ensures.value) (c.frames.ensures.value ∙ c.frames.ensures.rows) _ _ _ _ _
-    (rw (none.0, none.1, none.2) at c.act-self-inside.ensures.turn))
+    let acted = c.act_here-self-inside.ensures.acted in
+    rw (← c.self.view_is, c.act_here-self-inside.ensures.prepared) (act-takes begun c.if-accept.ensures.grants _ _ (rw none.1 at acted.here) _ _ refl refl _ _ _ _ _
+    (rw (none.0, none.1, none.2) at acted.leads))
 
 pub invariant_of-self-2 : goal.invariant_of-self-2
 invariant_of-self-2 c =
     let begun = begun-turn c.turns_lawful.ensures c.self.invariant (ap (λ v. v.ending) c.self.view_is ∙ c.requires.on) (rw c.deref.ensures.value at c.enter_events-self-inside.ensures.come) in
     let none = c.if-accept.ensures.none refl in
-    turn-lawful c.turns_lawful.ensures _ _ _ _ _ _ c.self.invariant
-    (act-takes begun c.if-accept.ensures.grants _ _ (rw (none.1, c.image-image.ensures.value) at c.inst_in-inst.ensures.here) _ _ (rw c.image-image.ensures.value at c.shapes.ensures.value) (c.frames.ensures.value ∙ c.frames.ensures.rows) _ _ _ _ _
-    (rw (none.0, none.1, none.2) at c.act-self-inside.ensures.turn))
-    (rw c.deref.ensures.value at c.enter_events-self-inside.ensures.next)
+    let acted = c.act_here-self-inside.ensures.acted in
+    rw c.act_here-self-inside.ensures.prepared (turn-lawful c.turns_lawful.ensures _ _ _ _ _ _ c.self.invariant
+    (act-takes begun c.if-accept.ensures.grants _ _ (rw none.1 at acted.here) _ _ refl refl _ _ _ _ _ (rw (none.0, none.1, none.2) at acted.leads))
+    (rw c.deref.ensures.value at c.enter_events-self-inside.ensures.next))
